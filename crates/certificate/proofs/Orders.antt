@@ -11,12 +11,12 @@ use Rattle.edn_fields.specs.Values.{IsValueIn, natural_first}
 use Rattle.edn_fields.proofs.Truncation.{value_of_truncated, natural_of_truncated, integer_vector_of_value}
 use Rattle.edn_fields.proofs.Shapes.{natural_is}
 use Rattle.certificate.specs.Denotes.{reading_with, certificate_of}
-use Rattle.certificate.specs.TokenBuffers.{IsKept, object_of}
+use Rattle.certificate.specs.TokenBuffers.{IsBufferKept, object_in_map}
 
 -- ---- the object
 
 pub object_is : (number : List Piece) (d : Datum) → IsValueIn number (codes "object") (truncated d)
-    → object_in (natural_first (token_buffer_tokens number)) ≡ object_of d
+    → object_in (natural_first (token_buffer_tokens number)) ≡ object_in_map d
 object_is number (atom a) h = absurd h
 object_is number (vector ds) h = absurd h
 object_is number (dictionary es) h =
@@ -25,21 +25,22 @@ object_is number (dictionary es) h =
 
 -- ---- the certificate
 
-pub certificate_is : (d : Datum) → certificate_of d ≡ reading_with (object_of d) (integer_vector_at (codes "order") d)
+pub certificate_is : (d : Datum) → certificate_of d ≡ reading_with (object_in_map d)
+    (integer_vector_at (codes "order") d)
 certificate_is (atom a) = refl
 certificate_is (vector ds) = refl
 certificate_is (dictionary es) =
-    ap (reading_with (object_of (dictionary es))) (sym (integer_vector_of_value (codes "order") es))
+    ap (reading_with (object_in_map (dictionary es))) (sym (integer_vector_of_value (codes "order") es))
 
 -- by what is kept
 pub certificate_by : (ps : List Piece) (integer_vector : Option (List ℤ)) (o : Option ℕ) (d : Datum)
-    → IsKept ps integer_vector d → o ≡ object_of d → certificate_of d ≡ reading_with o integer_vector
+    → IsBufferKept ps integer_vector d → o ≡ object_in_map d → certificate_of d ≡ reading_with o integer_vector
 certificate_by ps integer_vector o d h e =
     certificate_is d ∙ ap (λ (x : Option ℕ). reading_with x (integer_vector_at (codes "order") d)) (sym e)
     ∙ ap (reading_with o) (sym h.1)
 
 pub no_integer_vector : (ps : List Piece) (integer_vector : Option (List ℤ)) (o : Option ℕ) (d : Datum)
-    → IsKept ps integer_vector d → o ≡ object_of d → integer_vector ≡ None → certificate_of d ≡ None
+    → IsBufferKept ps integer_vector d → o ≡ object_in_map d → integer_vector ≡ None → certificate_of d ≡ None
 no_integer_vector ps integer_vector o d h e n =
     certificate_by ps integer_vector o d h e ∙ ap (reading_with o) n ∙ nothing o
   where
@@ -48,6 +49,6 @@ no_integer_vector ps integer_vector o d h e n =
     nothing (Some x) = refl
 
 pub no_object : (ps : List Piece) (integer_vector : Option (List ℤ)) (o : Option ℕ) (d : Datum)
-    → IsKept ps integer_vector d → o ≡ object_of d → o ≡ None → certificate_of d ≡ None
+    → IsBufferKept ps integer_vector d → o ≡ object_in_map d → o ≡ None → certificate_of d ≡ None
 no_object ps integer_vector o d h e n =
     certificate_by ps integer_vector o d h e ∙ ap (λ (x : Option ℕ). reading_with x integer_vector) n

@@ -15,8 +15,9 @@ use Rattle.edn_reader.specs.View.{view, views}
 use Rattle.edn_reader.specs.declared.form.Form.{Form}
 use Rattle.edn_fields.specs.Fields.{value_at, natural_in, object_in}
 use Rattle.certificate.specs.Denotes.{Reading, order_in, reading_with, certificate_of, reading_of, AreDistinct, Denotes}
-use Rattle.certificate.specs.Faults.{number_of, IsFault, IsFaultless, IsFirstFault, IsSoundAt}
-use Rattle.certificate.specs.Inside.{IsFaultAmong, AreRead}
+use Rattle.certificate.specs.Faults.{certificate_fault_number, IsCertificateFault, HasNoCertificateFault, IsFirstFault}
+use Rattle.certificate.specs.Faults.{IsCertificateSoundAt}
+use Rattle.certificate.specs.Inside.{IsFaultAmong, AreCertificatesRead}
 use Rattle.certificate.specs.declared.Certificate.{Certificate}
 use Rattle.certificate.specs.declared.fault.CertFault.{CertFault}
 use Rattle.certificate.specs.declared.fault.CertFaultKind.{CertFaultKind}
@@ -87,9 +88,10 @@ list_any-some p [] h = absurd cc
 list_any-some p (c ∷ cs) h = passes_first p c cs (p c) refl h (list_any-some p cs)
 
 pub one_more_read : (ds : List Datum) (cs : List Certificate) (among after : ℕ → Bool) (d : Datum) (c : Certificate)
-    → AreRead ds cs among
+    → AreCertificatesRead ds cs among
     → certificate_of d ≡ Some (reading_of c) → among c.object ≡ false
-    → ((x : ℕ) → after x ≡ cond (c.object == x) true (among x)) → AreRead (ds ++ d ∷ []) (cs ++ c ∷ []) after
+    → ((x : ℕ) → after x ≡ cond (c.object == x) true (among x))
+    → AreCertificatesRead (ds ++ d ∷ []) (cs ++ c ∷ []) after
 one_more_read ds cs among after d c h own new more = record {
   denoted = record {
     each = map-append certificate_of ds (d ∷ []) ∙ ap (λ xs. xs ++ certificate_of d ∷ []) h.denoted.each
@@ -172,7 +174,7 @@ same_objects a b r s p q e =
     let q' : b ≡ s = cc in
     ap (λ (x : Reading). x.object) p' ∙ e ∙ sym (ap (λ (x : Reading). x.object) q')
 
-pub no_fault : (ds : List Datum) (cs : List Certificate) → Denotes ds cs → IsFaultless ds
+pub no_fault : (ds : List Datum) (cs : List Certificate) → Denotes ds cs → HasNoCertificateFault ds
 no_fault ds cs h earlier later d NotACertificate split fault =
     let r = read_at earlier later d cs (ap (map certificate_of) (sym split) ∙ h.each) in
     let own : certificate_of d ≡ Some (reading_of r.own) = r.is_own in
@@ -187,7 +189,7 @@ no_fault ds cs h earlier later d TwoForOneObject split fault =
 no_fault ds cs h earlier later d NoMemory split fault = fault
 
 pub fault_here : (ds : List Datum) (cs : List Certificate) (among : ℕ → Bool) (d : Datum) (kind : CertFaultKind)
-    → AreRead ds cs among → IsFaultAmong among d kind → kind ≢ NoMemory → IsFault ds d kind
+    → AreCertificatesRead ds cs among → IsFaultAmong among d kind → kind ≢ NoMemory → IsCertificateFault ds d kind
 fault_here ds cs among d NotACertificate h fault other = fault
 fault_here ds cs among d TwoForOneObject h (r, own, stands) other =
     let some = list_any-some (λ c. c.object == r.object) cs (sym (h.objects r.object) ∙ stands) in
@@ -204,8 +206,8 @@ fault_here ds cs among d TwoForOneObject h (r, own, stands) other =
 fault_here ds cs among d NoMemory h fault other = absurd (other refl)
 
 -- a form has one fault at most
-pub only_fault : (earlier : List Datum) (d : Datum) (kind other : CertFaultKind) → IsFault earlier d kind
-    → IsFault earlier d other → number_of kind ≤ number_of other
+pub only_fault : (earlier : List Datum) (d : Datum) (kind other : CertFaultKind) → IsCertificateFault earlier d kind
+    → IsCertificateFault earlier d other → certificate_fault_number kind ≤ certificate_fault_number other
 only_fault earlier d NotACertificate NotACertificate h k = omega arith
 only_fault earlier d NotACertificate TwoForOneObject h k = omega arith
 only_fault earlier d NotACertificate NoMemory h k = omega arith
@@ -226,7 +228,7 @@ parts_at fs i f lt is =
 -- the first fault, after forms that were read
 pub first_fault : (fs : List Form) (i : ℕ) (f : Form) (cs : List Certificate) (among : ℕ → Bool)
     (kind : CertFaultKind) → i < length fs
-    → f ≡ get_or fs i f → AreRead (views (take i fs)) cs among → IsFaultAmong among (view f) kind
+    → f ≡ get_or fs i f → AreCertificatesRead (views (take i fs)) cs among → IsFaultAmong among (view f) kind
     → kind ≢ NoMemory → IsFirstFault (views fs) (record { kind = kind; form = i })
 first_fault fs i f cs among kind lt is h fault other = record {
   earlier = views (take i fs);
@@ -242,8 +244,8 @@ first_fault fs i f cs among kind lt is h fault other = record {
 
 -- a certificate of an object that no earlier form has
 pub nothing_here : (ds : List Datum) (cs : List Certificate) (among : ℕ → Bool) (d : Datum) (r : Reading)
-    → AreRead ds cs among
-    → certificate_of d ≡ Some r → among r.object ≡ false → (kind : CertFaultKind) → IsFault ds d kind → ⊥
+    → AreCertificatesRead ds cs among
+    → certificate_of d ≡ Some r → among r.object ≡ false → (kind : CertFaultKind) → IsCertificateFault ds d kind → ⊥
 nothing_here ds cs among d r h own new NotACertificate fault = cc
 nothing_here ds cs among d r h own new TwoForOneObject fault =
     let f = read_from ds cs fault.first fault.stands.0 h.denoted.each fault.stands.1 fault.stands.2 in
@@ -257,8 +259,8 @@ nothing_here ds cs among d r h own new NoMemory fault = fault
 
 pub sound_at : (fs : List Form) (i : ℕ) (f : Form) (cs : List Certificate) (among : ℕ → Bool) (r : Reading)
     → i < length fs → f ≡ get_or fs i f
-    → AreRead (views (take i fs)) cs among → certificate_of (view f) ≡ Some r → among r.object ≡ false
-    → IsSoundAt (views fs) i
+    → AreCertificatesRead (views (take i fs)) cs among → certificate_of (view f) ≡ Some r → among r.object ≡ false
+    → IsCertificateSoundAt (views fs) i
 sound_at fs i f cs among r lt is h own new = record {
   earlier = views (take i fs);
   form = view f;

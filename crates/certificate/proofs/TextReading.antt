@@ -5,20 +5,20 @@ use Rattle.std.specs.Prelude.{is_some}
 use Rattle.std.proofs.lemmas.List.{length-map}
 use Rattle.edn_reader.specs.Datum.{Datum}
 use Rattle.edn_reader.specs.Elements.{SpellsFront}
-use Rattle.edn_reader.proofs.Following.{Along, front_more}
+use Rattle.edn_reader.proofs.FormsInARow.{Along, front_more}
 use Rattle.certificate.specs.declared.Certificate.{Certificate}
 use Rattle.certificate.specs.declared.fault.CertFault.{CertFault}
 use Rattle.certificate.specs.declared.fault.CertFaultKind.{CertFaultKind}
 use Rattle.certificate.specs.declared.text_reader.Reading.{Reading}
 use Rattle.certificate.specs.Denotes.{certificate_of, reading_of, Denotes}
-use Rattle.certificate.specs.Faults.{IsSoundAt}
-use Rattle.certificate.specs.Inside.{IsFaultAmong, AreRead, has}
-use Rattle.certificate.specs.Texts.{IsFoundIn, IsReadOrFaulty, IsReading}
+use Rattle.certificate.specs.Faults.{IsCertificateSoundAt}
+use Rattle.certificate.specs.Inside.{IsFaultAmong, AreCertificatesRead, has}
+use Rattle.certificate.specs.Texts.{IsCertificateFaultIn, AreCertificatesReadOrFaulty, IsCertificateReading}
 use Rattle.certificate.proofs.Reading.{no_fault, fault_here, only_fault, nothing_here}
 use Rattle.edn_fields.proofs.FirstFaults.{first_more}
 
 -- more forms after those that were looked at
-sound_more : (ds : List Datum) (d : Datum) (n : ℕ) → IsSoundAt ds n → IsSoundAt (ds ++ d ∷ []) n
+sound_more : (ds : List Datum) (d : Datum) (n : ℕ) → IsCertificateSoundAt ds n → IsCertificateSoundAt (ds ++ d ∷ []) n
 sound_more ds d n h = record {
   earlier = h.earlier;
   form = h.form;
@@ -29,33 +29,35 @@ sound_more ds d n h = record {
   none = h.none;
 }
 
-faulty_more : (r : Reading) (f : CertFault) (ds : List Datum) (d : Datum) → r.fault ≡ Some f → IsReading r ds
-    → IsReading r (ds ++ d ∷ [])
+faulty_more : (r : Reading) (f : CertFault) (ds : List Datum) (d : Datum) → r.fault ≡ Some f → IsCertificateReading r ds
+    → IsCertificateReading r (ds ++ d ∷ [])
 faulty_more r f ds d e h =
-    let a : IsFoundIn ds f =
-    subst (λ (o : Option CertFault). IsReadOrFaulty o ds r.certificates.items (has r.objects)) e h in
-    subst (λ (o : Option CertFault). IsReadOrFaulty o (ds ++ d ∷ []) r.certificates.items (has r.objects)) (sym e)
+    let a : IsCertificateFaultIn ds f =
+    subst (λ (o : Option CertFault). AreCertificatesReadOrFaulty o ds r.certificates.items (has r.objects)) e h in
+    subst (λ (o : Option CertFault). AreCertificatesReadOrFaulty o (ds ++ d ∷ []) r.certificates.items (has r.objects))
+    (sym e)
     (λ n. first_more ds d f.form f.kind (a.0 n), λ m. sound_more ds d f.form (a.1 m))
 
-pub still_faulty : (r : Reading) (ds : List Datum) (d : Datum) → is_some r.fault ≡ true → IsReading r ds
-    → IsReading r (ds ++ d ∷ [])
+pub still_faulty : (r : Reading) (ds : List Datum) (d : Datum) → is_some r.fault ≡ true → IsCertificateReading r ds
+    → IsCertificateReading r (ds ++ d ∷ [])
 still_faulty r ds d e h = by_fault r.fault refl
   where
-    by_fault : (o : Option CertFault) → r.fault ≡ o → IsReading r (ds ++ d ∷ [])
+    by_fault : (o : Option CertFault) → r.fault ≡ o → IsCertificateReading r (ds ++ d ∷ [])
     by_fault None q = absurd cc
     by_fault (Some f) q = faulty_more r f ds d q h
 
-pub are_read : (r : Reading) (ds : List Datum) → r.fault ≡ None → IsReading r ds
-    → AreRead ds r.certificates.items (has r.objects)
-are_read r ds e h = subst (λ (o : Option CertFault). IsReadOrFaulty o ds r.certificates.items (has r.objects)) e h
+pub are_read : (r : Reading) (ds : List Datum) → r.fault ≡ None → IsCertificateReading r ds
+    → AreCertificatesRead ds r.certificates.items (has r.objects)
+are_read r ds e h = subst (λ (o : Option CertFault). AreCertificatesReadOrFaulty o ds r.certificates.items
+    (has r.objects)) e h
 
 one_each : (ds : List Datum) (cs : List Certificate) → Denotes ds cs → length ds ≡ length cs
 one_each ds cs h = sym (length-map ds certificate_of) ∙ ap length h.each ∙ length-map cs (λ c. Some (reading_of c))
 
 -- what is wrong with the form after those that were read, or that an allocation failed for it
 pub found : (ds : List Datum) (cs : List Certificate) (among : ℕ → Bool) (d : Datum) (kind : CertFaultKind)
-    → AreRead ds cs among
-    → IsFaultAmong among d kind → IsFoundIn (ds ++ d ∷ []) (record { kind = kind; form = length cs })
+    → AreCertificatesRead ds cs among
+    → IsFaultAmong among d kind → IsCertificateFaultIn (ds ++ d ∷ []) (record { kind = kind; form = length cs })
 found ds cs among d kind h fault = (
   λ n. record {
     earlier = ds;

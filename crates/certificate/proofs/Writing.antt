@@ -10,7 +10,7 @@ use Rattle.std.proofs.lemmas.List.{drop_more, take_more, append-nil}
 use Rattle.std.proofs.lemmas.Bool.{le-leb}
 use Rattle.edn_reader.specs.Bytes.{is_name}
 use Rattle.edn_reader.specs.Truncation.{integers_in}
-use Rattle.edn_reader.specs.Datum.{Datum, integer, atom, vector, dictionary, no_entries, entry, items_of, Fits}
+use Rattle.edn_reader.specs.Datum.{Datum, integer, atom, vector, dictionary, no_entries, entry, items_of, DatumFits}
 use Rattle.edn_reader.specs.Datum.{ItemsFit, max_open}
 use Rattle.edn_reader.specs.Spells.{Spells}
 use Rattle.edn_reader.specs.Text.{between, IsInt64, InProfile, ItemsInProfile, text_of, items_text}
@@ -18,7 +18,8 @@ use Rattle.edn_reader.specs.Text as edn
 use Rattle.edn_reader.specs.Laws.{EachSpelled}
 use Rattle.edn_reader.proofs.Joined.{text_spells_it, lines_spell_them}
 use Rattle.certificate.specs.Denotes.{reading_with, certificate_of, reading_of, AreDistinct}
-use Rattle.certificate.specs.Lines.{numbers_text, line_of, lines_of, AreInRange, SpellsCertificates}
+use Rattle.certificate.specs.Lines.{numbers_text, certificate_line, certificate_lines, AreCertificatesInRange}
+use Rattle.certificate.specs.Lines.{SpellsCertificates}
 use Rattle.certificate.specs.declared.Certificate.{Certificate}
 
 -- ---- the integers of an order
@@ -45,7 +46,7 @@ all_taken_item {X} P xs i x lt e h p = all_taken P xs i x lt h (subst P e p)
 -- ---- the lines
 
 pub lines_left : (cs : List Certificate) (i : ℕ) (c : Certificate) → i < length cs → c ≡ get_or cs i c
-    → lines_of (drop i cs) ≡ line_of c ++ lines_of (drop (i + 1) cs)
+    → certificate_lines (drop i cs) ≡ certificate_line c ++ certificate_lines (drop (i + 1) cs)
 lines_left cs i c lt e =
     let here : drop i cs ≡ c ∷ drop (i + 1) cs =
     drop_more cs i c lt ∙ ap (λ (y : Certificate). y ∷ drop (i + 1) cs) (sym e) in
@@ -72,7 +73,7 @@ closed : (numbers : List ℕ) → ((numbers ++ codes "]") ++ []) ++ codes "}\n" 
 closed numbers = ap (λ t. t ++ codes "}\n") (append-nil (numbers ++ codes "]"))
     ∙ append_assoc numbers (codes "]") (codes "}\n")
 
-line_is_text : (c : Certificate) → line_of c ≡ text_of (datum_of c) ++ 10 ∷ []
+line_is_text : (c : Certificate) → certificate_line c ≡ text_of (datum_of c) ++ 10 ∷ []
 unfolding datum_of
 line_is_text c =
     let x = signed_decimal (pos c.object) in
@@ -89,7 +90,7 @@ unfolding numbers_data
 numbers_fit n [] = tt
 numbers_fit n (z ∷ zs) = (tt, numbers_fit n zs)
 
-pub datum_fits : (c : Certificate) → Fits max_open (datum_of c)
+pub datum_fits : (c : Certificate) → DatumFits max_open (datum_of c)
 unfolding datum_of
 datum_fits c = (lit< tt, ((λ h. cc, tt), tt, (tt, (lit< tt, numbers_fit 14 c.order.items), tt)))
 
@@ -116,18 +117,19 @@ datum_denotes c small =
 data_of : List Certificate → List Datum
 data_of cs = map datum_of cs
 
-lines_are_texts : (cs : List Certificate) → lines_of cs ≡ edn.lines_of (data_of cs)
+lines_are_texts : (cs : List Certificate) → certificate_lines cs ≡ edn.form_lines (data_of cs)
 unfolding data_of
 lines_are_texts [] = refl
 lines_are_texts (c ∷ cs) =
-    ap (λ t. t ++ lines_of cs) (line_is_text c) ∙ append_assoc (text_of (datum_of c)) (10 ∷ []) (lines_of cs)
+    ap (λ t. t ++ certificate_lines cs) (line_is_text c)
+    ∙ append_assoc (text_of (datum_of c)) (10 ∷ []) (certificate_lines cs)
     ∙ ap (λ t. text_of (datum_of c) ++ 10 ∷ t) (lines_are_texts cs)
 
 -- the integers of each order have 64 bits
 abbrev pub InProfiles : List Certificate → Type 0
 InProfiles cs = AllByRecursion (λ c. AllByRecursion IsInt64 c.order.items) cs
 
-each_spelled : (cs : List Certificate) → AreInRange cs → InProfiles cs → EachSpelled (data_of cs)
+each_spelled : (cs : List Certificate) → AreCertificatesInRange cs → InProfiles cs → EachSpelled (data_of cs)
 unfolding data_of
 each_spelled [] r p = tt
 each_spelled (c ∷ cs) r p = (
@@ -135,15 +137,15 @@ each_spelled (c ∷ cs) r p = (
   each_spelled cs (λ k d lt. r (suc k) d (omega arith)) p.1,
 )
 
-each_denoted : (cs : List Certificate) → AreInRange cs
+each_denoted : (cs : List Certificate) → AreCertificatesInRange cs
     → map certificate_of (data_of cs) ≡ map (λ c. Some (reading_of c)) cs
 unfolding data_of
 each_denoted [] r = refl
 each_denoted (c ∷ cs) r = ap (λ v. v ∷ map certificate_of (map datum_of cs)) (datum_denotes c (r 0 c (omega arith)))
     ∙ ap (λ vs. Some (reading_of c) ∷ vs) (each_denoted cs (λ k d lt. r (suc k) d (omega arith)))
 
-pub lines_spell : (cs : List Certificate) → InProfiles cs → AreDistinct cs → AreInRange cs
-    → SpellsCertificates cs (lines_of cs)
+pub lines_spell : (cs : List Certificate) → InProfiles cs → AreDistinct cs → AreCertificatesInRange cs
+    → SpellsCertificates cs (certificate_lines cs)
 lines_spell cs p apart r = record {
   forms = data_of cs;
   spelled = subst (Spells (data_of cs)) (sym (lines_are_texts cs))

@@ -30,6 +30,7 @@ IsFaultAmong among d NoMemory =
     (r : Reading) × (certificate_of d ≡ Some r) × (among r.object ≡ false)
 
 -- the forms so far, their certificates, and which objects these are of
-pub record AreRead (ds : List Datum) (cs : List Certificate) (among : ℕ → Bool) : Type 0 where
+pub record AreCertificatesRead (ds : List Datum) (cs : List Certificate) (among : ℕ → Bool) :
+    Type 0 where
   pub denoted : Denotes ds cs
   pub objects : (x : ℕ) → among x ≡ list_any (λ c. c.object == x) cs

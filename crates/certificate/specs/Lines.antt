@@ -16,19 +16,19 @@ numbers_text first (z ∷ zs) =
     (between first (codes " ") ++ signed_decimal z) ++ numbers_text false zs
 
 -- the line of a certificate, as {:object 0, :order [0 2]}
-abbrev pub line_of : Certificate → List ℕ
-line_of c =
+abbrev pub certificate_line : Certificate → List ℕ
+certificate_line c =
     codes "{:object "
     ++ (decimal c.object
     ++ (codes ", :order [" ++ (numbers_text true c.order.items ++ codes "]}\n")))
 
-abbrev pub lines_of : List Certificate → List ℕ
-lines_of [] = []
-lines_of (c ∷ cs) = line_of c ++ lines_of cs
+abbrev pub certificate_lines : List Certificate → List ℕ
+certificate_lines [] = []
+certificate_lines (c ∷ cs) = certificate_line c ++ certificate_lines cs
 
 -- each object has a number that a text can have
-abbrev pub AreInRange : List Certificate → Type 0
-AreInRange cs = All (λ c. c.object ≤ max_object) cs
+abbrev pub AreCertificatesInRange : List Certificate → Type 0
+AreCertificatesInRange cs = All (λ c. c.object ≤ max_object) cs
 
 -- the text is that of some forms, and these denote the certificates
 pub record SpellsCertificates (cs : List Certificate) (bytes : List ℕ) : Type 0 where

@@ -13,13 +13,13 @@ abbrev pub numbers_of : {Z : Type 0} → Option (Vec ℤ Z) → Option (List ℤ
 numbers_of integer_vector = option_map (λ v. v.items) integer_vector
 
 -- the beginnings of its values, and the integer vector of its order
-abbrev pub IsKept : List Piece → Option (List ℤ) → Datum → Type 0
-IsKept pieces integer_vector d =
+abbrev pub IsBufferKept : List Piece → Option (List ℤ) → Datum → Type 0
+IsBufferKept pieces integer_vector d =
     (token_buffer_tokens pieces ≡ tokens_of (truncated d))
     × (integer_vector ≡ integer_vector_at (codes "order") d)
 
 -- the object of a map
-abbrev pub object_of : Datum → Option ℕ
-object_of (atom a) = None
-object_of (vector ds) = None
-object_of (dictionary es) = object_in (natural_in (value_at (codes "object") es))
+abbrev pub object_in_map : Datum → Option ℕ
+object_in_map (atom a) = None
+object_in_map (vector ds) = None
+object_in_map (dictionary es) = object_in (natural_in (value_at (codes "object") es))

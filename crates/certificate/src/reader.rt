@@ -5,12 +5,12 @@ ghost use Rattle.std.specs.Prelude.{false, is_some, IfOk, IfErr, IfSome, IfNone,
 ghost use Rattle.std.specs.Ordering.{nat_cmp};
 ghost use Rattle.std.specs.BTreeSet.{contains};
 ghost use Rattle.edn_reader.specs.Truncation.{integers_in};
-ghost use Rattle.edn_reader.specs.Datum.{Fits, max_open, items_of};
+ghost use Rattle.edn_reader.specs.Datum.{DatumFits, max_open, items_of};
 ghost use Rattle.edn_reader.specs.View.{view, views};
 ghost use Rattle.certificate.specs.declared.Certificate.{Certificate};
 ghost use Rattle.certificate.specs.Denotes as spec;
 ghost use Rattle.certificate.specs.Denotes.{Denotes, AreDistinct};
-ghost use Rattle.certificate.specs.Faults.{IsFirstFault, IsSoundAt};
+ghost use Rattle.certificate.specs.Faults.{IsFirstFault, IsCertificateSoundAt};
 ghost use Rattle.certificate.specs.Inside.{IsFaultAmong};
 
 use crate::Certificate;
@@ -127,7 +127,7 @@ fn next_certificate(
 /// Reads each form as a certificate, in order. A fault is that of the first faulty form, except for
 /// an allocation failure, which names the form that was being read.
 pub fn read_certificates(alloc: Global, forms: Vec<Form>) -> Result<Vec<Certificate>, CertFault>
-    requires fit { All (λ f. Fits max_open (view f)) forms.items }
+    requires fit { All (λ f. DatumFits max_open (view f)) forms.items }
     ensures denotes { IfOk result (λ v. Denotes (views forms.items) v.items) }
     ensures distinct { IfOk result (λ v. AreDistinct v.items) }
 
@@ -135,7 +135,7 @@ pub fn read_certificates(alloc: Global, forms: Vec<Form>) -> Result<Vec<Certific
         IsFirstFault (views forms.items) e) }
     // An allocation failed, and nothing was wrong up to and including this form.
     ensures memory { IfErr result (λ e. e.kind ≡ CertFaultKind.NoMemory →
-        IsSoundAt (views forms.items) e.form) }
+        IsCertificateSoundAt (views forms.items) e.form) }
     // Such a fault means that the forms denote no certificates.
     ensures refused { IfErr result (λ e. e.kind ≢ CertFaultKind.NoMemory → (cs : List Certificate) →
         Denotes (views forms.items) cs → ⊥) }

@@ -11,8 +11,8 @@ ghost use Rattle.edn_reader.specs.Token.{tokens_of};
 ghost use Rattle.certificate.specs.Denotes as spec;
 ghost use Rattle.certificate.specs.Denotes.{Denotes, AreDistinct};
 ghost use Rattle.certificate.specs.Inside.{IsFaultAmong, has, Says};
-ghost use Rattle.certificate.specs.TokenBuffers.{IsKept, numbers_of, object_of};
-ghost use Rattle.certificate.specs.Texts.{IsFoundIn, IsTextFault};
+ghost use Rattle.certificate.specs.TokenBuffers.{IsBufferKept, numbers_of, object_in_map};
+ghost use Rattle.certificate.specs.Texts.{IsCertificateFaultIn, IsCertificateTextFault};
 
 use crate::Certificate;
 use crate::fault::{CertFault, CertFaultKind, CertTextFault};
@@ -24,7 +24,7 @@ use std::alloc::Global;
 /// Returns the object of a certificate, given the beginnings of its values.
 fn object_on(pieces: &[Piece]) -> Option<u32>
     ensures { (d : Datum) → token_buffer_tokens pieces.now ≡ tokens_of (truncated d)
-        → result ≡ object_of d }
+        → result ≡ object_in_map d }
 {
     let Some(number) = edn_fields::value_on(pieces, b"object") else {
         return None;
@@ -34,7 +34,7 @@ fn object_on(pieces: &[Piece]) -> Option<u32>
 
 /// The certificate of these kept values, if they are those of one.
 fn certificate_on(pieces: &[Piece], integer_vector: Option<Vec<i64>>) -> Option<Certificate>
-    ensures { (d : Datum) → IsKept pieces.now (numbers_of integer_vector) d → Says result d }
+    ensures { (d : Datum) → IsBufferKept pieces.now (numbers_of integer_vector) d → Says result d }
 {
     let (Some(object), Some(order)) = (object_on(pieces), integer_vector) else {
         return None;
@@ -79,10 +79,10 @@ struct Reading {
 }
 
 impl Reading {
-    ghost use Rattle.certificate.specs.Texts.{IsReading};
+    ghost use Rattle.certificate.specs.Texts.{IsCertificateReading};
 
     fn new(alloc: Global) -> Reading
-        ensures { IsReading result [] }
+        ensures { IsCertificateReading result [] }
     {
         Reading {
             certificates: Vec::new(alloc),
@@ -95,7 +95,7 @@ impl Reading {
     fn take_said(&mut self, said: Option<Certificate>)
         requires { self.old.fault ≡ None }
         ensures { (ds : List Datum) (d : Datum) → Says said d
-            → IsReading self.old ds → IsReading self.new (ds ++ d ∷ []) }
+            → IsCertificateReading self.old ds → IsCertificateReading self.new (ds ++ d ∷ []) }
     {
         let form = self.certificates.len();
         match next_certificate(said, &mut self.objects) {
@@ -113,8 +113,8 @@ impl Reading {
     /// Reads one more element, unless an earlier one is faulty. Of each value the beginning is
     /// given, and the integer vector of its order.
     fn take(&mut self, pieces: &[Piece], integer_vector: Option<Vec<i64>>)
-        ensures { (ds : List Datum) (d : Datum) → IsKept pieces.now (numbers_of integer_vector) d
-            → IsReading self.old ds → IsReading self.new (ds ++ d ∷ []) }
+        ensures { (ds : List Datum) (d : Datum) → IsBufferKept pieces.now (numbers_of integer_vector) d
+            → IsCertificateReading self.old ds → IsCertificateReading self.new (ds ++ d ∷ []) }
     {
         if self.fault.is_none() {
             self.take_said(certificate_on(pieces, integer_vector));
@@ -123,8 +123,8 @@ impl Reading {
 
     /// The certificates, or what is wrong with an element.
     fn finish(self) -> Result<Vec<Certificate>, CertFault>
-        ensures { (ds : List Datum) → IsReading self ds →
-            MatchResult result (λ v. Denotes ds v.items) (IsFoundIn ds) }
+        ensures { (ds : List Datum) → IsCertificateReading self ds →
+            MatchResult result (λ v. Denotes ds v.items) (IsCertificateFaultIn ds) }
     {
         let Reading {
             certificates,
@@ -147,7 +147,7 @@ pub fn read_certificates_text(alloc: Global, text: &[u8]) -> Result<Vec<Certific
         (ds : List Datum) × Spells ds text.now × Denotes ds v.items) }
     ensures distinct { IfOk result (λ v. AreDistinct v.items) }
     ensures short { OnOk result (IsShort text.now) }
-    ensures fault { IfErr result (IsTextFault text.now) }
+    ensures fault { IfErr result (IsCertificateTextFault text.now) }
 {
     let mut elements = match Elements::with_integer_vector(alloc, text, b"order") {
         Ok(elements) => elements,

@@ -7,7 +7,7 @@ ghost use Rattle.edn.specs.Sent.{Writes};
 ghost use Rattle.edn_reader.specs.Text.{between, IsInt64};
 ghost use Rattle.certificate.specs.Denotes.{AreDistinct};
 ghost use Rattle.certificate.specs.Lines as text;
-ghost use Rattle.certificate.specs.Lines.{AreInRange, SpellsCertificates};
+ghost use Rattle.certificate.specs.Lines.{AreCertificatesInRange, SpellsCertificates};
 
 use crate::Certificate;
 use edn::{Failed, Sink, WriteFault, write_bytes, write_integer};
@@ -51,7 +51,7 @@ fn write_numbers<S: Sink>(numbers: &[i64], sink: &mut S) -> Result<(), Failed>
 fn write_line<S: Sink>(certificate: &Certificate, sink: &mut S) -> Result<(), Failed>
     requires { S.broken sink.old ≡ false }
     ensures sent { Writes result (S.sent sink.old) (S.sent sink.new) (S.broken sink.new)
-        (text.line_of certificate.now) }
+        (text.certificate_line certificate.now) }
     ensures in_range { OnOk result (AllByRecursion IsInt64 certificate.now.order.items) }
 {
     write_bytes(b"{:object ", sink)?;
@@ -68,10 +68,10 @@ pub fn write_certificates<S: Sink>(
 ) -> Result<(), WriteFault>
     requires working { S.broken sink.old ≡ false }
     ensures sent { Writes result (S.sent sink.old) (S.sent sink.new) (S.broken sink.new)
-        (text.lines_of certificates.now) }
+        (text.certificate_lines certificates.now) }
     // What went out reads back as these certificates.
-    ensures spelled { OnOk result (AreDistinct certificates.now → AreInRange certificates.now →
-        SpellsCertificates certificates.now (text.lines_of certificates.now)) }
+    ensures spelled { OnOk result (AreDistinct certificates.now → AreCertificatesInRange certificates.now →
+        SpellsCertificates certificates.now (text.certificate_lines certificates.now)) }
     ensures device { IfErr result (λ e. e ≡ WriteFault.Device) }
 {
     for certificate in certificates {

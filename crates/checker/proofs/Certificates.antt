@@ -14,7 +14,7 @@ use Rattle.model.specs.Orders.{Call, IsValidOrder, calls_on}
 use Rattle.model.proofs.Lists.{In, Pairs, in_append, in_left, in_middle, in_map, in_map_from, in_from_contains}
 use Rattle.model.proofs.Lists.{contains_from_in, in_from_get, all_at, all_from_in, pairs_from_all}
 use Rattle.events.specs.declared.event.Event.{Event}
-use Rattle.events.specs.Events.{IsNamed, kind_at, denoted}
+use Rattle.events.specs.Events.{IsNamed, kind_of_object, denoted}
 use Rattle.events.specs.Operations.{ObjectCalls, calls_of}
 use Rattle.certificate.specs.declared.Certificate.{Certificate}
 use Rattle.checker.specs.declared.refusal.OrderFault.{OrderFault}
@@ -22,15 +22,17 @@ use Rattle.checker.specs.declared.refusal.Refusal.{Refusal}
 use Rattle.checker.specs.declared.refusal.Refusal.TheVariants.{NoCertificate, StrangeObject, BadOrder, NoMemory}
 use Rattle.checker.specs.Faults.{IsFirstFault}
 use Rattle.checker.specs.Refusals.{RefusesOrder, HasCertificate, AreValid, IsRefusalAt, IsLeastStrange, IsFirstRefusal}
-use Rattle.checker.specs.Checking.{IsPlace, ArePlaces, AreAllPlaces, IsFine, IsRefused, AreForThese, IsLeastBesides}
+use Rattle.checker.specs.Checking.{IsCertificatePlace, AreCertificatePlaces, AreAllPlaces, IsFine, IsRefused}
+use Rattle.checker.specs.Checking.{AreForThese, IsLeastBesides}
 use Rattle.checker.specs.Checking.{IsLeastPlaced}
 
 -- one more certificate has its place
 pub one_placed : (certificates : List Certificate) (m n : NumberMap ℕ) (k : ℕ) (d : Certificate)
     → k < length certificates
-    → d ≡ get_or certificates k d → ArePlaces m certificates
+    → d ≡ get_or certificates k d → AreCertificatePlaces m certificates
     → ((c : Certificate) → In c (take k certificates) → IsSome (value_of m c.object))
-    → value_of n d.object ≡ Some k → ((x : ℕ) → x ≢ d.object → value_of n x ≡ value_of m x) → ArePlaces n certificates
+    → value_of n d.object ≡ Some k → ((x : ℕ) → x ≢ d.object → value_of n x ≡ value_of m x)
+    → AreCertificatePlaces n certificates
     × ((c : Certificate) → In c (take (k + 1) certificates) → IsSome (value_of n c.object))
 one_placed certificates m n k d l is places some own others = (
   λ x j q. elim (cases_eq x d.object) [
@@ -67,11 +69,11 @@ all_placed certificates m k l some =
 pub record AreObjects (es : List Event) (os : List ObjectCalls) : Type 0 where
   pub rising : AllPairs (λ a b. a.object < b.object) os
   pub named : (x : ℕ) → Contains (map (λ o. o.object) os) x ↔ IsNamed es x
-  pub kinds : All (λ o. o.kind ≡ kind_at es o.object) os
+  pub kinds : All (λ o. o.kind ≡ kind_of_object es o.object) os
   pub calls : All (λ o. calls_of o.ops ≡ calls_on o.object (denoted es)) os
 
 abbrev pub IsFineAt : List Event → List Certificate → ℕ → Type 0
-IsFineAt es certificates x = IsFine (kind_at es x) (calls_on x (denoted es)) certificates x
+IsFineAt es certificates x = IsFine (kind_of_object es x) (calls_on x (denoted es)) certificates x
 
 -- each of these objects has a valid order
 abbrev pub AreFine : List Event → List Certificate → List ObjectCalls → Type 0
@@ -79,14 +81,15 @@ AreFine es certificates os = (o : ObjectCalls) → In o os → IsFineAt es certi
 
 -- the places that are left once those of these objects are taken out
 pub record AreLeft (certificates : List Certificate) (os : List ObjectCalls) (left : NumberMap ℕ) : Type 0 where
-  pub places : ArePlaces left certificates
+  pub places : AreCertificatePlaces left certificates
   pub apart : (o : ObjectCalls) → In o os → value_of left o.object ≡ None
   pub gone : (c : Certificate) → In c certificates → value_of left c.object ≡ None
       → (o : ObjectCalls) × In o os × (o.object ≡ c.object)
 
 -- ---- the next object
 
-abbrev pub has_here : (certificates : List Certificate) (x k : ℕ) (d : Certificate) → IsPlace certificates x k
+abbrev pub has_here : (certificates : List Certificate) (x k : ℕ) (d : Certificate)
+    → IsCertificatePlace certificates x k
     → d ≡ get_or certificates k d → HasCertificate certificates x
 has_here certificates x k d p is = record {
   certificate = d;
@@ -95,7 +98,7 @@ has_here certificates x k d p is = record {
 }
 
 pub fine_here : (kind : Kind) (calls : List Call) (certificates : List Certificate) (x k : ℕ) (d : Certificate)
-    (r : Result (Unit {0}) Refusal) → IsPlace certificates x k → d ≡ get_or certificates k d
+    (r : Result (Unit {0}) Refusal) → IsCertificatePlace certificates x k → d ≡ get_or certificates k d
     → OnOk r (IsValidOrder kind calls d.order.items)
     → OnOk r ((f : OrderFault) → IsFirstFault kind calls d.order.items f → ⊥)
     → OnOk r (IsFine kind calls certificates x)
@@ -105,7 +108,7 @@ fine_here kind calls certificates x k d (Err e) p is v h = tt
 
 pub refused_here : (kind : Kind) (calls : List Call) (certificates : List Certificate) (x k : ℕ) (d : Certificate)
     (r : Result (Unit {0}) Refusal)
-    → IsPlace certificates x k → d ≡ get_or certificates k d
+    → IsCertificatePlace certificates x k → d ≡ get_or certificates k d
     → IfErr r (RefusesOrder x kind calls d.order.items)
     → (IsValidOrder kind calls d.order.items → IfErr r (λ e. e ≡ NoMemory))
     → IfErr r (IsRefused kind calls certificates x)
@@ -322,7 +325,7 @@ first_refusal : (es : List Event) (certificates : List Certificate) (all os : Li
     (later : List ObjectCalls)
     (r : Refusal) → AllPairs (λ a b. a.object ≢ b.object) certificates → AreObjects es all
     → all ≡ os ++ o ∷ later → AreFine es certificates os
-    → IsRefused (kind_at es o.object) (calls_on o.object (denoted es)) certificates o.object r
+    → IsRefused (kind_of_object es o.object) (calls_on o.object (denoted es)) certificates o.object r
     → IsFirstRefusal es certificates r
 first_refusal es certificates all os o later r d objects split h refused = go r refused
   where
@@ -338,7 +341,7 @@ first_refusal es certificates all os o later r d objects split h refused = go r 
         let i = already os o later up p.0 (subst (In p.0) split p.1) (rw p.2 at l) in
         no_refusal es certificates d y (rw p.2 (h p.0 i)) s stands
 
-    go : (r : Refusal) → IsRefused (kind_at es o.object) (calls_on o.object (denoted es)) certificates o.object r
+    go : (r : Refusal) → IsRefused (kind_of_object es o.object) (calls_on o.object (denoted es)) certificates o.object r
         → IsFirstRefusal es certificates r
     go (NoCertificate y) s = record { object = o.object; named = named; stands = (s.0, s.1); least = least }
     go (StrangeObject y) s = absurd s
@@ -350,13 +353,13 @@ refused_are_not_valid : (es : List Event) (certificates : List Certificate) (all
     (o : ObjectCalls) (later : List ObjectCalls)
     (r : Refusal) → AllPairs (λ a b. a.object ≢ b.object) certificates → AreObjects es all
     → all ≡ os ++ o ∷ later → AreFine es certificates os
-    → IsRefused (kind_at es o.object) (calls_on o.object (denoted es)) certificates o.object r
+    → IsRefused (kind_of_object es o.object) (calls_on o.object (denoted es)) certificates o.object r
     → AreValid es certificates → r ≡ NoMemory
 refused_are_not_valid es certificates all os o later r d objects split h refused valid =
     go r (first_refusal es certificates all os o later r d objects split h refused) refused
   where
     go : (r : Refusal) → IsFirstRefusal es certificates r
-        → IsRefused (kind_at es o.object) (calls_on o.object (denoted es)) certificates o.object r → r ≡ NoMemory
+        → IsRefused (kind_of_object es o.object) (calls_on o.object (denoted es)) certificates o.object r → r ≡ NoMemory
     go (NoCertificate y) f s = absurd (f.stands.1 (valid.each f.object f.named).0)
     go (StrangeObject y) f s = absurd s
     go (BadOrder y g) f s =
@@ -375,7 +378,7 @@ strange_is_not_valid es certificates x h valid =
 
 pub are_objects : (es : List Event) (fs os : List ObjectCalls) → fs ≡ os → AllPairs (λ a b. a.object < b.object) os
     → ((x : ℕ) → Contains (map (λ o. o.object) os) x ↔ IsNamed es x)
-    → All (λ o. o.kind ≡ kind_at es o.object) os → All (λ o. calls_of o.ops ≡ calls_on o.object (denoted es)) os
+    → All (λ o. o.kind ≡ kind_of_object es o.object) os → All (λ o. calls_of o.ops ≡ calls_on o.object (denoted es)) os
     → AreObjects es fs
 are_objects es fs os is rising named kinds calls =
     rw is (record { rising = rising; named = named; kinds = kinds; calls = calls })
@@ -395,12 +398,12 @@ in_objects fs i o l is = rw is (in_from_get fs i o l)
 -- what holds of the kind and the calls of an object holds of those in the history
 pub next_is : (es : List Event) (fs : List ObjectCalls) (i : ℕ) (o : ObjectCalls) (P : Kind → List Call → Type 0)
     → AreObjects es fs → i < length fs
-    → o ≡ get_or fs i o → P o.kind (calls_of o.ops) → P (kind_at es o.object) (calls_on o.object (denoted es))
+    → o ≡ get_or fs i o → P o.kind (calls_of o.ops) → P (kind_of_object es o.object) (calls_on o.object (denoted es))
 next_is es fs i o P h l is p =
     let j = in_objects fs i o l is in
     let its_kind = subst (λ k. P k (calls_of o.ops))
-    (all_at (λ (o : ObjectCalls). o.kind ≡ kind_at es o.object) fs h.kinds o j) p in
-    subst (P (kind_at es o.object))
+    (all_at (λ (o : ObjectCalls). o.kind ≡ kind_of_object es o.object) fs h.kinds o j) p in
+    subst (P (kind_of_object es o.object))
     (all_at (λ (o : ObjectCalls). calls_of o.ops ≡ calls_on o.object (denoted es)) fs h.calls o j) its_kind
 
 pub next_fine : (es : List Event) (certificates : List Certificate) (fs : List ObjectCalls) (i : ℕ) (o : ObjectCalls)

@@ -10,7 +10,7 @@ use Rattle.model.specs.Orders.{Call, calls_on, IsValidOrder}
 use Rattle.model.proofs.Lists.{In, Pairs, in_map, in_map_from, in_from_contains, contains_from_in, all_from_in}
 use Rattle.model.proofs.Lists.{all_at, all_from_pairs, pairs_from_all, pairs_map, pairs_from_map}
 use Rattle.events.specs.declared.event.Event.{Event}
-use Rattle.events.specs.Events.{IsNamed, kind_at, denoted}
+use Rattle.events.specs.Events.{IsNamed, kind_of_object, denoted}
 use Rattle.events.specs.Operations.{ObjectCalls, calls_of}
 use Rattle.certificate.specs.declared.Certificate.{Certificate}
 use Rattle.certificate.specs.Denotes.{AreDistinct}
@@ -74,7 +74,7 @@ pub record AreAnswers {A : Type 0} (es : List Event) (Is : ℕ → Kind → List
     (objects : List ObjectCalls) (k : ℕ) (answers : List (ℕ × A)) : Type 0 where
   pub objects_are : AreObjects es objects
   pub numbers : map (λ a. a.0) answers ≡ map (λ o. o.object) (take k objects)
-  pub each : All (λ a. Is a.0 (kind_at es a.0) (calls_on a.0 (denoted es)) a.1) answers
+  pub each : All (λ a. Is a.0 (kind_of_object es a.0) (calls_on a.0 (denoted es)) a.1) answers
 
 pub no_answers : {A : Type 0} (es : List Event) (Is : ℕ → Kind → List Call → A → Type 0) (objects : List ObjectCalls)
     (answers : List (ℕ × A))
@@ -94,14 +94,15 @@ one_more_answer {A} es Is objects k o old new n s l is en ex h are = record {
       ap (map (λ a. a.0)) ex ∙ map-append (λ (a : ℕ × A). a.0) old ((n, s) ∷ []) ∙ ap (λ xs. xs ++ n ∷ []) are.numbers
       ∙ ap (λ (x : ℕ). map number (take k objects) ++ x ∷ []) (en ∙ ap number is)
       ∙ sym (ap (map number) (take_more objects k o l) ∙ map-append number (take k objects) (get_or objects k o ∷ []));
-  each = rw ex (All-push (λ (a : ℕ × A). Is a.0 (kind_at es a.0) (calls_on a.0 (denoted es)) a.1) old (n, s) are.each
+  each = rw ex (All-push (λ (a : ℕ × A). Is a.0 (kind_of_object es a.0) (calls_on a.0 (denoted es)) a.1) old (n, s)
+      are.each
       (rw en here));
 }
   where
     number : ObjectCalls → ℕ
     number o = o.object
 
-    here : Is o.object (kind_at es o.object) (calls_on o.object (denoted es)) s
+    here : Is o.object (kind_of_object es o.object) (calls_on o.object (denoted es)) s
     here = next_is es objects k o (λ kind calls. Is o.object kind calls s) are.objects_are l is h
 
 -- the answers on all objects, in rising number
@@ -109,7 +110,7 @@ pub record AreOnAll {A : Type 0} (es : List Event) (Is : ℕ → Kind → List C
     (answers : List (ℕ × A)) : Type 0 where
   pub rising : AllPairs (λ a b. a.0 < b.0) answers
   pub named : (x : ℕ) → Contains (map (λ a. a.0) answers) x ↔ IsNamed es x
-  pub each : All (λ a. Is a.0 (kind_at es a.0) (calls_on a.0 (denoted es)) a.1) answers
+  pub each : All (λ a. Is a.0 (kind_of_object es a.0) (calls_on a.0 (denoted es)) a.1) answers
 
 pub on_all : {A : Type 0} (es : List Event) (Is : ℕ → Kind → List Call → A → Type 0) (objects : List ObjectCalls)
     (k : ℕ) (answers : List (ℕ × A))
@@ -136,10 +137,10 @@ own : {A : Type 0} (certificate_of : A → Option Certificate) (es : List Event)
     (Is : ℕ → Kind → List Call → A → Type 0) (answers : List (ℕ × A))
     → Certifies certificate_of Is → AreOnAll es Is answers → (a : ℕ × A) (c : Certificate) → In a answers
     → certificate_of a.1 ≡ Some c
-    → (c.object ≡ a.0) × IsValidOrder (kind_at es a.0) (calls_on a.0 (denoted es)) c.order.items
+    → (c.object ≡ a.0) × IsValidOrder (kind_of_object es a.0) (calls_on a.0 (denoted es)) c.order.items
 own {A} certificate_of es Is answers certifies h a c i e =
-    certifies a.0 (kind_at es a.0) (calls_on a.0 (denoted es)) a.1 c
-    (all_at (λ (a : ℕ × A). Is a.0 (kind_at es a.0) (calls_on a.0 (denoted es)) a.1) answers h.each a i) e
+    certifies a.0 (kind_of_object es a.0) (calls_on a.0 (denoted es)) a.1 c
+    (all_at (λ (a : ℕ × A). Is a.0 (kind_of_object es a.0) (calls_on a.0 (denoted es)) a.1) answers h.each a i) e
 
 pub distinct : {A : Type 0} (certificate_of : A → Option Certificate) (es : List Event)
     (Is : ℕ → Kind → List Call → A → Type 0)
@@ -187,7 +188,7 @@ valid {A} certificate_of es Is answers certifies h all = record {
         for_object = of_it.0 ∙ sym a.2;
       } in (
         certificate,
-        subst (λ (y : ℕ). IsValidOrder (kind_at es y) (calls_on y (denoted es)) c.0.order.items)
+        subst (λ (y : ℕ). IsValidOrder (kind_of_object es y) (calls_on y (denoted es)) c.0.order.items)
             (sym a.2) of_it.1,
       );
   none_besides = all_from_in (λ c. IsNamed es c.object) (collected certificate_of answers) (λ c i.

@@ -16,7 +16,7 @@ use Rattle.model.proofs.Lists.{In, in_from_contains, contains_from_in, all_from_
 use Rattle.events.specs.declared.operations.End.{End}
 use Rattle.events.specs.declared.operations.End.TheVariants.{Returned, Pending, Failed}
 use Rattle.events.specs.declared.operations.Invocation.{Invocation}
-use Rattle.events.specs.Operations.{call_with, call_of, calls_of, return_of, Differs, Agrees}
+use Rattle.events.specs.Operations.{call_with, call_of, calls_of, return_of, ReplyDiffers, Agrees}
 use Rattle.checker.specs.declared.refusal.Refusal.{Refusal}
 use Rattle.checker.specs.declared.refusal.Refusal.TheVariants.{BadOrder}
 use Rattle.checker.specs.Refusals.{RefusesOrder}
@@ -25,8 +25,8 @@ use Rattle.checker.specs.declared.refusal.OrderFault.TheVariants.{Repeated, TooL
 use Rattle.checker.specs.Ends.{IsLate, IsEarly, AreMarked, IsFirstUnmarked}
 use Rattle.checker.specs.Faults.{IsGreatest, IsFirstFault, IsFirstAtPlace, IsLeastOmitted}
 use Rattle.checker.proofs.Walking.{IsStep, found_number, found_known, no_fault}
-use Rattle.checker.proofs.Deciding.{Reaches, IsInTime, valid_from, repeated_first, late_first, impossible_first}
-use Rattle.checker.proofs.Deciding.{wrong_first}
+use Rattle.checker.proofs.WalkAnswers.{Reaches, IsInTime, valid_from, repeated_first, late_first, impossible_first}
+use Rattle.checker.proofs.WalkAnswers.{wrong_first}
 use Rattle.checker.proofs.Steps.{Walk, AtHand, away, number_at, walk_more, stands_true, stands_false, call_parts}
 use Rattle.checker.proofs.Steps.{call_at_place, place_of_call, one_call, all_early}
 use Rattle.model.proofs.Orders.{same_pos}
@@ -125,7 +125,8 @@ pub wrong_at : (kind : Kind) (ops : List Invocation) (order : List ℤ) (i : ℕ
     (z : ℤ) (k : ℕ) (c : Call) (d : Invocation) (op : AnyOp) (gives : AnyReply)
     → IsHere kind ops order i seen content greatest z k c
     → IsEarly (get_or ops k d).«end» greatest → op ≡ (get_or ops k d).op → next content op ≡ Some (after, gives)
-    → Differs (return_of (get_or ops k d).«end») gives → IsFirstAtPlace kind (calls_of ops) order (WrongReply z gives)
+    → ReplyDiffers (return_of (get_or ops k d).«end») gives
+    → IsFirstAtPlace kind (calls_of ops) order (WrongReply z gives)
 wrong_at kind ops order i seen content after greatest z k c d op gives h early is can differs =
     let parts = call_parts (get_or ops k d) c (h.hand.is d) in
     wrong_first kind (calls_of ops) order i z c content after differs.0 gives

@@ -1,5 +1,5 @@
 pub mod Walking
-pub mod Deciding
+pub mod WalkAnswers
 pub mod Exact
 pub mod Steps
 pub mod Finding

@@ -13,7 +13,7 @@ use Rattle.model.specs.Objects.{Content, next}
 use Rattle.model.specs.Orders.{Call, calls_on}
 use Rattle.model.proofs.Lists.{all_at, in_from_contains}
 use Rattle.events.specs.declared.event.Event.{Event}
-use Rattle.events.specs.Events.{IsNamed, kind_at, denoted}
+use Rattle.events.specs.Events.{IsNamed, kind_of_object, denoted}
 use Rattle.certificate.specs.declared.Certificate.{Certificate}
 use Rattle.checker.specs.declared.refusal.OrderFault.{OrderFault}
 use Rattle.checker.specs.declared.refusal.OrderFault.TheVariants.{UnknownOperation, Repeated, TooLate, NotPossible}
@@ -127,7 +127,7 @@ module _ (es : List Event) (certificates : List Certificate)
   same_refusal x (BadOrder y f) (BadOrder z g) a b =
       let same = same_orders certificates d x b.1 a.1 in
       let there = rw same at b.2 in
-      let fault = one_fault (kind_at es x) (calls_on x (denoted es)) a.1.certificate.order.items f g a.2 there in
+      let fault = one_fault (kind_of_object es x) (calls_on x (denoted es)) a.1.certificate.order.items f g a.2 there in
       ap (λ y. BadOrder y f) (a.0 ∙ sym b.0) ∙ ap (BadOrder z) fault
   same_refusal x (NoCertificate y) s a b = absurd b
   same_refusal x (BadOrder y f) s a b = absurd b

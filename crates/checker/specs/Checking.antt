@@ -14,13 +14,14 @@ use Rattle.checker.specs.Faults.{IsFirstFault}
 use Rattle.checker.specs.Refusals.{HasCertificate}
 
 -- the certificate of the object is at this place
-pub record IsPlace (certificates : List Certificate) (x k : ℕ) : Type 0 where
+pub record IsCertificatePlace (certificates : List Certificate) (x k : ℕ) : Type 0 where
   pub inside : k < length certificates
   pub for_object : (c : Certificate) → (get_or certificates k c).object ≡ x
 
 -- each key is an object whose certificate is at the value
-abbrev pub ArePlaces : NumberMap ℕ → List Certificate → Type 0
-ArePlaces m certificates = (x k : ℕ) → value_of m x ≡ Some k → IsPlace certificates x k
+abbrev pub AreCertificatePlaces : NumberMap ℕ → List Certificate → Type 0
+AreCertificatePlaces m certificates = (x k : ℕ) → value_of m x ≡ Some k
+    → IsCertificatePlace certificates x k
 
 -- the object has a certificate, and its order is valid, and so without a fault
 pub record IsFine (kind : Kind) (calls : List Call) (certificates : List Certificate) (x : ℕ) : Type
@@ -32,7 +33,7 @@ pub record IsFine (kind : Kind) (calls : List Call) (certificates : List Certifi
 
 -- each certificate of the list has a place
 pub record AreAllPlaces (m : NumberMap ℕ) (certificates : List Certificate) : Type 0 where
-  pub places : ArePlaces m certificates
+  pub places : AreCertificatePlaces m certificates
   pub all : All (λ c. IsSome (value_of m c.object)) certificates
 
 -- the least object of these certificates that has a place, if there is one

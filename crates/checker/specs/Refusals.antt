@@ -4,7 +4,7 @@ use Rattle.std.specs.declared.result.Result.{Result}
 use Rattle.model.specs.declared.Kind.{Kind}
 use Rattle.model.specs.Orders.{Call, IsValidOrder, calls_on}
 use Rattle.events.specs.declared.event.Event.{Event}
-use Rattle.events.specs.Events.{IsNamed, kind_at, denoted}
+use Rattle.events.specs.Events.{IsNamed, kind_of_object, denoted}
 use Rattle.certificate.specs.declared.Certificate.{Certificate}
 use Rattle.checker.specs.declared.refusal.Refusal.{Refusal}
 use Rattle.checker.specs.declared.refusal.Refusal.TheVariants.{NoCertificate, StrangeObject}
@@ -30,7 +30,7 @@ pub record HasCertificate (certificates : List Certificate) (x : ℕ) : Type 0 w
 pub record AreValid (es : List Event) (certificates : List Certificate) : Type 0 where
   pub each : (x : ℕ) → IsNamed es x
       → (c : HasCertificate certificates x)
-      × IsValidOrder (kind_at es x) (calls_on x (denoted es)) c.certificate.order.items
+      × IsValidOrder (kind_of_object es x) (calls_on x (denoted es)) c.certificate.order.items
   pub none_besides : All (λ c. IsNamed es c.object) certificates
 
 -- what is wrong with the certificates at a named object: it has none, or a first fault
@@ -39,7 +39,7 @@ IsRefusalAt es certificates x (NoCertificate y) = (y ≡ x) × (HasCertificate c
 IsRefusalAt es certificates x (StrangeObject y) = ⊥
 IsRefusalAt es certificates x (BadOrder y fault) =
     (y ≡ x) × (c : HasCertificate certificates x)
-    × IsFirstFault (kind_at es x) (calls_on x (denoted es)) c.certificate.order.items fault
+    × IsFirstFault (kind_of_object es x) (calls_on x (denoted es)) c.certificate.order.items fault
 IsRefusalAt es certificates x NoMemory = ⊥
 
 -- nothing is wrong at the named objects below x

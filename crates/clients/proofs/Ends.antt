@@ -21,8 +21,8 @@ use Rattle.desk_invariant.specs.Views.{journal, end_notice, seen_of, IsAccount}
 use Rattle.publication.specs.Handles.{DeskSeen, Known}
 use Rattle.recorder.specs.Records.{Recorded, journal_at, log_at}
 use Rattle.clients.specs.Workloads.{Work, calls_at}
-use Rattle.clients.specs.Made.{MadeOrStopped, IsNew, IsDeskFor, IsDone, ClosedBy, HasMet}
-use Rattle.clients.specs.Made.{HasMadeNoCall, HasRun, HaveTold, Ran}
+use Rattle.clients.specs.Made.{MadeOrStopped, IsNew, IsDeskFor, IsDone, ClosedBy, HasMetClient}
+use Rattle.clients.specs.Made.{HasMadeNoCall, HasRunWork, HaveTold, Ran}
 
 -- a client that has made no call
 pub is_new : (d : DeskSeen) (w : Work) (n : ℕ) (k : Known) → HasMadeNoCall d.id n k → IsDeskFor d w → n < length w.calls
@@ -82,7 +82,7 @@ module _ (d : DeskSeen) (w : Work) (k : Known) (r : Recorded AnyOp AnyReply) (de
       (closed.seen x (subst (λ (ks : List Kind). x < length ks) (sym desk.kinds) low))
 
   -- what the client that was met told of its end is recorded
-  told : (c : ℕ) (m : HasMet w k.knows c) → journal_at r c ≡ journal m.other
+  told : (c : ℕ) (m : HasMetClient w k.knows c) → journal_at r c ≡ journal m.other
   told c m =
       let journals : ℕ → List AnyEvent = λ n. map (event_in (λ (op : AnyOp). op) (λ (r : AnyReply). r))
       (journal_at r n) in
@@ -90,7 +90,7 @@ module _ (d : DeskSeen) (w : Work) (k : Known) (r : Recorded AnyOp AnyReply) (de
       closed.left m.told in
       sym (events c) ∙ (ap journals (sym m.number) ∙ left)
 
-  has_run : (c : ℕ) → c < length w.calls → HasRun w r k.knows c
+  has_run : (c : ℕ) → c < length w.calls → HasRunWork w r k.knows c
   has_run zero low = record {
     made = subst (MadeOrStopped (calls_at w 0)) (sym own) done.worked.made;
     knew = k.knows;

@@ -5,7 +5,7 @@ use Rattle.std.proofs.lemmas.List.{get_or-set_other}
 use Rattle.std.proofs.lemmas.List.Elements.{Contains-push, Contains-append_left}
 use mathlib.Core.Logic.{dite}
 use native.Mathlib.Decide.{ℕ_discrete}
-use Rattle.desk_model.specs.World.{AnyDone, AnyEntry, StartsWith, entries_of, journal_of, served}
+use Rattle.desk_model.specs.World.{AnyDone, AnyEntry, StartsWith, entries_of_client, journal_of, served}
 use Rattle.desk_model.proofs.Entries.{starts_longer, starts_same}
 use Rattle.desk_invariant.specs.declared.board.Own.{Own}
 use Rattle.desk_invariant.specs.declared.board.Leaving.{Leaving}
@@ -15,9 +15,9 @@ use Rattle.desk_invariant.specs.Views.{MayHold}
 use Rattle.combiner.specs.Passes.{KeepsCalls}
 use Rattle.combiner.proofs.Served.{seen_on}
 use Rattle.publication.specs.Handles.{DeskSeen, Known}
-use Rattle.publication.specs.Calls.{Met}
+use Rattle.publication.specs.Calls.{HaveBothMet}
 use Rattle.clients.specs.Workloads.{Work, calls_at}
-use Rattle.clients.specs.Made.{HasMet, HasMetBelow, HasWorked, HaveSeenAlike, Keeps, MadeOrStopped}
+use Rattle.clients.specs.Made.{HasMetClient, HasMetBelow, HasWorked, HaveSeenAlike, Keeps, MadeOrStopped}
 
 pub keeps_on : (v w u : DeskView) → Keeps v w → Keeps w u → Keeps v u
 keeps_on v w u a b = record {
@@ -47,7 +47,7 @@ keeps_seeing v w x l e begins = record {
 
 -- they have met on one object more
 pub alike_more : (i : ℕ) (one other one' other' : Known) → HaveSeenAlike i one.knows other.knows
-    → Met i one other one' other' → HaveSeenAlike (i + 1) one'.knows other'.knows
+    → HaveBothMet i one other one' other' → HaveSeenAlike (i + 1) one'.knows other'.knows
 alike_more i one other one' other' so_far m x low = dite (ℕ_discrete x i)
     (λ same. subst (λ z. seen_of one'.knows z ≡ seen_of other'.knows z) (sym same) (m.seen_first ∙ sym m.seen_second))
     (λ differ.
@@ -59,14 +59,14 @@ alike_more i one other one' other' so_far m x low = dite (ℕ_discrete x i)
 pub same_account : (x : ℕ) (v w : DeskView) (log : List AnyEntry) → KeepsCalls v w → IsAccount x v log
     → IsAccount x w log
 same_account x v w log k =
-    subst (λ (t : ℕ × Own × List AnyDone). (now : List AnyEntry) × (entries_of t.0 log ≡ served x t.0 t.2 ++ now)
+    subst (λ (t : ℕ × Own × List AnyDone). (now : List AnyEntry) × (entries_of_client t.0 log ≡ served x t.0 t.2 ++ now)
     × MayHold x t.0 t.1 now) (λ i. (sym k.number i, sym k.own i, sym k.done i))
 
 pub same_journal : (v w : DeskView) → KeepsCalls v w → journal w ≡ journal v
 same_journal v w k = λ i. journal_of (k.done i) (own_request (k.own i))
 
 -- who was met stays met
-pub still_met : (w : Work) (v u : DeskView) (c : ℕ) → Keeps v u → HasMet w v c → HasMet w u c
+pub still_met : (w : Work) (v u : DeskView) (c : ℕ) → Keeps v u → HasMetClient w v c → HasMetClient w u c
 still_met w v u c k m = record {
   other = m.other;
   number = m.number;
@@ -90,10 +90,10 @@ still_worked d w c k u h kept desk = record {
 }
 
 -- one more was met
-pub met_more : (w : Work) (v u : Known) (n : ℕ) → HasMetBelow w v n → Keeps v.knows u.knows → HasMet w u.knows n
+pub met_more : (w : Work) (v u : Known) (n : ℕ) → HasMetBelow w v n → Keeps v.knows u.knows → HasMetClient w u.knows n
     → HasMetBelow w u (n + 1)
 met_more w v u n before k last c some low = dite (ℕ_discrete c n)
-    (λ same. subst (HasMet w u.knows) (sym same) last)
+    (λ same. subst (HasMetClient w u.knows) (sym same) last)
     (λ differ. still_met w v.knows u.knows c k (before c some (omega arith)))
 
 -- told of the other's end
@@ -106,7 +106,7 @@ keeps_told v l = record {
 pub has_met : (d : DeskSeen) (w : Work) (n : ℕ) (k : Known) (v u : DeskView) → HasWorked d w n k → Keeps k.knows u
     → d.id.kinds ≡ w.kinds → HaveSeenAlike (length d.id.kinds) v u
     → ((x : ℕ) → IsAccount x v (seen_of v x)) → ((x : ℕ) → IsAccount x u (seen_of u x))
-    → HasMet w (after_notice (end_notice u ∷ []) v) n
+    → HasMetClient w (after_notice (end_notice u ∷ []) v) n
 has_met d w n k v u h kept kinds alike first second = record {
   other = u;
   number = kept.calls.number ∙ h.number;

@@ -8,22 +8,22 @@ use Rattle.model.specs.declared.AnyOp.{AnyOp}
 use Rattle.model.specs.Objects.{kind_of}
 use Rattle.seq_objects.specs.declared.kinds.Kinds.{Kinds}
 use Rattle.clients.specs.declared.draws.Draws.{Draws}
-use Rattle.clients.specs.Workloads.{Call, IsCall}
+use Rattle.clients.specs.Workloads.{WorkCall, IsCall}
 use Rattle.seq_objects.specs.Kinds.{kind_in, kinds_of}
-use Rattle.clients.specs.Drawing.{draws_from, op_for, calls_from, pairs_from}
+use Rattle.clients.specs.Drawing.{draws_from, op_for, drawn_calls, pairs_from}
 
 -- more: the calls so far; all: the calls from the stream on
-pub drawn_more : (kinds : Kinds) (m n left : ℕ) (s t : Stream) (d : Draws) (op : AnyOp) (so_far all : List Call)
+pub drawn_more : (kinds : Kinds) (m n left : ℕ) (s t : Stream) (d : Draws) (op : AnyOp) (so_far all : List WorkCall)
     → n ≡ suc left → (d, t) ≡ draws_from m s → op ≡ op_for (kind_in kinds d.object) d
-    → so_far ++ calls_from kinds m n s ≡ all → (so_far ++ (d.object, op) ∷ []) ++ calls_from kinds m left t ≡ all
+    → so_far ++ drawn_calls kinds m n s ≡ all → (so_far ++ (d.object, op) ∷ []) ++ drawn_calls kinds m left t ≡ all
 drawn_more kinds m n left s t d op so_far all one_less e op_is is =
-    append_assoc so_far ((d.object, op) ∷ []) (calls_from kinds m left t)
-    ∙ ap (λ (o : AnyOp). so_far ++ (d.object, o) ∷ calls_from kinds m left t) op_is
+    append_assoc so_far ((d.object, op) ∷ []) (drawn_calls kinds m left t)
+    ∙ ap (λ (o : AnyOp). so_far ++ (d.object, o) ∷ drawn_calls kinds m left t) op_is
     ∙ ap (λ (p : Draws × Stream). so_far ++ (p.0.object, op_for (kind_in kinds p.0.object) p.0)
-    ∷ calls_from kinds m left p.1) e
-    ∙ ap (λ (k : ℕ). so_far ++ calls_from kinds m k s) (sym one_less) ∙ is
+    ∷ drawn_calls kinds m left p.1) e
+    ∙ ap (λ (k : ℕ). so_far ++ drawn_calls kinds m k s) (sym one_less) ∙ is
 
-pub pair_more : (take free : AnyOp) (m n left : ℕ) (s t u : Stream) (d e : Draws) (so_far all : List Call)
+pub pair_more : (take free : AnyOp) (m n left : ℕ) (s t u : Stream) (d e : Draws) (so_far all : List WorkCall)
     → n ≡ suc left → (d, t) ≡ draws_from m s → (e, u) ≡ draws_from m t
     → so_far ++ pairs_from take free m n s ≡ all
     → ((so_far ++ (d.object, take) ∷ []) ++ (d.object, free) ∷ []) ++ pairs_from take free m left u ≡ all

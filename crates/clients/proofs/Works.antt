@@ -7,12 +7,12 @@ use Rattle.desk_model.specs.World.{AnyEvent, AnyAnswer, journal_of}
 use Rattle.desk_invariant.specs.declared.board.Own.TheVariants as own
 use Rattle.desk_invariant.specs.declared.board.DeskView.{DeskView}
 use Rattle.desk_invariant.specs.Views.{own_request, journal}
-use Rattle.combiner.specs.Waits.{Called, IsOutstanding}
-use Rattle.clients.specs.Workloads.{Call}
+use Rattle.combiner.specs.Waits.{Called, IsStillOutstanding}
+use Rattle.clients.specs.Workloads.{WorkCall}
 use Rattle.clients.specs.Made.{Made, Worked}
 
 -- an idle client made these calls, in order, and is idle again
-pub record HasMade (cs : List Call) (v w : DeskView) : Type 0 where
+pub record HasMade (cs : List WorkCall) (v w : DeskView) : Type 0 where
   pub number : w.number ≡ v.number
   pub kinds : w.kinds ≡ v.kinds
   pub idle : w.own ≡ own.Idle
@@ -22,7 +22,7 @@ pub record HasMade (cs : List Call) (v w : DeskView) : Type 0 where
   pub made : Made cs events
 
 -- one call more
-made_more : (cs : List Call) (c : Call) (es : List AnyEvent) (t u : ℕ) (a : AnyAnswer) → Made cs es
+made_more : (cs : List WorkCall) (c : WorkCall) (es : List AnyEvent) (t u : ℕ) (a : AnyAnswer) → Made cs es
     → Made (cs ++ c ∷ []) (es ++ Invoked t c.0 c.1 ∷ Returned u a ∷ [])
 made_more [] c es t u a made = (t, u, a, [], ap (λ z. z ++ Invoked t c.0 c.1 ∷ Returned u a ∷ []) made, refl)
 made_more (d ∷ cs) c es t u a (t', u', b, rest, is, made) = (
@@ -34,7 +34,8 @@ made_more (d ∷ cs) c es t u a (t', u', b, rest, is, made) = (
   made_more cs c rest t u a made,
 )
 
-pub one_made : (cs : List Call) (c : Call) (v w x : DeskView) (a : AnyAnswer) → HasMade cs v w → Called w c.0 c.1 a x
+pub one_made : (cs : List WorkCall) (c : WorkCall) (v w x : DeskView) (a : AnyAnswer) → HasMade cs v w
+    → Called w c.0 c.1 a x
     → HasMade (cs ++ c ∷ []) v x
 one_made cs c v w x a k d = let n = k.calls in let m = d.calls in record {
   number = d.number ∙ k.number;
@@ -54,23 +55,25 @@ parts (x ∷ xs) zero d h = refl
 parts (x ∷ xs) (suc i) d h = ap (λ z. x ∷ z) (parts xs i d (omega arith))
 
 -- the call i is outstanding, after those that were made
-pub stopped : (cs : List Call) (i : ℕ) (none : Call) (v w x : DeskView) → i < length cs → HasMade (take i cs) v w
-    → IsOutstanding w (get_or cs i none).0 (get_or cs i none).1 x → Worked cs v x
-stopped cs i none v w x low k o = let u : DeskView = o.0 in let p = o.1 in let c : Call = get_or cs i none in record {
-  number = o.2.number ∙ (ap (λ z. z.number) p.knows ∙ k.number);
-  kinds = o.2.kinds ∙ (ap (λ z. z.kinds) p.knows ∙ k.kinds);
-  events = k.events ++ Invoked p.ticket c.0 c.1 ∷ [];
-  journal = (λ j. journal_of (o.2.done j) (own_request (o.2.own j)))
-      ∙ (p.journal ∙ (ap (λ z. z ++ Invoked p.ticket c.0 c.1 ∷ []) k.journal
-      ∙ append_assoc (journal v) k.events (Invoked p.ticket c.0 c.1 ∷ [])));
-  made = inr record {
-    front = take i cs;
-    call = c;
-    later = drop (suc i) cs;
-    calls = parts cs i none low;
-    events = k.events;
-    made = k.made;
-    ticket = p.ticket;
-    last = refl;
-  };
-}
+pub stopped : (cs : List WorkCall) (i : ℕ) (none : WorkCall) (v w x : DeskView) → i < length cs
+    → HasMade (take i cs) v w
+    → IsStillOutstanding w (get_or cs i none).0 (get_or cs i none).1 x → Worked cs v x
+stopped cs i none v w x low k o = let u : DeskView = o.0 in let p = o.1 in let c : WorkCall = get_or cs i none in
+    record {
+      number = o.2.number ∙ (ap (λ z. z.number) p.knows ∙ k.number);
+      kinds = o.2.kinds ∙ (ap (λ z. z.kinds) p.knows ∙ k.kinds);
+      events = k.events ++ Invoked p.ticket c.0 c.1 ∷ [];
+      journal = (λ j. journal_of (o.2.done j) (own_request (o.2.own j)))
+          ∙ (p.journal ∙ (ap (λ z. z ++ Invoked p.ticket c.0 c.1 ∷ []) k.journal
+          ∙ append_assoc (journal v) k.events (Invoked p.ticket c.0 c.1 ∷ [])));
+      made = inr record {
+        front = take i cs;
+        call = c;
+        later = drop (suc i) cs;
+        calls = parts cs i none low;
+        events = k.events;
+        made = k.made;
+        ticket = p.ticket;
+        last = refl;
+      };
+    }

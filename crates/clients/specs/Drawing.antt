@@ -19,8 +19,8 @@ use Rattle.model.specs.Objects.{kind_of}
 use Rattle.clients.specs.declared.draws.Draws.{Draws}
 use Rattle.clients.specs.declared.kinds.Operations.{Operations}
 use Rattle.clients.specs.declared.kinds.Operations.TheVariants.{Two, Three, Pair}
-use Rattle.clients.specs.Kinds.{operations_of}
-use Rattle.clients.specs.Workloads.{Call}
+use Rattle.clients.specs.Kinds.{operations_with}
+use Rattle.clients.specs.Workloads.{WorkCall}
 
 -- the words that a generator will give from now on
 abbrev pub stream_at : Lcg → Stream
@@ -47,26 +47,26 @@ AreOf kind (Three a b c) = (kind_of a ≡ kind) × (kind_of b ≡ kind) × (kind
 AreOf kind (Pair take free) = (kind_of take ≡ kind) × (kind_of free ≡ kind)
 
 -- the operation at a place, counted around
-abbrev pub operation_at : Operations → ℕ → AnyOp
-operation_at (Two a b) place = if place % 2 == 0 then a else b
-operation_at (Three a b c) place =
+abbrev pub operation_drawn : Operations → ℕ → AnyOp
+operation_drawn (Two a b) place = if place % 2 == 0 then a else b
+operation_drawn (Three a b c) place =
     if place % 3 == 0 then a else if place % 3 == 1 then b else c
-operation_at (Pair take free) place = if place % 2 == 0 then take else free
+operation_drawn (Pair take free) place = if place % 2 == 0 then take else free
 
 -- the operation that the numbers make on an object of this kind
 abbrev pub op_for : Kind → Draws → AnyOp
-op_for kind d = operation_at (operations_of kind (pos d.first) (pos d.second)) d.choice
+op_for kind d = operation_drawn (operations_with kind (pos d.first) (pos d.second)) d.choice
 
 -- this many calls
-abbrev pub calls_from : Kinds → ℕ → ℕ → Stream → List Call
-calls_from kinds objects zero s = []
-calls_from kinds objects (suc n) s =
+abbrev pub drawn_calls : Kinds → ℕ → ℕ → Stream → List WorkCall
+drawn_calls kinds objects zero s = []
+drawn_calls kinds objects (suc n) s =
     let d = draws_from objects s in
-    (d.0.object, op_for (kind_in kinds d.0.object) d.0) ∷ calls_from kinds objects n d.1
+    (d.0.object, op_for (kind_in kinds d.0.object) d.0) ∷ drawn_calls kinds objects n d.1
 
 -- this many pairs of calls on objects of one kind: each takes one that was drawn, and frees it; the
 -- second draws its numbers too
-abbrev pub pairs_from : (take free : AnyOp) → ℕ → ℕ → Stream → List Call
+abbrev pub pairs_from : (take free : AnyOp) → ℕ → ℕ → Stream → List WorkCall
 pairs_from take free objects zero s = []
 pairs_from take free objects (suc n) s =
     let d = draws_from objects s in
@@ -84,15 +84,15 @@ pair_in operations = None
 
 -- the pair that a client calls on objects of one kind that has pairs: both values are its number
 abbrev pub pair_for : Kinds → ℕ → Option (AnyOp × AnyOp)
-pair_for (One kind) client = pair_in (operations_of kind (pos client) (pos client))
+pair_for (One kind) client = pair_in (operations_with kind (pos client) (pos client))
 pair_for kinds client = None
 
 -- this many calls from a stream, or whole pairs of calls if there is a pair
-abbrev pub calls_or_pairs : Option (AnyOp × AnyOp) → Kinds → ℕ → ℕ → Stream → List Call
-calls_or_pairs None kinds objects count s = calls_from kinds objects count s
+abbrev pub calls_or_pairs : Option (AnyOp × AnyOp) → Kinds → ℕ → ℕ → Stream → List WorkCall
+calls_or_pairs None kinds objects count s = drawn_calls kinds objects count s
 calls_or_pairs (Some pair) kinds objects count s = pairs_from pair.0 pair.1 objects (count / 2) s
 
 -- the calls of a client
-abbrev pub client_calls : Kinds → ℕ → ℕ → ℕ → ℕ → List Call
+abbrev pub client_calls : Kinds → ℕ → ℕ → ℕ → ℕ → List WorkCall
 client_calls kinds objects count seed client =
     calls_or_pairs (pair_for kinds client) kinds objects count (stream_for seed client)

@@ -11,13 +11,13 @@ use Rattle.clients.specs.declared.kinds.Operations.{Operations}
 use Rattle.clients.specs.declared.kinds.Operations.TheVariants.{Two, Three, Pair}
 
 -- the operations of a kind with two values
-abbrev pub operations_of : Kind → ℤ → ℤ → Operations
-operations_of Queue v w = Two (Enqueue v) Dequeue
-operations_of Stack v w = Two (Push v) Pop
-operations_of Heap v w = Two (Insert v) ExtractMin
-operations_of Register v w = Three (Write v) Read (Cas v w)
-operations_of Map v w = Three (Put v w) (Get v) (Del v)
-operations_of Mutex v w = Pair Acquire Release
-operations_of Set v w = Three (Add v) (Remove v) (Has v)
-operations_of Counter v w = Two (FetchAdd v) GetCount
-operations_of Lock v w = Pair (LockBy v) (UnlockBy v)
+abbrev pub operations_with : Kind → ℤ → ℤ → Operations
+operations_with Queue v w = Two (Enqueue v) Dequeue
+operations_with Stack v w = Two (Push v) Pop
+operations_with Heap v w = Two (Insert v) ExtractMin
+operations_with Register v w = Three (Write v) Read (Cas v w)
+operations_with Map v w = Three (Put v w) (Get v) (Del v)
+operations_with Mutex v w = Pair Acquire Release
+operations_with Set v w = Three (Add v) (Remove v) (Has v)
+operations_with Counter v w = Two (FetchAdd v) GetCount
+operations_with Lock v w = Pair (LockBy v) (UnlockBy v)

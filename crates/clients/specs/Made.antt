@@ -14,13 +14,13 @@ use Rattle.desk_invariant.specs.declared.board.DeskView.{DeskView}
 use Rattle.desk_invariant.specs.Views.{journal, end_notice, seen_of, IsAccount}
 use Rattle.combiner.specs.Passes.{KeepsCalls}
 use Rattle.publication.specs.Handles.{DeskId, DeskSeen, Known}
-use Rattle.publication.specs.Calls.{Closed}
+use Rattle.publication.specs.Calls.{IsClosedRecord}
 use Rattle.recorder.specs.Records.{Recorded, journal_at, log_at}
-use Rattle.clients.specs.Workloads.{Work, Call, calls_at, IsCall}
+use Rattle.clients.specs.Workloads.{Work, WorkCall, calls_at, IsCall}
 use Rattle.desk_model.specs.Limits.{max_calls}
 
 -- the events are those of the calls, in order: the invocation of each, and its return
-abbrev pub Made : List Call → List AnyEvent → Type 0
+abbrev pub Made : List WorkCall → List AnyEvent → Type 0
 Made [] es = es ≡ []
 Made (c ∷ cs) es =
     (t u : ℕ) × (a : AnyAnswer) × (rest : List AnyEvent)
@@ -30,10 +30,10 @@ Made (c ∷ cs) es =
 -- there is the invocation alone, and of the later ones nothing. A client stops in this way if an
 -- allocation of the call fails. The record does not say that one failed, since no clause knows what
 -- the allocator refused: a client that stopped at any call would meet this too.
-pub record IsStopped (cs : List Call) (es : List AnyEvent) : Type 0 where
-  pub front : List Call
-  pub call : Call
-  pub later : List Call
+pub record IsStopped (cs : List WorkCall) (es : List AnyEvent) : Type 0 where
+  pub front : List WorkCall
+  pub call : WorkCall
+  pub later : List WorkCall
   pub calls : cs ≡ front ++ call ∷ later
   pub events : List AnyEvent
   pub made : Made front events
@@ -41,11 +41,11 @@ pub record IsStopped (cs : List Call) (es : List AnyEvent) : Type 0 where
   pub last : es ≡ events ++ Invoked ticket call.0 call.1 ∷ []
 
 -- of all calls, or up to one that did not return
-abbrev pub MadeOrStopped : List Call → List AnyEvent → Type 0
+abbrev pub MadeOrStopped : List WorkCall → List AnyEvent → Type 0
 MadeOrStopped cs es = Made cs es ⊎ IsStopped cs es
 
 -- the client of this desk is idle, and may make these calls, which fit the desk
-pub record MayWork (d : DeskSeen) (c : Known) (cs : List Call) : Type 0 where
+pub record MayWork (d : DeskSeen) (c : Known) (cs : List WorkCall) : Type 0 where
   pub desk : c.desk ≡ d.id
   pub idle : c.knows.own ≡ own.Idle
   pub room : length c.knows.done + length cs ≤ c.desk.quota
@@ -53,7 +53,7 @@ pub record MayWork (d : DeskSeen) (c : Known) (cs : List Call) : Type 0 where
   pub fit : All (IsCall d.id.kinds) cs
 
 -- a client made these calls, in order, or stopped at one, which is outstanding
-pub record Worked (cs : List Call) (v w : DeskView) : Type 0 where
+pub record Worked (cs : List WorkCall) (v w : DeskView) : Type 0 where
   pub number : w.number ≡ v.number
   pub kinds : w.kinds ≡ v.kinds
   pub events : List AnyEvent
@@ -110,7 +110,7 @@ pub record HaveMet (x : ℕ) (v w : DeskView) (log : List AnyEntry) : Type 0 whe
 
 -- The client met c, which had made its calls of the workload, on each object, and was told of its
 -- end.
-pub record HasMet (w : Work) (v : DeskView) (c : ℕ) : Type 0 where
+pub record HasMetClient (w : Work) (v : DeskView) (c : ℕ) : Type 0 where
   pub other : DeskView
   pub number : other.number ≡ c
   pub made : MadeOrStopped (calls_at w c) (journal other)
@@ -127,7 +127,7 @@ HaveTold d last = (c : ℕ) → c < d.clients → c ≢ last.knows.number → Wa
 
 -- the client has met each of the others below n
 abbrev pub HasMetBelow : Work → Known → ℕ → Type 0
-HasMetBelow w k n = (c : ℕ) → 0 < c → c < n → HasMet w k.knows c
+HasMetBelow w k n = (c : ℕ) → 0 < c → c < n → HasMetClient w k.knows c
 
 -- client 0 of the desk has made its calls, or stopped, and has met the others
 pub record IsDone (d : DeskSeen) (w : Work) (k : Known) : Type 0 where
@@ -136,10 +136,11 @@ pub record IsDone (d : DeskSeen) (w : Work) (k : Known) : Type 0 where
 
 -- the client c closed the desk d, with this record
 abbrev pub ClosedBy : DeskSeen → Known → Recorded AnyOp AnyReply → Type 0
-ClosedBy d c r = Closed (λ (op : AnyOp). op) (λ (reply : AnyReply). reply) d c r
+ClosedBy d c r = IsClosedRecord (λ (op : AnyOp). op) (λ (reply : AnyReply). reply) d c r
 
 -- What is recorded of the client c, which client 0 met at the end. `first` is what client 0 knew.
-pub record HasRun (w : Work) (r : Recorded AnyOp AnyReply) (first : DeskView) (c : ℕ) : Type 0 where
+pub record HasRunWork (w : Work) (r : Recorded AnyOp AnyReply) (first : DeskView) (c : ℕ) :
+    Type 0 where
   -- it made its calls, all of them, in order; or those up to one that is pending
   pub made : MadeOrStopped (calls_at w c) (journal_at r c)
   -- what it knew of its calls at the end
@@ -161,7 +162,7 @@ pub record Ran (w : Work) (r : Recorded AnyOp AnyReply) : Type 0 where
   -- Of client 0's calls each log holds just those on its object that were answered by a reply, each
   -- once and in order, and perhaps the one that is pending.
   pub accounts : (x : ℕ) → IsAccount x knew (log_at r x)
-  pub each : (c : ℕ) → c < length w.calls → HasRun w r knew c
+  pub each : (c : ℕ) → c < length w.calls → HasRunWork w r knew c
   -- the journals of all clients are a well-formed history, and each log is legal, and a valid order
   -- of the calls on its object
   pub sound : IsSoundRecord w.kinds max_calls (journal_at r) (log_at r)

@@ -7,19 +7,19 @@ use Rattle.desk_model.specs.World.{kind_at}
 use Rattle.desk_model.specs.Limits.{max_objects, max_clients, max_calls}
 
 -- a call: the number of its object, and the operation
-abbrev pub Call : Type 0
-Call = ℕ × AnyOp
+abbrev pub WorkCall : Type 0
+WorkCall = ℕ × AnyOp
 
 -- the kind of each object, and the calls of each client in order
 pub record Work : Type 0 where
   pub kinds : List Kind
-  pub calls : List (List Call)
+  pub calls : List (List WorkCall)
 
-abbrev pub calls_at : Work → ℕ → List Call
+abbrev pub calls_at : Work → ℕ → List WorkCall
 calls_at w c = slice_index_or w.calls c []
 
 -- the object is there, and the operation is of its kind
-abbrev pub IsCall : List Kind → Call → Type 0
+abbrev pub IsCall : List Kind → WorkCall → Type 0
 IsCall kinds c = (c.0 < length kinds) × (kind_of c.1 ≡ kind_at kinds c.0)
 
 -- a desk can be made for it

@@ -3,7 +3,7 @@
 ghost use Rattle.std.specs.Prelude.{◌≡◌, ◌<◌, ◌≤◌, ◌*◌, length, All, IfOk, IfSome};
 ghost use Rattle.seq_objects.specs.Kinds.{kinds_of};
 ghost use Rattle.model.specs.Objects.{kind_of};
-ghost use Rattle.clients.specs.Drawing.{calls_from, pairs_from, client_calls, stream_at};
+ghost use Rattle.clients.specs.Drawing.{drawn_calls, pairs_from, client_calls, stream_at};
 ghost use Rattle.clients.specs.Drawing as spec;
 ghost use Rattle.clients.specs.Workloads.{IsCall};
 
@@ -24,7 +24,7 @@ fn draw_calls(
 ) -> Result<Vec<(u32, AnyOp)>, AllocError>
     requires { 0 < objects }
     ensures calls { IfOk result (λ v. v.items
-        ≡ calls_from kinds objects count (stream_at generator.old)) }
+        ≡ drawn_calls kinds objects count (stream_at generator.old)) }
     ensures count { IfOk result (λ v. length v.items ≡ count) }
     ensures fit { IfOk result (λ v. All (IsCall (kinds_of kinds objects)) v.items) }
 {

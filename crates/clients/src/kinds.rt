@@ -18,7 +18,7 @@ pub(crate) enum Operations {
 
 /// The operations of the kind with two values.
 pub(crate) fn operations_of(kind: Kind, v: i64, w: i64) -> Operations
-    ensures operations { result ≡ spec.operations_of kind v w }
+    ensures operations { result ≡ spec.operations_with kind v w }
     ensures kind { AreOf kind result }
 {
     match kind {

@@ -2,7 +2,7 @@
 
 ghost use Rattle.std.specs.Prelude.{◌≡◌, ◌<◌, ℕ, length};
 ghost use Rattle.clients.specs.Workloads.{Work};
-ghost use Rattle.clients.specs.Made.{HasWorked, HasMet, IsDeskFor, Keeps, HaveSeenAlike};
+ghost use Rattle.clients.specs.Made.{HasWorked, HasMetClient, IsDeskFor, Keeps, HaveSeenAlike};
 
 use publication::{Client, Desk};
 use seq_objects::AnyObject;
@@ -38,7 +38,7 @@ pub(crate) fn meet_and_retire(
     ensures desk { result.desk ≡ own.desk }
     ensures kept { Keeps own.knows result.knows }
     ensures met { (w : Work) (c : ℕ) → IsDeskFor desk.now w → HasWorked desk.now w c other →
-        HasMet w result.knows c }
+        HasMetClient w result.knows c }
 {
     let (mut own, other) = meet_on_all(desk, own, other);
     // What both have seen has the calls of each.

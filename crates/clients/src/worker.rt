@@ -3,7 +3,7 @@
 ghost use Rattle.std.specs.Prelude.{◌≡◌, ◌<◌, true, false, length};
 ghost use Rattle.desk_model.specs.World.{AnyAnswer};
 ghost use Rattle.desk_invariant.specs.declared.board.Own.TheVariants.{Idle};
-ghost use Rattle.combiner.specs.Waits.{Called, IsOutstanding};
+ghost use Rattle.combiner.specs.Waits.{Called, IsStillOutstanding};
 ghost use Rattle.clients.specs.Workloads.{IsCall};
 ghost use Rattle.clients.specs.Made.{MayWork, Worked, IsNew, HasWorked};
 
@@ -73,7 +73,7 @@ fn make<R: Wait>(
     ensures desk { result.0.desk ≡ client.desk }
     ensures called { result.1 ≡ true
         → (a : AnyAnswer) × Called client.knows object op a result.0.knows }
-    ensures outstanding { result.1 ≡ false → IsOutstanding client.knows object op result.0.knows }
+    ensures outstanding { result.1 ≡ false → IsStillOutstanding client.knows object op result.0.knows }
 {
     let (client, answered) = call(rt, desk, client, object, op);
     match answered {

@@ -16,7 +16,7 @@ use Rattle.desk_invariant.specs.declared.board.Own.TheVariants as own
 use Rattle.desk_invariant.specs.declared.board.DeskView.{DeskView}
 use Rattle.desk_invariant.specs.Views.{row_place, seen_of, is_waiting, waits_on, after_miss, after_win, after_release}
 use Rattle.publication.specs.Handles.{Holding, Handling}
-use Rattle.publication.specs.Calls.{NotPolled, Got, NotGot, CanDo, kind_held, Answered, IsPutBack}
+use Rattle.publication.specs.Calls.{IsPollMiss, IsPicked, IsPickMiss, CanDoAfter, kind_held, IsAnsweredCall, IsPutBack}
 use Rattle.combiner.specs.declared.passes.Tried.{Tried}
 use Rattle.combiner.specs.declared.passes.Tried.TheVariants as tried
 use Rattle.combiner.specs.Passes.{KeepsCalls, Goes, IsTried, IsSettled, IsSettledBy, IsSettledNow, IsSameBut}
@@ -114,7 +114,7 @@ same_tried p q t s k = subst (λ z. IsTried z t) (sym s.2) (also t k)
 
 -- ---- the try of one row
 
-pub not_goes : (p q : Holding) (row : ℕ) → q.desk ≡ p.desk → q.state ≡ p.state → NotGot p row q → Goes p q
+pub not_goes : (p q : Holding) (row : ℕ) → q.desk ≡ p.desk → q.state ≡ p.state → IsPickMiss p row q → Goes p q
 not_goes p q row d s n = let k = n.knows in record {
   desk = d;
   object = n.object;
@@ -128,7 +128,7 @@ not_goes p q row d s n = let k = n.knows in record {
 waits : (x : ℕ) (o : Own) (q : AnyRequest) → o ≡ own.Waiting q → q.object ≡ x → waits_on x o ≡ true
 waits x o q e on = ap (waits_on x) e ∙ eq-eqb q.object x on
 
-pub not_tried : (p q : Holding) (row : ℕ) → NotGot p row q → row ≡ p.knows.number → IsTried q tried.Nothing
+pub not_tried : (p q : Holding) (row : ℕ) → IsPickMiss p row q → row ≡ p.knows.number → IsTried q tried.Nothing
 not_tried p q row n here r waiting on =
     let k = n.knows in let waiting' : p.knows.own ≡ own.Waiting r = sym (ap (λ z. z.own) k) ∙ waiting in
     let on' : r.object ≡ p.object = on ∙ n.object in
@@ -138,7 +138,7 @@ not_tried p q row n here r waiting on =
 
 pub answered_goes : (p : Holding) (h : Handling) (q : Holding) (row : ℕ) (a : AnyAnswer) → h.desk ≡ p.desk
     → q.desk ≡ h.desk → h.state ≡ p.state
-    → q.state.places ≡ h.state.places → Got p row h → Answered h a q → Goes p q
+    → q.state.places ≡ h.state.places → IsPicked p row h → IsAnsweredCall h a q → Goes p q
 answered_goes p h q row a d d' s s' g k = record {
   desk = d' ∙ d;
   object = k.object ∙ g.object;
@@ -150,15 +150,15 @@ answered_goes p h q row a d d' s s' g k = record {
   ready = λ e. ap (λ z. z.ready) k.knows ∙ or_left _ _ (ap (λ z. z.ready) g.knows ∙ e);
 }
 
-pub answered_tried : (p : Holding) (h : Handling) (q : Holding) (row : ℕ) (a : AnyAnswer) → Got p row h
-    → Answered h a q → row ≡ p.knows.number → IsTried q tried.Answered
+pub answered_tried : (p : Holding) (h : Handling) (q : Holding) (row : ℕ) (a : AnyAnswer) → IsPicked p row h
+    → IsAnsweredCall h a q → row ≡ p.knows.number → IsTried q tried.Answered
 answered_tried p h q row a g k here r waiting on =
     ap (λ z. z.ready) k.knows
     ∙ (ap (λ z. h.knows.ready || z)
     (eq-eqb h.row h.knows.number (g.row ∙ (here ∙ sym (ap (λ z. z.number) g.knows)))) ∙ or-true h.knows.ready)
 
 pub back_goes : (p : Holding) (h : Handling) (q : Holding) (row : ℕ) → h.desk ≡ p.desk → q.desk ≡ h.desk
-    → h.state ≡ p.state → q.state ≡ h.state → Got p row h → IsPutBack h q → Goes p q
+    → h.state ≡ p.state → q.state ≡ h.state → IsPicked p row h → IsPutBack h q → Goes p q
 back_goes p h q row d d' s s' g k = record {
   desk = d' ∙ d;
   object = k.object ∙ g.object;
@@ -170,18 +170,18 @@ back_goes p h q row d d' s s' g k = record {
   ready = λ e. ap (λ z. z.ready) k.knows ∙ (ap (λ z. z.ready) g.knows ∙ e);
 }
 
-pub back_tried : (p : Holding) (h : Handling) (q : Holding) (row : ℕ) → Got p row h → IsPutBack h q
-    → (CanDo (kind_held h) h.log h.request.op → ⊥) → row ≡ p.knows.number → IsTried q tried.PutBack
+pub back_tried : (p : Holding) (h : Handling) (q : Holding) (row : ℕ) → IsPicked p row h → IsPutBack h q
+    → (CanDoAfter (kind_held h) h.log h.request.op → ⊥) → row ≡ p.knows.number → IsTried q tried.PutBack
 back_tried p h q row g k cannot here r waiting can =
     let waits_here : p.knows.own ≡ own.Waiting r =
     sym (ap (λ z. z.own) k.knows ∙ ap (λ z. z.own) g.knows) ∙ waiting in
     let is : h.request ≡ r = g.mine r here waits_here in
-    let kinds : CanDo (kind_at h.knows.kinds q.object) q.log r.op =
-    subst (λ z. CanDo (kind_at z q.object) q.log r.op) (ap (λ z. z.kinds) k.knows) can in
-    let object : CanDo (kind_held h) q.log r.op =
-    subst (λ z. CanDo (kind_at h.knows.kinds z) q.log r.op) k.object kinds in
-    let log : CanDo (kind_held h) h.log r.op = subst (λ z. CanDo (kind_held h) z r.op) k.log object in
-    cannot (subst (λ (z : AnyRequest). CanDo (kind_held h) h.log z.op) (sym is) log)
+    let kinds : CanDoAfter (kind_at h.knows.kinds q.object) q.log r.op =
+    subst (λ z. CanDoAfter (kind_at z q.object) q.log r.op) (ap (λ z. z.kinds) k.knows) can in
+    let object : CanDoAfter (kind_held h) q.log r.op =
+    subst (λ z. CanDoAfter (kind_at h.knows.kinds z) q.log r.op) k.object kinds in
+    let log : CanDoAfter (kind_held h) h.log r.op = subst (λ z. CanDoAfter (kind_held h) z r.op) k.log object in
+    cannot (subst (λ (z : AnyRequest). CanDoAfter (kind_held h) h.log z.op) (sym is) log)
 
 -- ---- the own call is settled
 
@@ -244,6 +244,6 @@ keeps_learnt c x p q v opened on begins g is =
 pub keeps_missed : (x : ℕ) (v w : DeskView) → w ≡ after_miss x v → KeepsCalls v w
 keeps_missed x v w is = keeps_same v w _ is (keeps_held v)
 
-pub keeps_unpolled : (v w : DeskView) → NotPolled v w → KeepsCalls v w
+pub keeps_unpolled : (v w : DeskView) → IsPollMiss v w → KeepsCalls v w
 keeps_unpolled v w n = ⊎_elim (λ (a : (is_waiting v.own ≡ false) × (w ≡ v)). keeps_same v w v a.1 (keeps_all v))
     (λ (b : (w ≡ after_miss (row_place v.number) v) × (v.ready ≡ false)). keeps_same v w _ b.0 (keeps_held v)) n

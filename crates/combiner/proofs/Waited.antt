@@ -3,19 +3,20 @@
 use Rattle.std.proofs.Common.{◌≡◌, ℕ, ◌+◌, ◌<◌, [], ◌∷◌, ◌++◌, All, length, sym, ap, subst, ◌∙◌, length-append}
 use Rattle.std.proofs.Common.{append_assoc}
 use Rattle.model.specs.declared.AnyOp.{AnyOp}
-use Rattle.desk_model.specs.World.{AnyEntry, AnyRequest, AnyAnswer, kind_at, logged, entries_of, served, journal_of}
-use Rattle.desk_model.specs.World.{IsLegal, StartsWith}
+use Rattle.desk_model.specs.World.{AnyEntry, AnyRequest, AnyAnswer, kind_at, logged, entries_of_client, served}
+use Rattle.desk_model.specs.World.{journal_of}
+use Rattle.desk_model.specs.World.{IsLegalLog, StartsWith}
 use Rattle.desk_model.proofs.Entries.{starts_longer}
 use Rattle.desk_model.specs.declared.JournalEvent.TheVariants.{Invoked, Returned}
 use Rattle.desk_invariant.specs.declared.board.DeskView.{DeskView}
 use Rattle.desk_invariant.specs.declared.board.Own.TheVariants as own
 use Rattle.desk_invariant.specs.Views.{journal, own_request, seen_of}
-use Rattle.publication.specs.Calls.{Posted, Polled, NotPolled}
+use Rattle.publication.specs.Calls.{IsPosted, IsPollAnswer, IsPollMiss}
 use Rattle.combiner.specs.Passes.{KeepsCalls}
 use Rattle.combiner.specs.Waits.{Called, Returns, IsLogged}
 use Rattle.combiner.proofs.Served.{seen_on, keeps_on, keeps_unpolled}
 
-pub returned : (v u w : DeskView) (a : AnyAnswer) → KeepsCalls v u → Polled u a w → Returns v a w
+pub returned : (v u w : DeskView) (a : AnyAnswer) → KeepsCalls v u → IsPollAnswer u a w → Returns v a w
 returned v u w a k p =
     let done : length w.done ≡ length u.done + 1 =
     ap (λ (z : DeskView). length z.done) p.knows ∙ length-append u.done _ in record {
@@ -31,15 +32,15 @@ returned v u w a k p =
           (subst (λ z. StartsWith (seen_of z x) (seen_of u x)) (sym p.knows)
           (seen_on u.seen p.request.object p.log p.begins x)) (k.seen x);
       logged = record {
-        legal = subst (IsLegal (kind_at v.kinds p.request.object)) (sym p.seen)
-            (subst (λ z. IsLegal (kind_at z p.request.object) p.log) k.kinds p.legal);
-        counted = (λ i. entries_of (sym k.number i) (p.seen i))
+        legal = subst (IsLegalLog (kind_at v.kinds p.request.object)) (sym p.seen)
+            (subst (λ z. IsLegalLog (kind_at z p.request.object) p.log) k.kinds p.legal);
+        counted = (λ i. entries_of_client (sym k.number i) (p.seen i))
             ∙ (p.counted ∙ λ i. served p.request.object (k.number i) (k.done i) ++ logged (k.number i) p.request a);
         later = subst (All (λ (e : AnyEntry). e.ticket < p.ticket)) (sym p.seen) p.later;
       };
     }
 
-pub called : (v u w : DeskView) (object : ℕ) (op : AnyOp) (a : AnyAnswer) → Posted v object op u → Returns u a w
+pub called : (v u w : DeskView) (object : ℕ) (op : AnyOp) (a : AnyAnswer) → IsPosted v object op u → Returns u a w
     → Called v object op a w
 called v u w object op a p r = record {
   invoked = p.ticket;
@@ -62,6 +63,6 @@ called v u w object op a p r = record {
 
 -- A round without an answer keeps the client's calls (v: before the loop; u: before the round; p: after the poll; e:
 -- after the enlisting; w: after the round).
-pub keeps_round : (v u p e w : DeskView) → KeepsCalls v u → NotPolled u p → e ≡ p → KeepsCalls e w → KeepsCalls v w
+pub keeps_round : (v u p e w : DeskView) → KeepsCalls v u → IsPollMiss u p → e ≡ p → KeepsCalls e w → KeepsCalls v w
 keeps_round v u p e w before none same after =
     keeps_on v u w before (keeps_on u p w (keeps_unpolled u p none) (subst (λ z. KeepsCalls z w) same after))

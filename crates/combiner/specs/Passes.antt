@@ -6,7 +6,7 @@ use Rattle.desk_invariant.specs.declared.board.DeskView.{DeskView}
 use Rattle.desk_invariant.specs.Views.{seen_of, after_win, after_release}
 use Rattle.publication_list.specs.Calls.{WalkerSeen}
 use Rattle.publication.specs.Handles.{Holding}
-use Rattle.publication.specs.Calls.{CanDo}
+use Rattle.publication.specs.Calls.{CanDoAfter}
 use Rattle.combiner.specs.declared.passes.Combined.{Combined}
 use Rattle.combiner.specs.declared.passes.Combined.TheVariants as combined
 use Rattle.combiner.specs.declared.passes.Tried.{Tried}
@@ -25,7 +25,7 @@ pub record KeepsCalls (v w : DeskView) : Type 0 where
 abbrev pub IsSettledBy : ℕ → List AnyEntry → DeskView → Type 0
 IsSettledBy x log v =
     (q : AnyRequest) → v.own ≡ own.Waiting q → q.object ≡ x
-    → (v.ready ≡ true) ⊎ (CanDo (kind_at v.kinds x) log q.op → ⊥)
+    → (v.ready ≡ true) ⊎ (CanDoAfter (kind_at v.kinds x) log q.op → ⊥)
 
 -- A call of the client on the object x that is outstanding is known to be answered; or the object
 -- cannot do it after the log that the client has seen.
@@ -58,7 +58,7 @@ pub record Goes (p q : Holding) : Type 0 where
 abbrev pub IsTried : Holding → Tried → Type 0
 IsTried p tried.PutBack =
     (q : AnyRequest) → p.knows.own ≡ own.Waiting q
-    → CanDo (kind_at p.knows.kinds p.object) p.log q.op → ⊥
+    → CanDoAfter (kind_at p.knows.kinds p.object) p.log q.op → ⊥
 IsTried p t =
     (q : AnyRequest) → p.knows.own ≡ own.Waiting q → q.object ≡ p.object → p.knows.ready ≡ true
 

@@ -1,14 +1,15 @@
 -- What a call that waited for its answer did.
 use Rattle.std.specs.Prelude.{◌≡◌, ℕ, ◌+◌, ◌<◌, [], ◌∷◌, ◌++◌, length, All}
 use Rattle.model.specs.declared.AnyOp.{AnyOp}
-use Rattle.desk_model.specs.World.{AnyRequest, AnyAnswer, kind_at, logged, entries_of, served}
-use Rattle.desk_model.specs.World.{IsLegal, StartsWith}
+use Rattle.desk_model.specs.World.{AnyRequest, AnyAnswer, kind_at, logged, entries_of_client}
+use Rattle.desk_model.specs.World.{served}
+use Rattle.desk_model.specs.World.{IsLegalLog, StartsWith}
 use Rattle.desk_model.specs.declared.JournalEvent.TheVariants.{Invoked, Returned}
 use Rattle.desk_invariant.specs.declared.board.Own.TheVariants as own
 use Rattle.desk_invariant.specs.declared.board.DeskView.{DeskView}
 use Rattle.desk_invariant.specs.Views.{journal, seen_of}
 use Rattle.publication.specs.Handles.{DeskSeen, Known}
-use Rattle.publication.specs.Calls.{Posted, PostRefused}
+use Rattle.publication.specs.Calls.{IsPosted, IsPostRefusal}
 use Rattle.combiner.specs.Passes.{KeepsCalls}
 use Rattle.combiner.specs.declared.waiting.CallFault.{CallFault}
 use Rattle.combiner.specs.declared.waiting.CallFault.TheVariants as fault
@@ -18,8 +19,8 @@ use Rattle.combiner.specs.declared.waiting.CallFault.TheVariants as fault
 -- returned.
 pub record IsLogged (v : DeskView) (request : AnyRequest) (a : AnyAnswer) (returned : ℕ)
     (w : DeskView) : Type 0 where
-  pub legal : IsLegal (kind_at v.kinds request.object) (seen_of w request.object)
-  pub counted : entries_of v.number (seen_of w request.object)
+  pub legal : IsLegalLog (kind_at v.kinds request.object) (seen_of w request.object)
+  pub counted : entries_of_client v.number (seen_of w request.object)
       ≡ served request.object v.number v.done ++ logged v.number request a
   pub later : All (λ e. e.ticket < returned) (seen_of w request.object)
 
@@ -52,11 +53,11 @@ pub record Called (v : DeskView) (object : ℕ) (op : AnyOp) (a : AnyAnswer) (w 
     pub logged : IsLogged v (record { object = object; ticket = invoked; op = op }) a returned w
 
 -- the call was posted, and is outstanding still
-abbrev pub IsOutstanding : DeskView → ℕ → AnyOp → DeskView → Type 0
-IsOutstanding v object op w = (u : DeskView) × Posted v object op u × KeepsCalls u w
+abbrev pub IsStillOutstanding : DeskView → ℕ → AnyOp → DeskView → Type 0
+IsStillOutstanding v object op w = (u : DeskView) × IsPosted v object op u × KeepsCalls u w
 
 -- why the call on the object x was not answered: it was not posted, and the client is as it was; or
 -- an allocation failed
 abbrev pub Faulted : DeskSeen → Known → ℕ → AnyOp → CallFault → Known → Type 0
-Faulted d c x op (fault.Post e) k = (k ≡ c) × PostRefused d c x op e
-Faulted d c x op fault.NoMemory k = IsOutstanding c.knows x op k.knows
+Faulted d c x op (fault.Post e) k = (k ≡ c) × IsPostRefusal d c x op e
+Faulted d c x op fault.NoMemory k = IsStillOutstanding c.knows x op k.knows

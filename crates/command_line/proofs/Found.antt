@@ -15,7 +15,7 @@ use Rattle.clap.specs.declared.error.kind.ErrorKind.TheVariants.{OutOfMemory}
 use Rattle.clap.specs.declared.parser.matches.ArgMatches.{ArgMatches}
 use Rattle.clap.specs.declared.parser.matches.ArgMatches.TheViews.{out-ArgMatches, out-SubCommand}
 use Rattle.command_line.specs.Command.{command}
-use Rattle.command_line.specs.Lines.{AskFor, Finds, IsFault, IsClapFaultFor, IsLine, IsRead, AreWordsRefused}
+use Rattle.command_line.specs.Lines.{AskFor, Finds, IsLineFault, IsClapFaultFor, IsLine, IsLineRead, AreWordsRefused}
 use Rattle.command_line.specs.Lines.{verb_named}
 use Rattle.command_line.specs.declared.asking.Line.{Line}
 use Rattle.command_line.specs.declared.asking.LineFault.{LineFault}
@@ -64,11 +64,11 @@ module _ (m : Option (Text × List Row)) (name : Text) (rows : List Row) (entere
         let v : f.verb ≡ verb = cc (n, named) in
         none l (subst (λ w. IsLine w rows l) v (subst (λ rs. IsLine f.verb rs l) s.1 f.line_is))
 
-    pub finds : (r : Result Line NoLine) → IsRead verb rows r → IfOk r (Finds m)
+    pub finds : (r : Result Line NoLine) → IsLineRead verb rows r → IfOk r (Finds m)
     finds (Ok l) is = record { name = name; rows = rows; entered = entered; verb = verb; named = named; line_is = is }
     finds (Err u) none = tt
 
-    pub finds_none : (r : Result Line NoLine) → IsRead verb rows r
+    pub finds_none : (r : Result Line NoLine) → IsLineRead verb rows r
         → IfErr r (λ u. u ≢ NoMemory → (l : Line) → Finds m l → ⊥)
     finds_none (Ok l) is = tt
     finds_none (Err u) none = λ other. no_line (none other)
@@ -90,7 +90,7 @@ memory_fault said.NoMemory h = refl
 
 module _ (a : App) (words : List Text) (is : a ≡ command) where
   pub refused : (e : Error) (f : LineFault) → (is_simple_and_free a ≡ true → HasKind (fault_of a words) e)
-      → IsClapFaultFor (kind_of e) f → IsFault words f
+      → IsClapFaultFor (kind_of e) f → IsLineFault words f
   refused e f h k = elim (subst (λ a. is_simple_and_free a ≡ true → HasKind (fault_of a words) e) is h simple) [
     | inl memory ↦ inl (memory_fault f (subst (λ x. IsClapFaultFor x f) memory k))
     | inr among ↦ inr (inl (kind_of e, among, k))
@@ -109,7 +109,7 @@ module _ (a : App) (words : List Text) (is : a ≡ command) where
 
       unfit : (f : LineFault) → ((l : Line) → Finds (subcommand_rows_of m) l → ⊥)
           → (f ≢ said.NoMemory → AreWordsRefused f)
-          → IsFault words f
+          → IsLineFault words f
       unfit (said.Help t) none refuses = absurd (refuses (λ e. cc))
       unfit (said.Refused t) none refuses =
           inr (inr (record
@@ -118,7 +118,7 @@ module _ (a : App) (words : List Text) (is : a ≡ command) where
 
       pub not_read : (u : NoLine) (f : LineFault) → (u ≡ NoMemory → f ≡ said.NoMemory)
           → (f ≢ said.NoMemory → AreWordsRefused f)
-          → (u ≢ NoMemory → (l : Line) → Finds (subcommand_rows_of m) l → ⊥) → IsFault words f
+          → (u ≢ NoMemory → (l : Line) → Finds (subcommand_rows_of m) l → ⊥) → IsLineFault words f
       not_read NoMemory f memory refuses none = inl (memory refl)
       not_read Words f memory refuses none = unfit f (none (λ e. cc)) refuses
       not_read (Value name takes) f memory refuses none = unfit f (none (λ e. cc)) refuses

@@ -105,8 +105,8 @@ abbrev pub rows_in : ArgMatches → List Row
 rows_in m = rows_of (found_of m)
 
 -- the line of this command that was read, or there is none, unless an allocation failed
-abbrev pub IsRead : Verb → List Row → Result Line NoLine → Type 0
-IsRead v rows r =
+abbrev pub IsLineRead : Verb → List Row → Result Line NoLine → Type 0
+IsLineRead v rows r =
     MatchResult r (IsLine v rows)
     (λ u. u ≢ unread.NoMemory → (line : Line) → IsLine v rows line → ⊥)
 
@@ -156,8 +156,8 @@ pub record IsUnfit (words : List Text) (fault : LineFault) : Type 0 where
 
 -- An allocation failed, or clap refuses the words with an error of a kind for which the fault is,
 -- or what it finds in them fits no line.
-abbrev pub IsFault : List Text → LineFault → Type 0
-IsFault words fault =
+abbrev pub IsLineFault : List Text → LineFault → Type 0
+IsLineFault words fault =
     (fault ≡ NoMemory)
     ⊎ ((k : ErrorKind) × IsAmong k (fault_of command words) × IsClapFaultFor k fault)
     ⊎ IsUnfit words fault

@@ -21,7 +21,7 @@ use std::convert::AsStr;
 /// Returns what the arguments ask for, the program's name being the first of them.
 pub fn line<S: AsStr>(alloc: Global, words: &[S]) -> Result<Line, LineFault>
     ensures { MatchResult result (spec.AskFor (map S.text words.now))
-        (spec.IsFault (map S.text words.now)) }
+        (spec.IsLineFault (map S.text words.now)) }
 {
     match command(alloc)?.try_get_matches_from(words) {
         Ok(matches) => match read_line(alloc, &matches) {

@@ -128,7 +128,7 @@ fn files_of(alloc: Global, found: &ArgMatches<'_>, second: &str) -> Result<(Stri
 }
 
 fn check_of(alloc: Global, found: &ArgMatches<'_>) -> Result<Line, NoLine>
-    ensures { spec.IsRead Verb.Check (rows_in found.now) result }
+    ensures { spec.IsLineRead Verb.Check (rows_in found.now) result }
 {
     let (history, certificates) = files_of(alloc, found, "CERTS")?;
     let workers = number_of(found, "workers", WORKERS)? as u32;
@@ -140,7 +140,7 @@ fn check_of(alloc: Global, found: &ArgMatches<'_>) -> Result<Line, NoLine>
 }
 
 fn search_of(alloc: Global, found: &ArgMatches<'_>) -> Result<Line, NoLine>
-    ensures { spec.IsRead Verb.Search (rows_in found.now) result }
+    ensures { spec.IsLineRead Verb.Search (rows_in found.now) result }
 {
     let history = file_of(alloc, found, "HISTORY")?;
     let steps = number_of(found, "steps", STEPS)? as u32;
@@ -153,7 +153,7 @@ fn search_of(alloc: Global, found: &ArgMatches<'_>) -> Result<Line, NoLine>
 }
 
 fn refute_of(alloc: Global, found: &ArgMatches<'_>) -> Result<Line, NoLine>
-    ensures { spec.IsRead Verb.Refute (rows_in found.now) result }
+    ensures { spec.IsLineRead Verb.Refute (rows_in found.now) result }
 {
     let (history, reasons) = files_of(alloc, found, "REASONS")?;
     let steps = number_of(found, "steps", STEPS)? as u32;
@@ -165,7 +165,7 @@ fn refute_of(alloc: Global, found: &ArgMatches<'_>) -> Result<Line, NoLine>
 }
 
 fn verify_of(alloc: Global, found: &ArgMatches<'_>) -> Result<Line, NoLine>
-    ensures { spec.IsRead Verb.Verify (rows_in found.now) result }
+    ensures { spec.IsLineRead Verb.Verify (rows_in found.now) result }
 {
     let (history, evidence) = files_of(alloc, found, "EVIDENCE")?;
     let steps = number_of(found, "steps", STEPS)? as u32;
@@ -199,20 +199,20 @@ fn options_of(found: &ArgMatches<'_>) -> Result<RunOptions, NoLine>
 }
 
 fn run_of(found: &ArgMatches<'_>) -> Result<Line, NoLine>
-    ensures { spec.IsRead Verb.Run (rows_in found.now) result }
+    ensures { spec.IsLineRead Verb.Run (rows_in found.now) result }
 {
     Ok(Line::Run(options_of(found)?))
 }
 
 fn simulate_of(alloc: Global, found: &ArgMatches<'_>) -> Result<Line, NoLine>
-    ensures { spec.IsRead Verb.Simulate (rows_in found.now) result }
+    ensures { spec.IsLineRead Verb.Simulate (rows_in found.now) result }
 {
     let schedule = file_of(alloc, found, "SCHEDULE")?;
     Ok(Line::Simulate { schedule })
 }
 
 fn split_of(alloc: Global, found: &ArgMatches<'_>) -> Result<Line, NoLine>
-    ensures { spec.IsRead Verb.Split (rows_in found.now) result }
+    ensures { spec.IsLineRead Verb.Split (rows_in found.now) result }
 {
     let (history, folder) = files_of(alloc, found, "FOLDER")?;
     let shards = number_of(found, "shards", SHARDS)? as u32;
@@ -224,7 +224,7 @@ fn split_of(alloc: Global, found: &ArgMatches<'_>) -> Result<Line, NoLine>
 }
 
 fn merge_of(alloc: Global, found: &ArgMatches<'_>) -> Result<Line, NoLine>
-    ensures { spec.IsRead Verb.Merge (rows_in found.now) result }
+    ensures { spec.IsLineRead Verb.Merge (rows_in found.now) result }
 {
     let folder = file_of(alloc, found, "FOLDER")?;
     let steps = number_of(found, "steps", STEPS)? as u32;
@@ -238,7 +238,7 @@ fn merge_of(alloc: Global, found: &ArgMatches<'_>) -> Result<Line, NoLine>
 
 /// The line of this command with what is given.
 fn line_of(alloc: Global, verb: Verb, found: &ArgMatches<'_>) -> Result<Line, NoLine>
-    ensures { spec.IsRead verb (rows_in found.now) result }
+    ensures { spec.IsLineRead verb (rows_in found.now) result }
 {
     match verb {
         Verb::Check => check_of(alloc, found),

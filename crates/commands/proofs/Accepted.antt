@@ -14,7 +14,8 @@ use Rattle.history_commands.specs.Outputs.{status_of}
 use Rattle.history_commands.specs.declared.status.Status.{Status}
 use Rattle.history_commands.specs.declared.status.Status.TheVariants as status_is
 use Rattle.history_commands.specs.Comments.{comment_lines}
-use Rattle.commands.specs.Runs.{IsAcceptedOutput, IsAcceptedRun, IsReported, IsRunOutput, IsSound, Says, journals_of}
+use Rattle.commands.specs.Runs.{IsAcceptedOutput, IsAcceptedRun, IsReported, IsRunOutput, HasSoundRecord, Says}
+use Rattle.commands.specs.Runs.{journals_of}
 use Rattle.commands.specs.Runs.{logs_of, work_of}
 use Rattle.commands.proofs.Reports.{sound_as_it_is}
 
@@ -58,7 +59,7 @@ module _ (kinds : List Kind) (quota : ℕ) (journals : ℕ → List AnyEvent) (l
 -- ---- the record of a run
 
 module _ (o : RunOptions) where
-  sound_run : (r : _) → Ran (work_of o) r → IsSound r
+  sound_run : (r : _) → Ran (work_of o) r → HasSoundRecord r
   sound_run r ran = sound_as_it_is r (work_of o).kinds _ ran.sound
 
   pub run_accepted : (status : Status) (out : List ℕ) → IsRunOutput o status out → status ≡ status_is.Yes

@@ -11,7 +11,7 @@ use Rattle.report.specs.declared.verdict.Fault.TheVariants.{HistoryText, History
 use Rattle.report.specs.declared.verdict.Verdict.{Verdict}
 use Rattle.report.specs.declared.verdict.Verdict.TheVariants.{Yes, No, Malformed, NoMemory}
 use Rattle.judging.specs.Texts.{IsLinearizableText}
-use Rattle.judging.specs.Verdicts.{Holds, Judges, OnYes}
+use Rattle.judging.specs.Verdicts.{IsJudgement, SaysOfTexts, OnYes}
 use Rattle.judging.specs.Reads.{read_limit}
 use Rattle.judging.specs.Checks.{IsVerdictOnRead}
 
@@ -45,7 +45,7 @@ unreadable text bytes e long whole u = record {
 -- ---- of the history
 
 module _ (h b c : List ℕ) (long : max_length < length b) (whole : max_length < length h) where
-  judges_history : (v : Verdict) → Judges b c v → Judges h c v
+  judges_history : (v : Verdict) → SaysOfTexts b c v → SaysOfTexts h c v
   judges_history (Yes s) j = not_short b long j.0.history_short
   judges_history (No r) j = not_short b long j.history_short
   judges_history (Malformed (HistoryText e)) j = unreadable h b e long whole j
@@ -57,13 +57,13 @@ module _ (h b c : List ℕ) (long : max_length < length b) (whole : max_length <
     | inr sound ↦ not_short b long sound.0.0
   ]
 
-  yes_history : (v : Verdict) → Judges b c v → OnYes v (IsLinearizableText h)
+  yes_history : (v : Verdict) → SaysOfTexts b c v → OnYes v (IsLinearizableText h)
   yes_history (Yes s) j = not_short b long j.0.history_short
   yes_history (No r) j = tt
   yes_history (Malformed f) j = tt
   yes_history NoMemory j = tt
 
-  holds_history : (v : Verdict) → Holds b c v → Holds h c v
+  holds_history : (v : Verdict) → IsJudgement b c v → IsJudgement h c v
   holds_history v k = record {
     linearizable = yes_history v k.judges;
     judges = judges_history v k.judges;
@@ -73,7 +73,7 @@ module _ (h b c : List ℕ) (long : max_length < length b) (whole : max_length <
 -- ---- of the certificates
 
 module _ (h c b : List ℕ) (long : max_length < length b) (whole : max_length < length c) where
-  judges_certificates : (v : Verdict) → Judges h b v → Judges h c v
+  judges_certificates : (v : Verdict) → SaysOfTexts h b v → SaysOfTexts h c v
   judges_certificates (Yes s) j = not_short b long j.0.certificates_short
   judges_certificates (No r) j = not_short b long j.certificates_short
   judges_certificates (Malformed (HistoryText e)) j = j
@@ -86,7 +86,7 @@ module _ (h c b : List ℕ) (long : max_length < length b) (whole : max_length <
     | inr (denoted, inr sound) ↦ not_short b long sound.0
   ]
 
-  holds_certificates : (v : Verdict) → Holds h b v → Holds h c v
+  holds_certificates : (v : Verdict) → IsJudgement h b v → IsJudgement h c v
   holds_certificates v k = record {
     linearizable = k.linearizable;
     judges = judges_certificates v k.judges;
@@ -95,21 +95,22 @@ module _ (h c b : List ℕ) (long : max_length < length b) (whole : max_length <
 
 -- ---- of both
 
-holds : (h c first second : List ℕ) (v : Verdict) → Alike h first → Alike c second → Holds first second v → Holds h c v
+holds : (h c first second : List ℕ) (v : Verdict) → Alike h first → Alike c second → IsJudgement first second v
+    → IsJudgement h c v
 holds h c first second v a b k =
-    let one : Holds h second v = elim a [
-      | inl same ↦ subst (λ x. Holds x second v) same k
+    let one : IsJudgement h second v = elim a [
+      | inl same ↦ subst (λ x. IsJudgement x second v) same k
       | inr long ↦ holds_history h first second long.0 long.1 v k
     ] in
     elim b [
-      | inl same ↦ subst (λ x. Holds h x v) same one
+      | inl same ↦ subst (λ x. IsJudgement h x v) same one
       | inr long ↦ holds_certificates h c second long.0 long.1 v one
     ]
 
 -- what holds of the bytes that were read of texts in memory holds of the texts
 pub holds_in_memory : (h c first second : List ℕ) (history_left certificates_left : Option (List ℕ)) (v : Verdict)
     → first ≡ h → second ≡ c
-    → IsVerdictOnRead (Some first) history_left (Some second) certificates_left v → Holds h c v
+    → IsVerdictOnRead (Some first) history_left (Some second) certificates_left v → IsJudgement h c v
 holds_in_memory h c first second history_left certificates_left v is_first is_second j =
     holds h c j.first j.second v
     (was_read h j.first history_left

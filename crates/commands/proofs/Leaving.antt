@@ -10,7 +10,7 @@ use Rattle.checker.specs.declared.refusal.Refusal.TheVariants as refusal
 use Rattle.report.specs.declared.verdict.Verdict.{Verdict}
 use Rattle.report.specs.declared.verdict.Verdict.TheVariants as verdict
 use Rattle.report.specs.Lines.{verdict_text}
-use Rattle.history_commands.specs.Outputs.{IsExactly, IsOutOfMemory, IsVerdictOutput, number_of, status_of}
+use Rattle.history_commands.specs.Outputs.{IsExactly, IsOutOfMemory, IsVerdictOutput, status_number, status_of}
 use Rattle.history_commands.specs.declared.output.Output.{Output}
 use Rattle.history_commands.specs.declared.status.Status.{Status}
 use Rattle.history_commands.specs.declared.status.Status.TheVariants.{Yes, No, Malformed, Undecided, OutOfMemory}
@@ -29,12 +29,12 @@ leaves_as h more = record {
 }
 
 -- no number but its own is that of a failed output
-own_number : (status : Status) → status ≢ Failed → number_of status ≢ number_of Failed
+own_number : (status : Status) → status ≢ Failed → status_number status ≢ status_number Failed
 own_number status h e = grind arith
 
 module _ (status : Status) (lines : List ℕ) {before after : Option (List ℕ)} {broken : Bool} where
   pub wrote_all : status ≢ Failed → Appends before after lines → broken ≡ false
-      → Leaves (IsExactly status lines) before (number_of status) after broken
+      → Leaves (IsExactly status lines) before (status_number status) after broken
   wrote_all other sent usable = record {
     written = λ n. (status, lines, (refl, refl), refl, sent);
     usable = λ n. usable;
@@ -43,7 +43,7 @@ module _ (status : Status) (lines : List ℕ) {before after : Option (List ℕ)}
   }
 
   pub wrote_front : WritesPrefix before after lines → broken ≡ true
-      → Leaves (IsExactly status lines) before (number_of Failed) after broken
+      → Leaves (IsExactly status lines) before (status_number Failed) after broken
   wrote_front sent failed = record {
     written = λ n. absurd (n refl);
     usable = λ n. absurd (n refl);
@@ -83,12 +83,12 @@ verdict_is_written v e = absurd cc
 module _ (IsSaid : Verdict → Type 0) (v : Verdict) (said : IsSaid v) {before after : Option (List ℕ)} {broken : Bool}
   where
     pub wrote_verdict : Appends before after (verdict_text false v) → broken ≡ false
-        → Leaves (IsVerdictOutput IsSaid) before (number_of (status_of v)) after broken
+        → Leaves (IsVerdictOutput IsSaid) before (status_number (status_of v)) after broken
     wrote_verdict sent usable = leaves_as
         (wrote_all (status_of v) (verdict_text false v) (verdict_is_written v) sent usable)
         (λ status out k. (v, said, k.0, k.1))
 
     pub wrote_front_of : WritesPrefix before after (verdict_text false v) → broken ≡ true
-        → Leaves (IsVerdictOutput IsSaid) before (number_of Failed) after broken
+        → Leaves (IsVerdictOutput IsSaid) before (status_number Failed) after broken
     wrote_front_of sent failed =
         leaves_as (wrote_front (status_of v) (verdict_text false v) sent failed) (λ status out k. (v, said, k.0, k.1))

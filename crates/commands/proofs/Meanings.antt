@@ -2,12 +2,12 @@
 use Rattle.std.proofs.Common.{ℕ, List}
 use Rattle.command_line.specs.declared.asking.RunOptions.{RunOptions}
 use Rattle.history_commands.specs.declared.status.Status.{Status}
-use Rattle.commands.specs.Runs.{IsRun, IsRunOutput}
+use Rattle.commands.specs.Runs.{IsRunResult, IsRunOutput}
 use Rattle.commands.specs.Simulated.{IsSimulation, IsSimulateOutput}
 use Rattle.commands.proofs.Accepted.{run_accepted, run_not_no}
 use Rattle.commands.proofs.Simulations as simulation
 
-pub is_run : (o : RunOptions) (status : Status) (out : List ℕ) → IsRunOutput o status out → IsRun o status out
+pub is_run : (o : RunOptions) (status : Status) (out : List ℕ) → IsRunOutput o status out → IsRunResult o status out
 is_run o status out k =
     record { output = k; accepted = run_accepted o status out k; never_no = run_not_no o status out k }
 

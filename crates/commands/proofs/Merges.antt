@@ -13,20 +13,21 @@ use Rattle.shards.proofs.NumberedShards.{empty_past}
 use Rattle.history_commands.specs.Merged.{Shard}
 use Rattle.shards.specs.Folders.{WasDivided}
 use Rattle.shards.specs.declared.division.Division.{Division}
-use Rattle.history_commands.specs.Outputs.{number_of}
+use Rattle.history_commands.specs.Outputs.{status_number}
 use Rattle.history_commands.specs.declared.status.Status.{Status}
 use Rattle.history_commands.specs.declared.status.Status.TheVariants.{Yes, No, Malformed, Undecided, Failed}
 use Rattle.commands.specs.Leaves.{Leaves}
-use Rattle.commands.specs.Sharded.{AreRead, HoldSplit, Holding, IsMergeOfFolder, IsSplitOutput}
+use Rattle.commands.specs.Sharded.{AreShardsRead, FolderHoldsSplit, FolderContents, IsMergeOfFolder, IsSplitOutput}
 use Rattle.commands.proofs.StatusMeanings.{is_no, is_yes, memory_not_no, memory_not_yes, no_not_failed}
 use Rattle.commands.proofs.StatusMeanings.{yes_not_failed}
 
 not_malformed : (status : Status) → status ≡ Malformed
-    → (number_of status ≡ number_of Yes) ⊎ (number_of status ≡ number_of Undecided) → ⊥
-not_malformed status is (inl e) = let n = sym (ap number_of is) ∙ e in cc
-not_malformed status is (inr e) = let n = sym (ap number_of is) ∙ e in cc
+    → (status_number status ≡ status_number Yes) ⊎ (status_number status ≡ status_number Undecided) → ⊥
+not_malformed status is (inl e) = let n = sym (ap status_number is) ∙ e in cc
+not_malformed status is (inr e) = let n = sym (ap status_number is) ∙ e in cc
 
-not_failed : {number : ℕ} → (number ≡ number_of Yes) ⊎ (number ≡ number_of Undecided) → number ≢ number_of Failed
+not_failed : {number : ℕ} → (number ≡ status_number Yes) ⊎ (number ≡ status_number Undecided)
+    → number ≢ status_number Failed
 not_failed (inl e) f = let n = sym e ∙ f in cc
 not_failed (inr e) f = let n = sym e ∙ f in cc
 
@@ -47,9 +48,10 @@ module _ {X : Type 0} (IsAt : ℕ → X → Type 0) where
         subst (IsAt k) (sym (get_or_push xs x d k last)) (subst (λ n. IsAt n x) last own)
   ]
 
-module _ (holds : Holding) (limit : ℕ) where
+module _ (holds : FolderContents) (limit : ℕ) where
   module _ (count : ℕ) (some : 0 < count) (shards : List Shard) (each : length shards ≡ count)
-      (read : AreRead holds count limit shards) (whole : List ℕ) (split : HoldSplit holds count whole) where
+      (read : AreShardsRead holds count limit shards) (whole : List ℕ)
+      (split : FolderHoldsSplit holds count whole) where
     abbrev files : Files
     files = split.0
 
@@ -74,23 +76,23 @@ module _ (holds : Holding) (limit : ℕ) where
 
 module _ (count : ℕ) (left left_after : Option (List ℕ)) (files files_after : Option Files) where
   by_status : (status : Status) (out : List ℕ) → IsSplitOutput count left left_after files files_after status out
-      → (number_of status ≡ number_of Yes) ⊎ (number_of status ≡ number_of Undecided)
+      → (status_number status ≡ status_number Yes) ⊎ (status_number status ≡ status_number Undecided)
       → (told : Division) × WasDivided count told left left_after files files_after
   by_status status out (inl divided) e = (divided.0, divided.1)
   by_status status out (inr malformed) e = absurd (not_malformed status malformed.2.0 e)
 
   pub shows_divided : {before after : Option (List ℕ)} {number : ℕ} {broken : Bool}
       → Leaves (IsSplitOutput count left left_after files files_after) before number after broken
-      → (number ≡ number_of Yes) ⊎ (number ≡ number_of Undecided)
+      → (number ≡ status_number Yes) ⊎ (number ≡ status_number Undecided)
       → (told : Division) × WasDivided count told left left_after files files_after
   shows_divided h e =
       let w = h.written (not_failed e) in
-      by_status w.0 w.1 w.2 (subst (λ n. (n ≡ number_of Yes) ⊎ (n ≡ number_of Undecided)) w.3 e)
+      by_status w.0 w.1 w.2 (subst (λ n. (n ≡ status_number Yes) ⊎ (n ≡ status_number Undecided)) w.3 e)
 
-module _ (holds : Holding) (count limit : ℕ) (some : 0 < count) {before after : Option (List ℕ)} {number : ℕ}
+module _ (holds : FolderContents) (count limit : ℕ) (some : 0 < count) {before after : Option (List ℕ)} {number : ℕ}
     {broken : Bool} (h : Leaves (IsMergeOfFolder holds count limit) before number after broken) (whole : List ℕ)
-    (split : HoldSplit holds count whole) where
-  pub shows_linearizable : number ≡ number_of Yes → IsLinearizableAtAnyLength whole
+    (split : FolderHoldsSplit holds count whole) where
+  pub shows_linearizable : number ≡ status_number Yes → IsLinearizableAtAnyLength whole
   shows_linearizable e =
       let w = h.written (yes_not_failed number e) in
       let yes : w.0 ≡ Yes = is_yes w.0 (sym w.3 ∙ e) in
@@ -100,7 +102,7 @@ module _ (holds : Holding) (count limit : ℕ) (some : 0 < count) {before after 
         | inr memory ↦ absurd (memory_not_yes w.0 memory.0 yes)
       ]
 
-  pub shows_refuted : number ≡ number_of No → IsLinearizableAtAnyLength whole → ⊥
+  pub shows_refuted : number ≡ status_number No → IsLinearizableAtAnyLength whole → ⊥
   shows_refuted e =
       let w = h.written (no_not_failed number e) in
       let no : w.0 ≡ No = is_no w.0 (sym w.3 ∙ e) in

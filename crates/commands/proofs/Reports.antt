@@ -13,13 +13,13 @@ use Rattle.recorder.specs.Histories.{AreEventsOf}
 use Rattle.transcript.specs.Accounts.{AreCertificatesOf}
 use Rattle.report.specs.declared.verdict.Verdict.{Verdict}
 use Rattle.report.specs.declared.verdict.Verdict.TheVariants.{Yes, No, Malformed, NoMemory}
-use Rattle.judging.specs.Verdicts.{JudgesBy}
-use Rattle.commands.specs.Runs.{IsSound, Says, journals_of, logs_of}
+use Rattle.judging.specs.Verdicts.{SaysOfCertificates}
+use Rattle.commands.specs.Runs.{HasSoundRecord, Says, journals_of, logs_of}
 
 -- ---- journals and logs of operations of all kinds are what they stand for
 
 pub sound_as_it_is : (r : Recorded AnyOp AnyReply) (kinds : _) (quota : ℕ)
-    → IsSoundRecord kinds quota (journal_at r) (log_at r) → IsSound r
+    → IsSoundRecord kinds quota (journal_at r) (log_at r) → HasSoundRecord r
 sound_as_it_is r kinds quota s =
     let journals : journal_at r ≡ journals_of r = λ i c. sym (events_as_they_are (journal_at r c)) i in
     let logs : log_at r ≡ logs_of r = λ i x. sym (entries_as_they_are (log_at r x)) i in (
@@ -32,7 +32,7 @@ sound_as_it_is r kinds quota s =
 -- ---- the verdict on the certificates of a record
 
 pub says_of : (journals : ℕ → List AnyEvent) (logs : ℕ → List AnyEntry) (es : List Event) (cs : List Certificate)
-    → AreEventsOf journals es → AreCertificatesOf journals logs cs → (v : Verdict) → JudgesBy es cs v
+    → AreEventsOf journals es → AreCertificatesOf journals logs cs → (v : Verdict) → SaysOfCertificates es cs v
     → Says journals logs v
 says_of journals logs es cs are_events are_certificates (Yes s) k = (
   record {

@@ -7,17 +7,17 @@ use Rattle.command_line.specs.declared.asking.Line.{Line}
 use Rattle.command_line.specs.declared.asking.Line.TheVariants.{Check, Search, Refute, Verify, Run, Simulate}
 use Rattle.command_line.specs.declared.asking.Line.TheVariants.{Split, Merge}
 use Rattle.judging.specs.Checks.{IsLinearizableRead, IsNotLinearizableRead}
-use Rattle.history_commands.specs.Outputs.{number_of}
+use Rattle.history_commands.specs.Outputs.{status_number}
 use Rattle.history_commands.specs.declared.status.Status.{Status}
 use Rattle.history_commands.specs.declared.status.Status.TheVariants.{Yes, No, Malformed, Undecided, OutOfMemory}
 use Rattle.history_commands.specs.declared.status.Status.TheVariants.{NoThread, Failed, Usage}
 use Rattle.commands.specs.Leaves.{Leaves}
 use Rattle.commands.specs.Performed.{IsPerformedOn, says_no, says_yes}
 
-pub is_yes : (status : Status) → number_of status ≡ number_of Yes → status ≡ Yes
+pub is_yes : (status : Status) → status_number status ≡ status_number Yes → status ≡ Yes
 is_yes status e = grind arith
 
-pub is_no : (status : Status) → number_of status ≡ number_of No → status ≡ No
+pub is_no : (status : Status) → status_number status ≡ status_number No → status ≡ No
 is_no status e = grind arith
 
 pub memory_not_yes : (status : Status) → status ≡ OutOfMemory → status ≢ Yes
@@ -26,10 +26,10 @@ memory_not_yes status e y = absurd cc
 pub memory_not_no : (status : Status) → status ≡ OutOfMemory → status ≢ No
 memory_not_no status e n = absurd cc
 
-pub yes_not_failed : (number : ℕ) → number ≡ number_of Yes → number ≢ number_of Failed
+pub yes_not_failed : (number : ℕ) → number ≡ status_number Yes → number ≢ status_number Failed
 yes_not_failed number y f = absurd cc
 
-pub no_not_failed : (number : ℕ) → number ≡ number_of No → number ≢ number_of Failed
+pub no_not_failed : (number : ℕ) → number ≡ status_number No → number ≢ status_number Failed
 no_not_failed number n f = absurd cc
 
 -- the sources of the two files, before and after
@@ -59,12 +59,12 @@ module _ (one one_after other other_after : Option (List ℕ)) where
 
   module _ (line : Line) {before after : Option (List ℕ)} {number : ℕ} {broken : Bool}
       (left : Leaves (IsPerformedOn line one one_after other other_after) before number after broken) where
-    pub shows_yes : says_yes line ≡ true → number ≡ number_of Yes → IsLinearizableRead one one_after
+    pub shows_yes : says_yes line ≡ true → number ≡ status_number Yes → IsLinearizableRead one one_after
     shows_yes says y =
         let w = left.written (yes_not_failed number y) in
         said_yes line w.0 w.1 w.2 says (is_yes w.0 (sym w.3 ∙ y))
 
-    pub shows_no : says_no line ≡ true → number ≡ number_of No → IsNotLinearizableRead one one_after
+    pub shows_no : says_no line ≡ true → number ≡ status_number No → IsNotLinearizableRead one one_after
     shows_no says n =
         let w = left.written (no_not_failed number n) in
         said_no line w.0 w.1 w.2 says (is_no w.0 (sym w.3 ∙ n))

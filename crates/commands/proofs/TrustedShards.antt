@@ -13,7 +13,7 @@ use Rattle.shards.specs.ShardTexts.{IsLinearizableAtAnyLength}
 use Rattle.shards.proofs.DecidingTexts.{linearizable_where_judged, refuted_by_shard}
 use Rattle.shards.proofs.NumberedShards.{empty_past}
 use Rattle.history_commands.specs.Merged.{worse}
-use Rattle.history_commands.specs.Outputs.{number_of}
+use Rattle.history_commands.specs.Outputs.{status_number}
 use Rattle.history_commands.specs.declared.finding.Finding.{Finding}
 use Rattle.history_commands.specs.declared.finding.Finding.TheVariants.{Certified, Undecided, Refuted, Malformed}
 use Rattle.history_commands.specs.declared.status.Status.TheVariants.{Yes, No}
@@ -124,7 +124,7 @@ module _ (holds : HoldingStatus) (count : ℕ) (some : 0 < count) (whole : List 
 
   module _ {before after : Option (List ℕ)} {number : ℕ} {broken : Bool}
       (h : Leaves (IsTrustedOfFolder holds count) before number after broken) where
-    pub trusted_yes : number ≡ number_of Yes → IsEachYesRight holds count files → IsLinearizableAtAnyLength whole
+    pub trusted_yes : number ≡ status_number Yes → IsEachYesRight holds count files → IsLinearizableAtAnyLength whole
     trusted_yes e right =
         let w = h.written (yes_not_failed number e) in
         let is = is_yes w.0 (sym w.3 ∙ e) in
@@ -133,7 +133,7 @@ module _ (holds : HoldingStatus) (count : ℕ) (some : 0 < count) (whole : List 
           | inr memory ↦ absurd (memory_not_yes w.0 memory.0 is)
         ]
 
-    pub trusted_no : number ≡ number_of No → IsEachNoRight holds count files → IsLinearizableAtAnyLength whole → ⊥
+    pub trusted_no : number ≡ status_number No → IsEachNoRight holds count files → IsLinearizableAtAnyLength whole → ⊥
     trusted_no e right =
         let w = h.written (no_not_failed number e) in
         let is = is_no w.0 (sym w.3 ∙ e) in

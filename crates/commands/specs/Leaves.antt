@@ -3,7 +3,7 @@ use Rattle.std.specs.Prelude.{◌≡◌, ◌≢◌, ℕ, Bool, true, false, List
 use Rattle.std.specs.Io.KnownBytes.{Appends}
 use Rattle.std.specs.declared.alloc.AllocError.{AllocError}
 use Rattle.edn.specs.Sent.{WritesPrefix}
-use Rattle.history_commands.specs.Outputs.{IsExactly, IsOutOfMemory, number_of}
+use Rattle.history_commands.specs.Outputs.{IsExactly, IsOutOfMemory, status_number}
 use Rattle.history_commands.specs.declared.output.Output.{Output}
 use Rattle.history_commands.specs.declared.status.Status.{Status}
 use Rattle.history_commands.specs.declared.status.Status.TheVariants.{Failed}
@@ -14,12 +14,12 @@ use Rattle.history_commands.specs.declared.status.Status.TheVariants.{Failed}
 pub record Leaves (IsOutput : Status → List ℕ → Type 0) (sent_before : Option (List ℕ)) (number : ℕ)
     (sent : Option (List ℕ)) (broken : Bool) : Type 0 where
   -- the lines were written, and the number is that of their status
-  pub written : number ≢ number_of Failed → (status : Status) × (out : List ℕ)
-      × IsOutput status out × (number ≡ number_of status) × Appends sent_before sent out
-  pub usable : number ≢ number_of Failed → broken ≡ false
+  pub written : number ≢ status_number Failed → (status : Status) × (out : List ℕ)
+      × IsOutput status out × (number ≡ status_number status) × Appends sent_before sent out
+  pub usable : number ≢ status_number Failed → broken ≡ false
   -- the sink failed, and a beginning of the lines was written
-  pub failed : number ≡ number_of Failed → broken ≡ true
-  pub front : number ≡ number_of Failed → (status : Status) × (out : List ℕ)
+  pub failed : number ≡ status_number Failed → broken ≡ true
+  pub front : number ≡ status_number Failed → (status : Status) × (out : List ℕ)
       × IsOutput status out × WritesPrefix sent_before sent out
 
 -- what was made, or one line says that an allocation failed

@@ -8,13 +8,13 @@ use Rattle.command_line.specs.declared.asking.Line.TheVariants.{Run, Simulate, S
 use Rattle.history_commands.specs.Checked.{IsCheck}
 use Rattle.history_commands.specs.Outputs.{IsExactly, IsOutOfMemory}
 use Rattle.history_commands.specs.Refuted.{IsRefute}
-use Rattle.history_commands.specs.Searches.{IsSearch}
+use Rattle.history_commands.specs.Searches.{IsSearchResult}
 use Rattle.history_commands.specs.Verified.{IsVerification}
 use Rattle.history_commands.specs.declared.status.Status.{Status}
 use Rattle.history_commands.specs.declared.status.Status.TheVariants.{Usage}
 use Rattle.commands.specs.declared.sources.Unread.{Unread}
 use Rattle.commands.specs.declared.sources.Unread.TheVariants.{First, Second}
-use Rattle.commands.specs.Runs.{IsRun}
+use Rattle.commands.specs.Runs.{IsRunResult}
 use Rattle.commands.specs.Simulated.{IsSimulation}
 
 -- a verification, or one line says that an allocation failed
@@ -30,13 +30,13 @@ abbrev pub IsPerformed : Line → List ℕ → List ℕ → Status → List ℕ 
 IsPerformed (Check history certificates workers) first second status out =
     IsCheck first second status out
 IsPerformed (Search history steps tried_first) first second status out =
-    IsSearch first steps status out ⊎ IsOutOfMemory status out
+    IsSearchResult first steps status out ⊎ IsOutOfMemory status out
 IsPerformed (Refute history reasons steps) first second status out =
     IsRefute first second steps status out ⊎ IsOutOfMemory status out
 IsPerformed (Verify history evidence steps workers) first second status out =
     IsVerificationIn steps first second status out
 IsPerformed (Run options) first second status out =
-    IsRun options status out ⊎ IsOutOfMemory status out
+    IsRunResult options status out ⊎ IsOutOfMemory status out
 IsPerformed (Simulate schedule) first second status out =
     IsSimulation first status out ⊎ IsOutOfMemory status out
 IsPerformed (Split history folder shards) first second status out = IsExactly Usage [] status out

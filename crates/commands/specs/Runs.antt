@@ -36,8 +36,8 @@ abbrev pub logs_of : Recorded AnyOp AnyReply → ℕ → List AnyEntry
 logs_of r = logs_in (λ (op : AnyOp). op) (λ (reply : AnyReply). reply) r
 
 -- the record is sound, for objects of some kinds and some quota
-abbrev pub IsSound : Recorded AnyOp AnyReply → Type 0
-IsSound r =
+abbrev pub HasSoundRecord : Recorded AnyOp AnyReply → Type 0
+HasSoundRecord r =
     (kinds : List Kind) × (quota : ℕ) × IsSoundRecord kinds quota (journals_of r) (logs_of r)
 
 -- the counts are those of the journals' history
@@ -117,7 +117,7 @@ pub record IsAcceptedRun (o : RunOptions) (out : List ℕ) : Type 0 where
 
 -- What a run gives: a yes comes with the record of such a run, the certificates of which are
 -- accepted, and it is never a no.
-pub record IsRun (o : RunOptions) (status : Status) (out : List ℕ) : Type 0 where
+pub record IsRunResult (o : RunOptions) (status : Status) (out : List ℕ) : Type 0 where
   pub output : IsRunOutput o status out
   pub accepted : status ≡ status_is.Yes → IsAcceptedRun o out
   pub never_no : status ≢ status_is.No

@@ -27,8 +27,8 @@ fault_of (Text e) = HistoryText e
 fault_of (Maps f) = HistoryMaps f
 
 -- the line that says so
-abbrev pub fault_line : TextFault → List ℕ
-fault_line f = verdict_text false (verdict.Malformed (fault_of f))
+abbrev pub split_fault_line : TextFault → List ℕ
+split_fault_line f = verdict_text false (verdict.Malformed (fault_of f))
 
 -- how a split ends into shards with these numbers of maps: undecided, if one has more than a
 -- text may have
@@ -45,7 +45,7 @@ IsSplitOutput count left left_after files files_after status out =
     ((told : Division) × WasDivided count told left left_after files files_after
     × (status ≡ status_by_counts told.counts.items))
     ⊎ ((f : TextFault) × IsSplitFault count (split.Malformed f) left left_after
-    × IsExactly ends.Malformed (fault_line f) status out)
+    × IsExactly ends.Malformed (split_fault_line f) status out)
 
 -- If a split says that an object needs more shards, this is so: what was read of the source has
 -- a map on it.
@@ -59,29 +59,29 @@ IsWhereFewShards count failure.NoMemory left left_after = ⊤
 -- ---- a merge
 
 -- What the files of a folder may hold: of a shard with this number, this text, table and evidence.
-abbrev pub Holding : Type 1
-Holding = ℕ → List ℕ → List ℕ → List ℕ → Type 0
+abbrev pub FolderContents : Type 1
+FolderContents = ℕ → List ℕ → List ℕ → List ℕ → Type 0
 
 -- this was read as the shard with this number, of this many, if a search has this limit
-abbrev pub IsReadAs : Holding → ℕ → ℕ → ℕ → Shard → Type 0
+abbrev pub IsReadAs : FolderContents → ℕ → ℕ → ℕ → Shard → Type 0
 IsReadAs holds count limit number s =
     (s.number ≡ number) × (s.count ≡ count) × (s.limit ≡ limit)
     × holds number s.text s.table s.evidence
 
 -- these were read as the shards, in the order of their numbers
-abbrev pub AreRead : Holding → ℕ → ℕ → List Shard → Type 0
-AreRead holds count limit shards =
+abbrev pub AreShardsRead : FolderContents → ℕ → ℕ → List Shard → Type 0
+AreShardsRead holds count limit shards =
     (k : ℕ) (d : Shard) → k < length shards → IsReadAs holds count limit k (get_or shards k d)
 
 -- the output of a merge of this many shards, which were read
-abbrev pub IsMergeOf : Holding → ℕ → ℕ → Status → List ℕ → Type 0
+abbrev pub IsMergeOf : FolderContents → ℕ → ℕ → Status → List ℕ → Type 0
 IsMergeOf holds count limit status out =
-    (shards : List Shard) × (length shards ≡ count) × AreRead holds count limit shards
+    (shards : List Shard) × (length shards ≡ count) × AreShardsRead holds count limit shards
     × IsMerge shards status out
 
 -- the output of a merge of this many shards, which were read; or one line says that an allocation
 -- failed
-abbrev pub IsMergeOfFolder : Holding → ℕ → ℕ → Status → List ℕ → Type 0
+abbrev pub IsMergeOfFolder : FolderContents → ℕ → ℕ → Status → List ℕ → Type 0
 IsMergeOfFolder holds count limit status out =
     IsMergeOf holds count limit status out ⊎ IsOutOfMemory status out
 
@@ -90,8 +90,8 @@ abbrev pub AreShardsOf : ℕ → List ℕ → Files → Type 0
 AreShardsOf count whole files = IsDivided (shard_among count) name_in_shard whole files
 
 -- The files hold the texts of the shards of a whole.
-abbrev pub HoldSplit : Holding → ℕ → List ℕ → Type 0
-HoldSplit holds count whole =
+abbrev pub FolderHoldsSplit : FolderContents → ℕ → List ℕ → Type 0
+FolderHoldsSplit holds count whole =
     (files : Files) × AreShardsOf count whole files
     × ((s : ℕ) (text table evidence : List ℕ) → s < count → holds s text table evidence
     → text ≡ files.texts s)

@@ -4,7 +4,7 @@ use Rattle.model.specs.declared.AnyOp.{AnyOp}
 use Rattle.model.specs.declared.AnyReply.{AnyReply}
 use Rattle.edn_reader.specs.Faults as edn
 use Rattle.recorder.specs.Records.{Recorded}
-use Rattle.simulation.specs.Faults.{number_of}
+use Rattle.simulation.specs.Faults.{schedule_fault_number}
 use Rattle.simulation.specs.Simulations.{IsSimulated, IsSimulationFault}
 use Rattle.simulation.specs.declared.simulating.SimulationFault.{SimulationFault}
 use Rattle.simulation.specs.declared.simulating.SimulationFault.TheVariants.{Text, Form, NotEnded}
@@ -19,15 +19,16 @@ abbrev pub refused_line : ℕ → List ℕ
 refused_line n = codes "; refused steps: " ++ (decimal n ++ codes "\n")
 
 -- the line that says why there is no record; an allocation failure has none
-abbrev pub fault_line : SimulationFault → List ℕ
-fault_line (Text e) =
+abbrev pub simulation_fault_line : SimulationFault → List ℕ
+simulation_fault_line (Text e) =
     codes "malformed schedule: E"
     ++ (decimal (edn.number_of e.kind) ++ (codes " at byte " ++ (decimal e.place ++ codes "\n")))
-fault_line (Form f) =
+simulation_fault_line (Form f) =
     codes "malformed schedule: S"
-    ++ (decimal (number_of f.kind) ++ (codes " at form " ++ (decimal f.form ++ codes "\n")))
-fault_line (NotEnded c) = codes "client " ++ (decimal c ++ codes " has not ended\n")
-fault_line NoMemory = []
+    ++ (decimal (schedule_fault_number f.kind)
+    ++ (codes " at form " ++ (decimal f.form ++ codes "\n")))
+simulation_fault_line (NotEnded c) = codes "client " ++ (decimal c ++ codes " has not ended\n")
+simulation_fault_line NoMemory = []
 
 -- The output for a schedule's text: the history, the refused steps, the certificates and the
 -- verdict
@@ -37,7 +38,7 @@ IsSimulateOutput text status out =
     ((refused : ℕ) × (r : Recorded AnyOp AnyReply) × IsSimulated text refused r
     × IsReported (journals_of r) (logs_of r) (refused_line refused) status out)
     ⊎ ((f : SimulationFault) × IsSimulationFault text f
-    × IsExactly status_is.Malformed (fault_line f) status out)
+    × IsExactly status_is.Malformed (simulation_fault_line f) status out)
 
 -- The text gives a record, the certificates of which are accepted, and its lines, with how many
 -- steps were refused.

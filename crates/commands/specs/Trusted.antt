@@ -88,8 +88,8 @@ trusted_text count read =
 -- ---- the merge
 
 -- what was read, as a list of bytes
-abbrev pub seen : Option (Vec ℕ) → Option (List ℕ)
-seen read = option_map (λ v. v.items) read
+abbrev pub bytes_read : Option (Vec ℕ) → Option (List ℕ)
+bytes_read read = option_map (λ v. v.items) read
 
 -- these were taken, and no others, and what is kept is what they say
 pub record AreTrusted (b : Trusted) (read : List (Option (List ℕ))) : Type 0 where

@@ -10,7 +10,7 @@ use crate::sources::Unread;
 use crate::write_output::write_output;
 use edn::{Sink, Source};
 use history_commands::{Status, status_of};
-use judging::{In, Text, ToolFault, check_over, judge};
+use judging::{In, ToolFault, WhichText, check_over, judge};
 use report::{Verdict, write_verdict};
 use std::alloc::{AllocError, Global};
 use std::thread::Threads;
@@ -73,8 +73,8 @@ pub(crate) fn check_sources<R: Threads + Sync, H: Source, C: Source, S: Sink>(
 {
     match check_over(rt, alloc, history, certificates, workers, sink) {
         Ok(verdict) => Ok(status_of(&verdict).number()),
-        Err(ToolFault::Read(Text::History)) => Err(Unread::First),
-        Err(ToolFault::Read(Text::Certificates)) => Err(Unread::Second),
+        Err(ToolFault::Read(WhichText::History)) => Err(Unread::First),
+        Err(ToolFault::Read(WhichText::Certificates)) => Err(Unread::Second),
         Err(ToolFault::Write) => Ok(Status::Failed.number()),
         Err(ToolFault::NoMemory) => Ok(write_output(Err(AllocError), sink)),
     }

@@ -4,11 +4,11 @@
 ghost use Rattle.std.specs.Prelude.{◌≡◌, ◌<◌, ◌⊎◌, ℕ, List, false, length, nat_lt};
 ghost use Rattle.std.specs.Prelude.{IfErr, IfOk, IfSome, OnErr};
 ghost use Rattle.history_commands.specs.Merged.{AreMerged, Shard};
-ghost use Rattle.history_commands.specs.Outputs.{IsExactly, number_of};
+ghost use Rattle.history_commands.specs.Outputs.{IsExactly, status_number};
 ghost use Rattle.commands.specs.Leaves.{Leaves};
 ghost use Rattle.commands.specs.Sharded as spec;
-ghost use Rattle.commands.specs.Sharded.{AreRead, HoldSplit, IsMergeOf, IsMergeOfFolder};
-ghost use Rattle.commands.specs.Sharded.{IsSplitOutput, IsWhereFewShards, fault_line};
+ghost use Rattle.commands.specs.Sharded.{AreShardsRead, FolderHoldsSplit, IsMergeOf, IsMergeOfFolder};
+ghost use Rattle.commands.specs.Sharded.{IsSplitOutput, IsWhereFewShards, split_fault_line};
 ghost use Rattle.history.specs.Faults.{max_maps};
 ghost use Rattle.std.specs.List.{list_any};
 ghost use Rattle.shards.specs.Folders.{WasDivided};
@@ -103,7 +103,7 @@ fn fault_of(fault: TextFault) -> Fault
 /// The output if the whole is malformed.
 fn malformed_output(alloc: Global, fault: TextFault) -> Result<Output, AllocError>
     ensures { IfOk result (λ o.
-        IsExactly Status.Malformed (fault_line fault) o.status o.text.items) }
+        IsExactly Status.Malformed (split_fault_line fault) o.status o.text.items) }
 {
     verdict_output(alloc, &Verdict::Malformed(fault_of(fault)))
 }
@@ -226,7 +226,7 @@ pub fn split_history<F: Source, D: Folder, S: Sink>(
     requires working { S.broken sink.old ≡ false }
     requires some { 0 < shards }
     ensures divided { IfOk result (λ number.
-        (number ≡ number_of Status.Yes) ⊎ (number ≡ number_of Status.Undecided) →
+        (number ≡ status_number Status.Yes) ⊎ (number ≡ status_number Status.Undecided) →
         (told : Division) × WasDivided shards told
         (F.remaining history.old) (F.remaining history.new)
         (D.files folder.old) (D.files folder.new)) }
@@ -251,7 +251,7 @@ fn merge_all<F: ShardFiles>(
     steps: u32,
 ) -> Result<Option<Merging>, UnreadShard>
     ensures { IfOk result (λ made. IfSome made (λ m. (all : List Shard)
-        × (length all ≡ shards) × AreRead (F.holds files.now) shards steps all
+        × (length all ≡ shards) × AreShardsRead (F.holds files.now) shards steps all
         × AreMerged m all)) }
 {
     let mut merging = Merging::new(alloc);
@@ -305,11 +305,11 @@ pub fn merge_shards<F: ShardFiles, S: Sink>(
 ) -> Result<u8, UnreadShard>
     requires working { S.broken sink.old ≡ false }
     requires some { 0 < shards }
-    ensures linearizable { IfOk result (λ number. number ≡ number_of Status.Yes →
-        (whole : List ℕ) → HoldSplit (F.holds files.now) shards whole →
+    ensures linearizable { IfOk result (λ number. number ≡ status_number Status.Yes →
+        (whole : List ℕ) → FolderHoldsSplit (F.holds files.now) shards whole →
         IsLinearizableAtAnyLength whole) }
-    ensures refuted { IfOk result (λ number. number ≡ number_of Status.No →
-        (whole : List ℕ) → HoldSplit (F.holds files.now) shards whole →
+    ensures refuted { IfOk result (λ number. number ≡ status_number Status.No →
+        (whole : List ℕ) → FolderHoldsSplit (F.holds files.now) shards whole →
         ¬ IsLinearizableAtAnyLength whole) }
     ensures leaves { IfOk result (λ number. Leaves
         (IsMergeOfFolder (F.holds files.now) shards steps)

@@ -2,7 +2,7 @@
 
 ghost use Rattle.std.specs.Prelude.{◌≡◌, [], false, true, IfOk, IfErr};
 ghost use Rattle.judging.specs.Checks.{IsLinearizableRead, IsNotLinearizableRead};
-ghost use Rattle.history_commands.specs.Outputs.{IsExactly, number_of};
+ghost use Rattle.history_commands.specs.Outputs.{IsExactly, status_number};
 ghost use Rattle.commands.specs.Leaves.{Leaves};
 ghost use Rattle.commands.specs.Performed.{IsPerformed, IsPerformedOn, IsUnread, says_no, says_yes};
 
@@ -118,10 +118,10 @@ pub fn perform_over<R: Threads + Wait + Sync, F: Source, G: Source, S: Sink>(
     requires second { G.broken second.old ≡ false }
     requires working { S.broken sink.old ≡ false }
     ensures linearizable { IfOk result (λ number. says_yes line.now ≡ true →
-        number ≡ number_of Status.Yes →
+        number ≡ status_number Status.Yes →
         IsLinearizableRead (F.remaining first.old) (F.remaining first.new)) }
     ensures refuted { IfOk result (λ number. says_no line.now ≡ true →
-        number ≡ number_of Status.No →
+        number ≡ status_number Status.No →
         IsNotLinearizableRead (F.remaining first.old) (F.remaining first.new)) }
     ensures performs { IfOk result (λ number. Leaves (IsPerformedOn line.now
         (F.remaining first.old) (F.remaining first.new)

@@ -5,9 +5,9 @@ ghost use Rattle.model.specs.declared.Kind.{Kind};
 ghost use Rattle.desk_model.specs.Records.{IsSoundRecord};
 ghost use Rattle.certificate.specs.Denotes.{AreDistinct};
 ghost use Rattle.checker.specs.Refusals.{AreValid};
-ghost use Rattle.judging.specs.Verdicts.{IsYesUnlessMemory, JudgesBy};
+ghost use Rattle.judging.specs.Verdicts.{IsYesUnlessMemory, SaysOfCertificates};
 ghost use Rattle.history_commands.specs.Comments.{comment_lines};
-ghost use Rattle.commands.specs.Runs.{IsReported, IsRun, IsTextOf, Says, journals_of, logs_of};
+ghost use Rattle.commands.specs.Runs.{IsReported, IsRunResult, IsTextOf, Says, journals_of, logs_of};
 ghost use Rattle.commands.specs.Runs.{work_of};
 ghost use Rattle.clients.specs.Made.{Ran};
 
@@ -45,7 +45,7 @@ fn text_of(
 /// The verdict of the check of a history by certificates.
 fn verdict_by(alloc: Global, history: &History, certificates: &[Certificate]) -> Verdict
     requires { AreDistinct certificates.now }
-    ensures judges { JudgesBy history.now certificates.now result }
+    ensures judges { SaysOfCertificates history.now certificates.now result }
     ensures accepts { AreValid history.now certificates.now → IsYesUnlessMemory result }
 {
     let checked = check_all(alloc, history, certificates);
@@ -118,7 +118,7 @@ pub(crate) fn run<R: Threads + Wait + Sync>(
     alloc: Global,
     options: RunOptions,
 ) -> Result<Output, AllocError>
-    ensures { IfOk result (λ o. IsRun options o.status o.text.items) }
+    ensures { IfOk result (λ o. IsRunResult options o.status o.text.items) }
 {
     match record_of(rt, alloc, options) {
         Ok(record) => record_output(alloc, &record, b""),

@@ -12,7 +12,7 @@ use std::alloc::{AllocError, Global};
 
 /// The line that says why there is no record. An error: an allocation failed.
 fn fault_line(alloc: Global, fault: SimulationFault) -> Result<Vec<u8>, AllocError>
-    ensures { IfOk result (λ v. v.items ≡ spec.fault_line fault) }
+    ensures { IfOk result (λ v. v.items ≡ spec.simulation_fault_line fault) }
 {
     match fault {
         SimulationFault::Text(e) => line_with_place(

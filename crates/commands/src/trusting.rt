@@ -4,7 +4,7 @@
 ghost use Rattle.std.specs.Prelude.{◌≡◌, ◌<◌, ◌++◌, ◌∷◌, ℕ, [], List, Option, false, length};
 ghost use Rattle.std.specs.Prelude.{IfOk, IfSome, OnErr, OnOk};
 ghost use Rattle.history_commands.specs.Merged.{status_with};
-ghost use Rattle.history_commands.specs.Outputs.{IsExactly, number_of};
+ghost use Rattle.history_commands.specs.Outputs.{IsExactly, status_number};
 ghost use Rattle.commands.specs.Trusted as spec;
 ghost use Rattle.commands.specs.Trusted.{AreTrusted, AreStatusesRead, IsTrustedOf};
 ghost use Rattle.commands.specs.Trusted.{IsTrustedOfFolder, IsEachNoRight, IsEachYesRight};
@@ -26,7 +26,7 @@ pub trait StatusFiles {
     ghost holds: { Self → ℕ → Option (List ℕ) → Type 0 };
 
     fn read_status(&self, alloc: Global, shard: u16) -> Result<Option<Vec<u8>>, ShardFault>
-        ensures { IfOk result (λ read. holds self.now shard (spec.seen read)) };
+        ensures { IfOk result (λ read. holds self.now shard (spec.bytes_read read)) };
 }
 
 /// What the text of a status says of its shard.
@@ -48,7 +48,7 @@ fn said_by(text: &[u8]) -> Option<Finding>
 
 /// The finding that a status file states, if any.
 fn said_of(read: &Option<Vec<u8>>) -> Option<Finding>
-    ensures { result ≡ spec.said_of (spec.seen read.now) }
+    ensures { result ≡ spec.said_of (spec.bytes_read read.now) }
 {
     match read {
         Some(text) => said_by(text),
@@ -112,7 +112,7 @@ impl Trusted {
     /// Takes what was read of the status of the next shard, which has this number.
     fn take(&mut self, shard: u16, read: &Option<Vec<u8>>) -> Result<(), AllocError>
         ensures { OnOk result ((all : List (Option (List ℕ))) → AreTrusted self.old all
-            → length all ≡ shard → AreTrusted self.new (all ++ spec.seen read.now ∷ [])) }
+            → length all ≡ shard → AreTrusted self.new (all ++ spec.bytes_read read.now ∷ [])) }
     {
         let said = said_of(read);
         let finding = said.unwrap_or(Finding::Undecided);
@@ -192,10 +192,10 @@ pub fn merge_statuses<F: StatusFiles, S: Sink>(
 ) -> Result<u8, UnreadShard>
     requires working { S.broken sink.old ≡ false }
     requires some { 0 < shards }
-    ensures linearizable { IfOk result (λ number. number ≡ number_of Status.Yes →
+    ensures linearizable { IfOk result (λ number. number ≡ status_number Status.Yes →
         (whole : List ℕ) (divided : Files) → AreShardsOf shards whole divided →
         IsEachYesRight (F.holds files.now) shards divided → IsLinearizableAtAnyLength whole) }
-    ensures refuted { IfOk result (λ number. number ≡ number_of Status.No →
+    ensures refuted { IfOk result (λ number. number ≡ status_number Status.No →
         (whole : List ℕ) (divided : Files) → AreShardsOf shards whole divided →
         IsEachNoRight (F.holds files.now) shards divided → ¬ IsLinearizableAtAnyLength whole) }
     ensures leaves { IfOk result (λ number. Leaves (IsTrustedOfFolder (F.holds files.now) shards)

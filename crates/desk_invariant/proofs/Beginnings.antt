@@ -21,14 +21,16 @@ use Rattle.desk_invariant.specs.declared.board.Held.TheVariants as held
 use Rattle.desk_invariant.specs.declared.board.PutBack.{PutBack}
 use Rattle.desk_invariant.specs.declared.board.Role.TheVariants as role
 use Rattle.desk_invariant.specs.declared.board.DeskView.{DeskView}
-use Rattle.desk_model.specs.World.{AnyRequest, absent, idle, posted, picked, World, initial_world, kind_at, entries_of}
+use Rattle.desk_model.specs.World.{AnyRequest, absent, idle, posted, picked, World, initial_world, kind_at}
+use Rattle.desk_model.specs.World.{entries_of_client}
 use Rattle.desk_model.specs.World.{StartsWith, request_of}
 use Rattle.desk_model.specs.Transitions.{changed, staged}
 use Rattle.desk_model.proofs.Changed.{changed_here, changed_else}
 use Rattle.desk_model.proofs.Initial.{sound_initial, sound_coming}
 use Rattle.desk_invariant.specs.Views.{row_place, end_place, clock_place, new_client, first_maker, after_making}
 use Rattle.desk_invariant.specs.Views.{seen_of, received_of, with_own}
-use Rattle.desk_invariant.specs.Rule.{row_word, OwnOk, SeatOk, HasLeft, ViewOk, Makers, Fits, CallAt}
+use Rattle.desk_invariant.specs.Rule.{row_word, OwnCallAgrees, SeatAgrees, HasLeft, ViewAgrees, Makers, CoreFits}
+use Rattle.desk_invariant.specs.Rule.{CallAt}
 use Rattle.desk_invariant.specs.Plays as play
 use Rattle.desk_invariant.proofs.Seats.{row_leaves, alike, kept_after, come_after, mine, Rule}
 use Rattle.desk_invariant.proofs.Ties.{tied_coming}
@@ -51,7 +53,7 @@ only a b (suc j) e = absurd (some-ne-none b (sym e))
 
 -- the maker, after it has made a client
 one_made : (kinds : List Kind) (lists : List TableId) (w : World) (so so' : ℕ → ℕ) (i j : ℕ) (v : DeskView)
-    → v.role ≡ role.Maker → ViewOk kinds lists w so i v → ViewOk kinds lists w so' j (after_making v)
+    → v.role ≡ role.Maker → ViewAgrees kinds lists w so i v → ViewAgrees kinds lists w so' j (after_making v)
 one_made kinds lists w so so' i j v is ok = let none_held : (c : ℕ) → v.made + 1 ≤ c → (x : ℕ)
     → w.holder x ≢ Some c = λ c l. (ok.unmade is c (omega arith)).3 in grind arith
 
@@ -78,7 +80,7 @@ module _ {S O R : Type 0} (content : S → Content) (op_in : O → AnyOp) (reply
       → length words ≡ 81 → ((i : ℕ) → get_or words i 0 ≡ 0) → length slots ≡ 80
       → ((x : ℕ) → x < length kinds
       → (k : Core S O R) × (get_elem? slots x ≡ some (slot.Core k))
-      × Fits content op_in reply_in (kind_at kinds x) (get_elem? lists x) k [])
+      × CoreFits content op_in reply_in (kind_at kinds x) (get_elem? lists x) k [])
       → ((i : ℕ) → 16 ≤ i → i < 80 → get_elem? slots i ≡ some slot.Nothing)
       → K (opening words slots (first_maker kinds lists))
   opening_keeps_rule lists words slots few people small wide zeros deep cores others = record {
@@ -113,7 +115,7 @@ module _ {S O R : Type 0} (content : S → Content) (op_in : O → AnyOp) (reply
         λ x. ([], ap (λ z. z ++ []) (sym (get_or-replicate_same [] 16 x))) in
         let received : (x : ℕ) → StartsWith [] (received_of (first_maker kinds lists) x) = λ x. ([], refl) in
         let left = All-nil (HasLeft initial_world) in
-        subst (λ z. ViewOk kinds lists initial_world (λ _. 0) j z) a.1 (grind arith);
+        subst (λ z. ViewAgrees kinds lists initial_world (λ _. 0) j z) a.1 (grind arith);
     makers = record {
       made = λ j v e is i u f. let a = only (first_maker kinds lists) v j e in
           let b = only (first_maker kinds lists) u i f in ((λ tc. absurd cc), λ tm. b.0 ∙ sym a.0);
@@ -142,15 +144,15 @@ module _ {S O R : Type 0} (content : S → Content) (op_in : O → AnyOp) (reply
         -- the views of the maker, of the other clients, and of the new one
         seats = λ j u e. elim (at_end (set s.views id l) new u j e) [
           | inl t ↦ elim (at_set s.views id j l u t) [
-            | inl h ↦ subst (λ z. ViewOk kinds k.lists w so' j z) h.1
+            | inl h ↦ subst (λ z. ViewAgrees kinds k.lists w so' j z) h.1
                 (one_made kinds k.lists w k.seat_of so' id j v is old)
             | inr h ↦ let b = k.seats j u h.1 in
-                let client : u.role ≡ role.Client → (so' u.number ≡ j) × SeatOk kinds w u.number u = λ f.
+                let client : u.role ≡ role.Client → (so' u.number ≡ j) × SeatAgrees kinds w u.number u = λ f.
                 let low' = (k.makers.made id v at is j u h.1).0 f in let g = b.client f in
                 (changed_else k.seat_of c here u.number (λ x. omega arith) ∙ g.0, g.1) in assumption client
           ]
           -- the new client, which knows nothing yet
-          | inr t ↦ subst (λ z. ViewOk kinds k.lists w so' j z) t.1 record {
+          | inr t ↦ subst (λ z. ViewAgrees kinds k.lists w so' j z) t.1 record {
             seen = λ x. (w.log x, ap (λ z. z ++ w.log x) (sym (unseen v.kinds v.lists c x)));
             received = λ x. (w.log x, refl);
             left = All-nil (HasLeft w);
@@ -165,7 +167,7 @@ module _ {S O R : Type 0} (content : S → Content) (op_in : O → AnyOp) (reply
                 ready = λ f. absurd (cc);
                 wide_seen = refl;
                 seen = λ x. (w.log x, ap (λ z. z ++ w.log x) (sym (unseen v.kinds v.lists c x)));
-                covers = λ x. ([], ap (entries_of c) (unseen v.kinds v.lists c x));
+                covers = λ x. ([], ap (entries_of_client c) (unseen v.kinds v.lists c x));
                 held = none_yet.3;
                 ended = none_yet.2;
                 retired = All-nil (λ d. w.ended d ≡ true);
@@ -195,9 +197,10 @@ module _ {S O R : Type 0} (content : S → Content) (op_in : O → AnyOp) (reply
       (play.begins content op_in reply_in (step slots (row_place c) 0 0 maybe.none) m)
   begin_keeps_rule slots id c m cl number low is free going s k deep at small =
       let w : World = k.world in
-      let ok = subst (λ z. SeatOk kinds w z m.0) number (mine k id cl at) in
+      let ok = subst (λ z. SeatAgrees kinds w z m.0) number (mine k id cl at) in
       let v' : DeskView = with_own own.Idle m.0 in
-      let was : w.stage c ≡ absent = subst (λ o. OwnOk o (w.stage c)) is ok.own in let word = k.tied.rows c low in
+      let was : w.stage c ≡ absent = subst (λ o. OwnCallAgrees o (w.stage c)) is ok.own in let word = k.tied.rows c
+      low in
       let before : (p : AnyRequest) → w.stage c ≢ picked p = λ p e. absurd cc in
       let message : get_elem? s.homes (16 + c) ≡ some (some slot.Nothing) =
       subst (CallAt content op_in reply_in (get_elem? s.homes (16 + c))) was (k.tied.calls c low) in
@@ -218,7 +221,7 @@ module _ {S O R : Type 0} (content : S → Content) (op_in : O → AnyOp) (reply
           others = λ d other. later_gone w w.clock c d idle w.done before
               (λ p e. absurd cc) refl (λ e. other (e ∙ sym number));
           -- the client has come, and has no call yet
-          own = subst (λ z. SeatOk kinds (staged w c idle) z v') (sym number)
+          own = subst (λ z. SeatAgrees kinds (staged w c idle) z v') (sym number)
               (seat_unanswered kinds w w.clock c idle w.done m.0 own.Idle m.0.done
               (λ p e. absurd cc) (λ p e. absurd cc) (λ p a e. absurd cc) refl ok.done
               (covers_own kinds w c m.0 own.Absent is ok) ok);

@@ -25,8 +25,9 @@ use Rattle.desk_invariant.specs.declared.board.DeskView.{DeskView}
 use Rattle.desk_model.specs.declared.Request.{Request}
 use Rattle.desk_model.specs.declared.Answer.{Answer}
 use Rattle.desk_model.specs.World.{AnyEntry, AnyRequest, AnyAnswer, AnyDone, Stage, idle, drawn, posted, picked}
-use Rattle.desk_model.specs.World.{answered, taken, World, kind_at, logged, logged_on, entries_of, served, served_now}
-use Rattle.desk_model.specs.World.{request_of, calls_made, journal_of, IsLegal, StartsWith}
+use Rattle.desk_model.specs.World.{answered, taken, World, kind_at, logged, logged_on, entries_of_client, served}
+use Rattle.desk_model.specs.World.{served_now}
+use Rattle.desk_model.specs.World.{request_of, calls_made, journal_of, IsLegalLog, StartsWith}
 use Rattle.desk_model.specs.Transitions.{changed, staged, ticked}
 use Rattle.desk_model.specs.Images.{request_in, answer_in}
 use Rattle.desk_model.proofs.Changed.{changed_here, changed_else}
@@ -34,7 +35,7 @@ use Rattle.desk_model.proofs.Entries.{starts_same, logged_here, logged_else, ser
 use Rattle.desk_model.proofs.Effects.{sound_staged, sound_called, sound_returned, clock_low}
 use Rattle.desk_invariant.specs.Views.{row_place, clock_place, seen_of, owed, after_miss, with_own, after_take}
 use Rattle.desk_invariant.specs.Views.{after_return, after_meet}
-use Rattle.desk_invariant.specs.Rule.{row_word, OwnOk, HeldOk, SeatOk, CallAt}
+use Rattle.desk_invariant.specs.Rule.{row_word, OwnCallAgrees, HeldAgrees, SeatAgrees, CallAt}
 use Rattle.desk_invariant.specs.Plays as play
 use Rattle.desk_invariant.proofs.Seats.{Later, Leaves, row_leaves, alike, kept_after, come_after, looks, mine, misses}
 use Rattle.desk_invariant.proofs.Seats.{Rule}
@@ -53,7 +54,7 @@ pub later_gone : (w : World) (n c d : ℕ) (t : Stage) (dones : ℕ → List Any
     → ((q : AnyRequest) → w.stage c ≢ picked q)
     → ((q : AnyRequest) → w.stage c ≢ posted q) → dones d ≡ w.done d → d ≢ c → Later w (gone w n c t dones) d
 later_gone w n c d t dones before apart same other = let here = changed_else w.stage c t d other in
-    let own : (o : Own) → OwnOk o (w.stage d) → OwnOk o (changed w.stage c t d) = λ o e. rw here e in
+    let own : (o : Own) → OwnCallAgrees o (w.stage d) → OwnCallAgrees o (changed w.stage c t d) = λ o e. rw here e in
     let logs : (y : ℕ) → StartsWith (w.log y) (w.log y) = λ y. starts_same (w.log y) in assumption (
       λ (q : AnyRequest) (a : AnyAnswer) (e : w.stage d ≡ answered q a). here ∙ e,
       λ (y j : ℕ) (p : AnyRequest) (g : w.holder y ≡ Some d) (h : w.hand y ≡ Some j) (e : w.stage j ≡ picked p).
@@ -71,7 +72,7 @@ gone_leaves w n c t dones going same d e =
 
 -- what the client holds, whose call is in no hand
 held_gone : (count : ℕ) (w : World) (n c : ℕ) (t : Stage) (dones : ℕ → List AnyDone) (o : Held)
-    → ((q : AnyRequest) → w.stage c ≢ picked q) → HeldOk count w c o → HeldOk count (gone w n c t dones) c o
+    → ((q : AnyRequest) → w.stage c ≢ picked q) → HeldAgrees count w c o → HeldAgrees count (gone w n c t dones) c o
 held_gone count w n c t dones o before h = grind (
   arith,
   before,
@@ -82,12 +83,13 @@ held_gone count w n c t dones o before h = grind (
 -- the client itself, whose call is neither posted nor in a hand
 seat_gone : (kinds : List Kind) (w : World) (n c : ℕ) (t : Stage) (dones : ℕ → List AnyDone) (v : DeskView) (o : Own)
     (ds : List AnyDone)
-    → ((q : AnyRequest) → w.stage c ≢ picked q) → ((q : AnyRequest) → w.stage c ≢ posted q) → OwnOk o t → ds ≡ dones c
-    → ((x : ℕ) → StartsWith (entries_of c (seen_of v x)) (served x c ds ++ owed x c o)) → SeatOk kinds w c v
-    → SeatOk kinds (gone w n c t dones) c (record v { own = o; done = ds; ready = false })
+    → ((q : AnyRequest) → w.stage c ≢ picked q) → ((q : AnyRequest) → w.stage c ≢ posted q) → OwnCallAgrees o t → ds
+    ≡ dones c
+    → ((x : ℕ) → StartsWith (entries_of_client c (seen_of v x)) (served x c ds ++ owed x c o)) → SeatAgrees kinds w c v
+    → SeatAgrees kinds (gone w n c t dones) c (record v { own = o; done = ds; ready = false })
 seat_gone kinds w n c t dones v o ds before apart is over covers ok =
     let ready : false ≡ true → (q : AnyRequest) × (a : AnyAnswer) × (changed w.stage c t c ≡ answered q a) =
-    λ e. absurd cc in let own : OwnOk o (changed w.stage c t c) = rw (changed_here w.stage c t) is in
+    λ e. absurd cc in let own : OwnCallAgrees o (changed w.stage c t c) = rw (changed_here w.stage c t) is in
     let back : All (λ b. (changed w.stage c t b.row ≡ posted b.request) × (w.holder b.request.object ≡ Some c)) v.back =
     λ i d l. let b = ok.back i d l in let p = get_or v.back i d in
     (changed_else w.stage c t p.row (λ same. apart p.request (ap w.stage (sym same) ∙ b.0)) ∙ b.0, b.1) in
@@ -97,19 +99,19 @@ seat_gone kinds w n c t dones v o ds before apart is over covers ok =
 pub seat_unanswered : (kinds : List Kind) (w : World) (n c : ℕ) (t : Stage) (dones : ℕ → List AnyDone) (v : DeskView)
     (o : Own) (ds : List AnyDone)
     → ((q : AnyRequest) → w.stage c ≢ picked q) → ((q : AnyRequest) → w.stage c ≢ posted q)
-    → ((q : AnyRequest) (a : AnyAnswer) → w.stage c ≢ answered q a) → OwnOk o t → ds ≡ dones c
-    → ((x : ℕ) → StartsWith (entries_of c (seen_of v x)) (served x c ds ++ owed x c o)) → SeatOk kinds w c v
-    → SeatOk kinds (gone w n c t dones) c (record v { own = o; done = ds })
+    → ((q : AnyRequest) (a : AnyAnswer) → w.stage c ≢ answered q a) → OwnCallAgrees o t → ds ≡ dones c
+    → ((x : ℕ) → StartsWith (entries_of_client c (seen_of v x)) (served x c ds ++ owed x c o)) → SeatAgrees kinds w c v
+    → SeatAgrees kinds (gone w n c t dones) c (record v { own = o; done = ds })
 seat_unanswered kinds w n c t dones v o ds before apart never is over covers ok =
     let not : v.ready ≡ false = false_from_ne_true v.ready (λ e. let a = ok.ready e in never a.0 a.1 a.2) in
-    subst (λ b. SeatOk kinds (gone w n c t dones) c (record v { own = o; done = ds; ready = b })) (sym not)
+    subst (λ b. SeatAgrees kinds (gone w n c t dones) c (record v { own = o; done = ds; ready = b })) (sym not)
     (seat_gone kinds w n c t dones v o ds before apart is over covers ok)
 
 -- what the client has seen of each object, where its own call is this
-pub covers_own : (kinds : List Kind) (w : World) (c : ℕ) (v : DeskView) (o : Own) → v.own ≡ o → SeatOk kinds w c v
-    → (x : ℕ) → StartsWith (entries_of c (seen_of v x)) (served x c v.done ++ owed x c o)
+pub covers_own : (kinds : List Kind) (w : World) (c : ℕ) (v : DeskView) (o : Own) → v.own ≡ o → SeatAgrees kinds w c v
+    → (x : ℕ) → StartsWith (entries_of_client c (seen_of v x)) (served x c v.done ++ owed x c o)
 covers_own kinds w c v o is ok x =
-    subst (λ o. StartsWith (entries_of c (seen_of v x)) (served x c v.done ++ owed x c o)) is (ok.covers x)
+    subst (λ o. StartsWith (entries_of_client c (seen_of v x)) (served x c v.done ++ owed x c o)) is (ok.covers x)
 
 module _ {S O R : Type 0} (content : S → Content) (op_in : O → AnyOp) (reply_in : R → AnyReply) (kinds : List Kind)
     (clients quota : ℕ) where
@@ -140,7 +142,7 @@ module _ {S O R : Type 0} (content : S → Content) (op_in : O → AnyOp) (reply
       let found : ℕ = get_or s.words clock_place 0 in
       let q : AnyRequest = request_in op_in (record p { ticket = found }) in let t : Stage = drawn q in
       let v' : DeskView = with_own (own.Drawn q) m.0 in
-      let was : w.stage c ≡ idle = subst (λ o. OwnOk o (w.stage c)) is ok.own in
+      let was : w.stage c ≡ idle = subst (λ o. OwnCallAgrees o (w.stage c)) is ok.own in
       let before : (r : AnyRequest) → w.stage c ≢ picked r = λ r e. absurd cc in
       let never : (r : AnyRequest) (a : AnyAnswer) → w.stage c ≢ answered r a = λ r a e. absurd cc in
       let ticket : found ≡ w.clock = k.tied.clock in let over = ok.done in
@@ -197,9 +199,9 @@ module _ {S O R : Type 0} (content : S → Content) (op_in : O → AnyOp) (reply
       (λ _. play.posts content op_in reply_in (step slots (row_place j) n 0 maybe.none) m n)
   post_keeps_rule slots id c n m q p tl cl number is free same word carried s k deep at small =
       let w : World = k.world in
-      let ok = subst (λ z. SeatOk kinds w z m.0) number (mine k id cl at) in let t : Stage = posted q in
+      let ok = subst (λ z. SeatAgrees kinds w z m.0) number (mine k id cl at) in let t : Stage = posted q in
       let v' : DeskView = with_own (own.Waiting q) m.0 in
-      let was : w.stage c ≡ drawn q = subst (λ o. OwnOk o (w.stage c)) is ok.own in
+      let was : w.stage c ≡ drawn q = subst (λ o. OwnCallAgrees o (w.stage c)) is ok.own in
       let before : (r : AnyRequest) → w.stage c ≢ picked r = λ r e. absurd cc in
       let never : (r : AnyRequest) (a : AnyAnswer) → w.stage c ≢ answered r a = λ r a e. absurd cc in (
         v',
@@ -219,7 +221,7 @@ module _ {S O R : Type 0} (content : S → Content) (op_in : O → AnyOp) (reply
           others = λ d other. later_gone w w.clock c d t w.done before
               (λ r e. absurd cc) refl (λ e. other (e ∙ sym number));
           -- the own call waits
-          own = subst (λ z. SeatOk kinds (staged w c t) z v') (sym number)
+          own = subst (λ z. SeatAgrees kinds (staged w c t) z v') (sym number)
               (seat_unanswered kinds w w.clock c t w.done m.0 (own.Waiting q) m.0.done before
               (λ r e. absurd cc) never
               (inl refl) ok.done (covers_own kinds w c m.0 (own.Drawn q) is ok) ok);
@@ -230,20 +232,21 @@ module _ {S O R : Type 0} (content : S → Content) (op_in : O → AnyOp) (reply
 
   -- ---- looking for the answer, and taking it
 
-  is_answered : (o : Own) (t : Stage) (q : AnyRequest) → o ≡ own.Waiting q → q.object < 16 → OwnOk o t
+  is_answered : (o : Own) (t : Stage) (q : AnyRequest) → o ≡ own.Waiting q → q.object < 16 → OwnCallAgrees o t
       → row_word t ≡ 33 → (a : AnyAnswer) × (t ≡ answered q a)
   is_answered o t q is low ok e = grind arith
 
   -- what the client has seen of each object, with the answer, after it has taken it
   covers_taken : (kinds : List Kind) (w : World) (c : ℕ) (v : DeskView) (q : AnyRequest) (a : AnyAnswer)
       (l : List AnyEntry) → v.own ≡ own.Waiting q → q.object < length v.seen
-      → entries_of c l ≡ served q.object c v.done ++ logged_on q.object c q a → SeatOk kinds w c v
-      → (y : ℕ) → StartsWith (entries_of c (seen_of (after_meet q.object l v) y))
+      → entries_of_client c l ≡ served q.object c v.done ++ logged_on q.object c q a → SeatAgrees kinds w c v
+      → (y : ℕ) → StartsWith (entries_of_client c (seen_of (after_meet q.object l v) y))
       (served y c v.done ++ owed y c (own.Taken q a))
   covers_taken kinds w c v q a l is low e ok =
-      seen_all (λ y z. StartsWith (entries_of c z) (served y c v.done ++ logged_on y c q a)) v.seen q.object l low
+      seen_all (λ y z. StartsWith (entries_of_client c z) (served y c v.done ++ logged_on y c q a)) v.seen q.object
+      l low
       ([], e ∙ sym (append-nil (served q.object c v.done ++ logged_on q.object c q a)))
-      (λ y other. subst (λ z. StartsWith (entries_of c (seen_of v y)) (served y c v.done ++ z))
+      (λ y other. subst (λ z. StartsWith (entries_of_client c (seen_of v y)) (served y c v.done ++ z))
       (sym (logged_else y c q a (λ f. other (sym f)))) (covers_own kinds w c v (own.Waiting q) is ok y))
 
   pub look_for_answer_keeps_rule : (slots id j : ℕ) (m : Me (Slot S O R) DeskView) → m.0.role ≡ role.Client
@@ -252,7 +255,7 @@ module _ {S O R : Type 0} (content : S → Content) (op_in : O → AnyOp) (reply
       (play.looks_for_answer content op_in reply_in (step slots (row_place j) 0 0 maybe.none) m)
   look_for_answer_keeps_rule slots id c m cl number few s k deep at small =
       let w : World = k.world in
-      let ok = subst (λ z. SeatOk kinds w z m.0) number (mine k id cl at) in
+      let ok = subst (λ z. SeatAgrees kinds w z m.0) number (mine k id cl at) in
       let word : get_or s.words (row_place c) 0 ≡ row_word (w.stage c) = k.tied.rows c few in
       dite (ℕ_discrete (get_or s.words (row_place c) 0) 33)
       (λ hit. (
@@ -280,7 +283,7 @@ module _ {S O R : Type 0} (content : S → Content) (op_in : O → AnyOp) (reply
       (play.takes_answer content op_in reply_in (step slots (row_place j) 33 0 maybe.none) m)
   take_keeps_rule slots id c m q cl number is free low few s k deep at small =
       let w : World = k.world in
-      let ok = subst (λ z. SeatOk kinds w z m.0) number (mine k id cl at) in
+      let ok = subst (λ z. SeatAgrees kinds w z m.0) number (mine k id cl at) in
       let word : get_or s.words (row_place c) 0 ≡ row_word (w.stage c) = k.tied.rows c few in let wide = ok.wide_seen in
       dite (ℕ_discrete (get_or s.words (row_place c) 0) 33)
       -- the word says that there is an answer: the client takes it
@@ -293,7 +296,7 @@ module _ {S O R : Type 0} (content : S → Content) (op_in : O → AnyOp) (reply
       let t : Stage = taken q a in let v' : DeskView = after_take q (answer_in reply_in b) l m.0 in
       let before : (p : AnyRequest) → w.stage c ≢ picked p = λ p e. absurd cc in
       -- the client's own entries in the log: its calls that are over, and this one
-      let calls : entries_of c l ≡ served x c m.0.done ++ logged_on x c q a =
+      let calls : entries_of_client c l ≡ served x c m.0.done ++ logged_on x c q a =
       k.sound.counted c x ∙ λ i. served x c (sym ok.done i) ++ served_now x c (was i) in
       -- the view with the whole log seen
       let begins = saw kinds w c x m.0 l low (starts_same l)
@@ -315,8 +318,8 @@ module _ {S O R : Type 0} (content : S → Content) (op_in : O → AnyOp) (reply
           others = λ d other. later_gone w w.clock c d t w.done before
               (λ r e. absurd cc) refl (λ e. other (e ∙ sym number));
           -- the own call has its answer
-          own = subst (λ z. SeatOk kinds (staged w c t) z v') (sym number)
-              (subst (λ z. SeatOk kinds (staged w c t) c (after_take q z l m.0)) (sym image)
+          own = subst (λ z. SeatAgrees kinds (staged w c t) z v') (sym number)
+              (subst (λ z. SeatAgrees kinds (staged w c t) c (after_take q z l m.0)) (sym image)
               (seat_gone kinds w w.clock c t w.done (after_meet x l m.0) (own.Taken q a) m.0.done before
               (λ p e. absurd cc)
               refl ok.done (covers_taken kinds w c m.0 q a l is (omega arith) calls ok) begins));
@@ -327,12 +330,13 @@ module _ {S O R : Type 0} (content : S → Content) (op_in : O → AnyOp) (reply
             b,
             l,
             (λ i. (after_take (same i) (answer_in reply_in b) l m.0, (16 + row i, slot.Answer b) ∷ m.1)),
-            subst (λ z. IsLegal (kind_at m.0.kinds z.object) l) same
-                (subst (λ z. IsLegal (kind_at z x) l) (sym ok.kinds_are) (k.sound.legal x)),
+            subst (λ z. IsLegalLog (kind_at m.0.kinds z.object) l) same
+                (subst (λ z. IsLegalLog (kind_at z x) l) (sym ok.kinds_are) (k.sound.legal x)),
             subst (λ z. StartsWith l (seen_of m.0 z.object)) same (ok.seen x),
-            subst (λ z. entries_of m.0.number l
+            subst (λ z. entries_of_client m.0.number l
                 ≡ served z.object m.0.number m.0.done ++ logged m.0.number z (answer_in reply_in b)) same
-                (subst (λ z. entries_of z l ≡ served x z m.0.done ++ logged z q (answer_in reply_in b)) (sym number)
+                (subst (λ z. entries_of_client z l ≡ served x z m.0.done ++ logged z q (answer_in reply_in b))
+                (sym number)
                 (calls ∙ ap (λ z. served x c m.0.done ++ z) (logged_here x c q a refl ∙ ap (logged c q) (sym image)))),
           )),
           λ miss. absurd (miss hit),
@@ -365,7 +369,7 @@ module _ {S O R : Type 0} (content : S → Content) (op_in : O → AnyOp) (reply
       let found : ℕ = get_or s.words clock_place 0 in
       let d : AnyDone = record { request = q; answer = a; returned = found } in
       let ds : List AnyDone = w.done c ++ d ∷ [] in let v' : DeskView = after_return q a found m.0 in
-      let was : w.stage c ≡ taken q a = subst (λ o. OwnOk o (w.stage c)) is ok.own in
+      let was : w.stage c ≡ taken q a = subst (λ o. OwnCallAgrees o (w.stage c)) is ok.own in
       let before : (r : AnyRequest) → w.stage c ≢ picked r = λ r e. absurd cc in
       let never : (r : AnyRequest) (a : AnyAnswer) → w.stage c ≢ answered r a = λ r a e. absurd cc in
       let prefix = ok.seen q.object in (
@@ -390,7 +394,7 @@ module _ {S O R : Type 0} (content : S → Content) (op_in : O → AnyOp) (reply
               (m.0.done ++ d ∷ []) before
               (λ r e. absurd cc) never refl
               (ap (λ z. z ++ d ∷ []) ok.done ∙ sym (changed_here w.done c ds))
-              (λ y. subst (StartsWith (entries_of c (seen_of m.0 y)))
+              (λ y. subst (StartsWith (entries_of_client c (seen_of m.0 y)))
               (sym (append-nil (served y c (m.0.done ++ d ∷ [])) ∙ served_more y c found m.0.done q a))
               (covers_own kinds w c m.0 (own.Taken q a) is ok y)) ok;
         },

@@ -25,7 +25,7 @@ use Rattle.desk_model.proofs.Entries.{starts_same}
 use Rattle.desk_model.proofs.Effects.{sound_ended}
 use Rattle.desk_invariant.specs.Views.{end_place, own_request, journal, IsAtRest, after_end, after_end_seen}
 use Rattle.desk_invariant.specs.Views.{after_end_unset}
-use Rattle.desk_invariant.specs.Rule.{end_word, OwnOk, HeldOk, SeatOk}
+use Rattle.desk_invariant.specs.Rule.{end_word, OwnCallAgrees, HeldAgrees, SeatAgrees}
 use Rattle.desk_invariant.specs.Plays as play
 use Rattle.desk_invariant.proofs.Seats.{Later, alike, kept_after, seat_knowing, mine, unmoved, Rule}
 use Rattle.desk_invariant.proofs.Ties.{tied_end}
@@ -38,8 +38,8 @@ later_ended w c d other = let logs : (y : ℕ) → StartsWith (w.log y) (w.log y
     assumption (changed_else w.ended c true d other)
 
 -- the client itself, which ends
-seat_ended : (kinds : List Kind) (w : World) (c : ℕ) (v : DeskView) → SeatOk kinds w c v
-    → SeatOk kinds (ended_by w c) c (after_end v)
+seat_ended : (kinds : List Kind) (w : World) (c : ℕ) (v : DeskView) → SeatAgrees kinds w c v
+    → SeatAgrees kinds (ended_by w c) c (after_end v)
 seat_ended kinds w c v ok =
     let over = changed_here w.ended c true in
     let told : All (λ d. changed w.ended c true d ≡ true) v.retired =
@@ -51,11 +51,11 @@ is_ended true e = refl
 is_ended false e = absurd (omega arith)
 
 -- what a client knows of its call is what the stage says
-pub own_is : (o : Own) (t : Stage) → OwnOk o t → own_request o ≡ request_of t
+pub own_is : (o : Own) (t : Stage) → OwnCallAgrees o t → own_request o ≡ request_of t
 own_is o t is = grind arith
 
 -- a client at rest has come
-has_come : (o : Own) (t : Stage) → IsAtRest o → OwnOk o t → t ≢ absent
+has_come : (o : Own) (t : Stage) → IsAtRest o → OwnCallAgrees o t → t ≢ absent
 has_come o t calm is gone = grind arith
 
 module _ {S O R : Type 0} (content : S → Content) (op_in : O → AnyOp) (reply_in : R → AnyReply) (kinds : List Kind)
@@ -71,7 +71,7 @@ module _ {S O R : Type 0} (content : S → Content) (op_in : O → AnyOp) (reply
       (λ _. play.ends content op_in reply_in (step slots (end_place c) 1 0 maybe.none) m 1)
   end_keeps_rule slots id c m j tl cl number calm free says carried s k deep at small =
       let w : World = k.world in
-      let ok = subst (λ z. SeatOk kinds w z m.0) number (mine k id cl at) in let v' : DeskView = after_end m.0 in
+      let ok = subst (λ z. SeatAgrees kinds w z m.0) number (mine k id cl at) in let v' : DeskView = after_end m.0 in
       let says' : map (event_in op_in reply_in) j.events.items ≡ journal_of (w.done c) (request_of (w.stage c)) =
       says ∙ λ i. journal_of (ok.done i) (own_is m.0.own (w.stage c) ok.own i) in (
         v',
@@ -82,14 +82,14 @@ module _ {S O R : Type 0} (content : S → Content) (op_in : O → AnyOp) (reply
           holders = λ x d e. let b = k.holders x d e in (
             b.0,
             changed_else w.ended c true d
-                (λ same. subst (HeldOk (length kinds) w c) free ok.held x (e ∙ ap Some same)) ∙ b.1,
+                (λ same. subst (HeldAgrees (length kinds) w c) free ok.held x (e ∙ ap Some same)) ∙ b.1,
           );
           come = k.come;
           sound = sound_ended kinds quota w c k.sound;
           tied = tied_end c j ok.small (has_come m.0.own (w.stage c) calm ok.own) says' k.tied;
           leave = λ d e. (still_ended w c d e, refl);
           others = λ d other. later_ended w c d (λ e. other (e ∙ sym number));
-          own = subst (λ z. SeatOk kinds (ended_by w c) z v') (sym number) (seat_ended kinds w c m.0 ok);
+          own = subst (λ z. SeatAgrees kinds (ended_by w c) z v') (sym number) (seat_ended kinds w c m.0 ok);
         }),
         refl,
       )

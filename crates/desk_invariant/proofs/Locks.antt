@@ -30,7 +30,7 @@ use Rattle.desk_model.proofs.Changed.{changed_here, changed_else, changed_all}
 use Rattle.desk_model.proofs.Entries.{starts_same}
 use Rattle.desk_model.proofs.Effects.{sound_held}
 use Rattle.desk_invariant.specs.Views.{after_miss, after_win, after_release, after_meet, IsAtRest, IsAccount}
-use Rattle.desk_invariant.specs.Rule.{lock_word, Fits, HeldOk, SeatOk}
+use Rattle.desk_invariant.specs.Rule.{lock_word, CoreFits, HeldAgrees, SeatAgrees}
 use Rattle.desk_invariant.specs.Plays as play
 use Rattle.desk_invariant.proofs.Seats.{Later, alike, kept_after, looks, mine, misses, Rule}
 use Rattle.desk_invariant.proofs.Seeing.{all_covered, saw, accounts}
@@ -66,8 +66,8 @@ held_log o = []
 seat_held : (kinds : List Kind) (w : World) (c x : ℕ) (h : Option ℕ) (v : DeskView) (o : Held)
     (bs : List PutBack) (n : ℕ)
     → All (λ b. (w.stage b.row ≡ posted b.request) × (changed w.holder x h b.request.object ≡ Some c)) bs
-    → SeatOk kinds w c v → HeldOk (length kinds) (held_by w x h) c o
-    → SeatOk kinds (held_by w x h) c (record v { held = o; back = bs; won = n })
+    → SeatAgrees kinds w c v → HeldAgrees (length kinds) (held_by w x h) c o
+    → SeatAgrees kinds (held_by w x h) c (record v { held = o; back = bs; won = n })
 seat_held kinds w c x h v o bs n in_rows ok now = assumption
 
 module _ {S O R : Type 0} (content : S → Content) (op_in : O → AnyOp) (reply_in : R → AnyReply) (kinds : List Kind)
@@ -104,7 +104,7 @@ module _ {S O R : Type 0} (content : S → Content) (op_in : O → AnyOp) (reply
       let w : World = k.world in let c : ℕ = m.0.number in let ok = mine k id cl at in
       let none_holds : w.holder x ≡ None = free_lock (w.holder x) (sym (k.tied.locks x inside) ∙ hit) in
       let home = k.tied.cores x inside none_holds in let v' : DeskView = after_win x (w.log x) m.0 in
-      let nothing : (y : ℕ) → w.holder y ≢ Some c = subst (HeldOk (length kinds) w c) free ok.held in (
+      let nothing : (y : ℕ) → w.holder y ≢ Some c = subst (HeldAgrees (length kinds) w c) free ok.held in (
         v',
         takes x (slot.Core home.0),
         home.1,
@@ -141,7 +141,7 @@ module _ {S O R : Type 0} (content : S → Content) (op_in : O → AnyOp) (reply
             home.0,
             w.log x,
             refl,
-            subst (λ (z : List Kind × List TableId). Fits content op_in reply_in (kind_at z.0 x)
+            subst (λ (z : List Kind × List TableId). CoreFits content op_in reply_in (kind_at z.0 x)
                 (get_elem? z.1 x) home.0 (w.log x))
                 (λ i. (sym ok.kinds_are i, sym ((k.seats id m.0 at).lists_are cl) i)) home.2,
             ok.seen x,
@@ -163,15 +163,15 @@ module _ {S O R : Type 0} (content : S → Content) (op_in : O → AnyOp) (reply
   pub release_keeps_rule : (slots id x : ℕ) (m : Me (Slot S O R) DeskView) (l : List AnyEntry) (k : Core S O R)
       (tl : List (ℕ × Slot S O R))
       → m.0.role ≡ role.Client → m.0.held ≡ held.Pass x l → m.1 ≡ (x, slot.Core k) ∷ tl
-      → Fits content op_in reply_in (kind_at m.0.kinds x) (get_elem? m.0.lists x) k l → IsAtRest m.0.own
+      → CoreFits content op_in reply_in (kind_at m.0.kinds x) (get_elem? m.0.lists x) k l → IsAtRest m.0.own
       → Allows K slots id m x (λ _. 0) (λ _. play.releases content op_in reply_in (step slots x 0 0 maybe.none) m 0)
   release_keeps_rule slots id x m l core tl cl pass carried fits calm s k deep at small =
       let w : World = k.world in let c : ℕ = m.0.number in let ok = mine k id cl at in let few = k.tied.objects in
-      let h = subst (HeldOk (length kinds) w c) pass ok.held in let v' : DeskView = after_release x l m.0 in
+      let h = subst (HeldAgrees (length kinds) w c) pass ok.held in let v' : DeskView = after_release x l m.0 in
       let inside : x < length kinds = h.0 in let low : x < 16 = omega arith in
       -- the core fits the log of the world
-      let fits' : Fits content op_in reply_in (kind_at kinds x) (get_elem? k.lists x) core (w.log x) =
-      subst (λ (z : List Kind × List TableId × List AnyEntry). Fits content op_in reply_in (kind_at z.0 x)
+      let fits' : CoreFits content op_in reply_in (kind_at kinds x) (get_elem? k.lists x) core (w.log x) =
+      subst (λ (z : List Kind × List TableId × List AnyEntry). CoreFits content op_in reply_in (kind_at z.0 x)
       (get_elem? z.1 x) core z.2)
       (λ i. (ok.kinds_are i, (k.seats id m.0 at).lists_are cl i, sym h.3 i)) fits in
       let covers = all_covered kinds quota w c x m.0.done m.0.own ok.done ok.own k.sound in
@@ -192,7 +192,7 @@ module _ {S O R : Type 0} (content : S → Content) (op_in : O → AnyOp) (reply
           others = λ d other. later_held w x d None (λ e. other (sym (same_Some c d (sym h.1 ∙ e))))
               (λ e. absurd (cc));
           -- the client holds nothing, and has seen the log
-          own = subst (λ z. SeatOk kinds (held_by w x None) c (after_release x z m.0)) h.3
+          own = subst (λ z. SeatAgrees kinds (held_by w x None) c (after_release x z m.0)) h.3
               (seat_held kinds w c x None (after_meet x (w.log x) m.0) held.Free [] m.0.won
               (All-nil (λ (b : PutBack). (w.stage b.row ≡ posted b.request)
               × (changed w.holder x None b.request.object ≡ Some c))) seat

@@ -11,11 +11,11 @@ use Rattle.model.specs.Objects.{Content}
 use Rattle.desk_invariant.specs.declared.board.Slot.{Slot}
 use Rattle.desk_invariant.specs.declared.board.Role.TheVariants as role
 use Rattle.desk_invariant.specs.declared.board.DeskView.{DeskView}
-use Rattle.desk_model.specs.World.{AnyEntry, World, kind_at, entries_of, IsLegal, StartsWith}
+use Rattle.desk_model.specs.World.{AnyEntry, World, kind_at, entries_of_client, IsLegalLog, StartsWith}
 use Rattle.desk_model.proofs.Entries.{legal_front, starts_same, starts_longer}
 use Rattle.desk_invariant.specs.Views.{seen_of, received_of, after_meet, seen_message, after_message, empty_message}
 use Rattle.desk_invariant.specs.Views.{IsAtRest}
-use Rattle.desk_invariant.specs.Rule.{HasLeft, SeatOk}
+use Rattle.desk_invariant.specs.Rule.{HasLeft, SeatAgrees}
 use Rattle.desk_invariant.specs.Plays as play
 use Rattle.desk_invariant.proofs.Seats.{alike, seat_knowing, mine, unmoved, Rule}
 use Rattle.desk_invariant.proofs.Seeing.{all_covered, entries_start, saw, accounts}
@@ -37,7 +37,7 @@ module _ {S O R : Type 0} (content : S → Content) (op_in : O → AnyOp) (reply
   message_keeps_rule id v other t =
       receiving_keeps_rule content op_in reply_in kinds clients quota id v (after_message v t) other t refl refl refl
       (λ s k at there. let old = k.seats id v at in let client : v.role ≡ role.Client
-      → (k.seat_of v.number ≡ id) × SeatOk kinds k.world v.number (after_message v t) = λ f. let c = old.client f in
+      → (k.seat_of v.number ≡ id) × SeatAgrees kinds k.world v.number (after_message v t) = λ f. let c = old.client f in
       (c.0, seat_knowing c.1.ready c.1.retired c.1) in assumption (client, (k.seats other t there).seen))
 
   pub learn_keeps_rule : (slots id x : ℕ) (m : Me (Slot S O R) DeskView) → m.0.role ≡ role.Client → x < 16
@@ -54,7 +54,7 @@ module _ {S O R : Type 0} (content : S → Content) (op_in : O → AnyOp) (reply
         (
           l,
           refl,
-          subst (λ z. IsLegal (kind_at z x) l) (sym ok.kinds_are) (k.sound.legal x),
+          subst (λ z. IsLegalLog (kind_at z x) l) (sym ok.kinds_are) (k.sound.legal x),
           ok.seen x,
           (k.seats id m.0 at).received x,
           ok.wide_seen,
@@ -68,7 +68,7 @@ module _ {S O R : Type 0} (content : S → Content) (op_in : O → AnyOp) (reply
   adopt_keeps_rule slots id x m cl low later calm s k deep at small =
       let w : World = k.world in let c : ℕ = m.0.number in let ok = mine k id cl at in
       let l : List AnyEntry = received_of m.0 x in
-      let covers = starts_longer (entries_of c l) (entries_of c (seen_of m.0 x)) _
+      let covers = starts_longer (entries_of_client c l) (entries_of_client c (seen_of m.0 x)) _
       (entries_start c l (seen_of m.0 x) later) (ok.covers x) in (
         after_meet x l m.0,
         keeps,
@@ -77,7 +77,7 @@ module _ {S O R : Type 0} (content : S → Content) (op_in : O → AnyOp) (reply
             (saw kinds w c x m.0 l low ((k.seats id m.0 at).received x) covers ok),
         (
           refl,
-          subst (λ z. IsLegal (kind_at z x) l) (sym ok.kinds_are)
+          subst (λ z. IsLegalLog (kind_at z x) l) (sym ok.kinds_are)
               (legal_front (kind_at kinds x) (w.log x) l ((k.seats id m.0 at).received x) (k.sound.legal x)),
           accounts kinds quota w x m.0 l calm ok.done ok.own k.sound ((k.seats id m.0 at).received x) covers,
         ),

@@ -16,7 +16,7 @@ use Rattle.desk_invariant.specs.declared.board.Role.TheVariants as role
 use Rattle.desk_invariant.specs.declared.board.DeskView.{DeskView}
 use Rattle.desk_model.specs.World.{World, StartsWith}
 use Rattle.desk_invariant.specs.Views.{seen_of, received_of, empty_message}
-use Rattle.desk_invariant.specs.Rule.{HasLeft, ViewOk, Makers}
+use Rattle.desk_invariant.specs.Rule.{HasLeft, ViewAgrees, Makers}
 use Rattle.desk_invariant.proofs.Seats.{makers_stay, Rule}
 use Rattle.desk_invariant.proofs.Beginnings.{get_or-replicate_same}
 use Rattle.publication_list.proofs.RosterMaking.{at_end}
@@ -44,7 +44,7 @@ makers_drop clients vs id b idle = makers_with clients vs (set vs id b) b idle
 pub message_ok : (kinds : List Kind) (lists : List TableId) (w : World) (so : ℕ → ℕ) (j : ℕ) (v : DeskView)
     → v.role ≡ role.Message
     → ((x : ℕ) → StartsWith (w.log x) (seen_of v x)) → ((x : ℕ) → StartsWith (w.log x) (received_of v x))
-    → All (HasLeft w) v.left → ViewOk kinds lists w so j v
+    → All (HasLeft w) v.left → ViewAgrees kinds lists w so j v
 message_ok kinds lists w so j v none seen received left = grind arith
 
 -- nothing was seen, which each log begins with
@@ -52,7 +52,7 @@ pub nothing_seen : (w : World) (x : ℕ) → StartsWith (w.log x) (seen_of empty
 nothing_seen w x = (w.log x, ap (λ z. z ++ w.log x) (sym (get_or-replicate_same [] 16 x)))
 
 empty_message_ok : (kinds : List Kind) (lists : List TableId) (w : World) (so : ℕ → ℕ) (j : ℕ)
-    → ViewOk kinds lists w so j empty_message
+    → ViewAgrees kinds lists w so j empty_message
 empty_message_ok kinds lists w so j =
     message_ok kinds lists w so j empty_message refl (nothing_seen w) (λ x. (w.log x, refl)) (All-nil (HasLeft w))
 
@@ -63,7 +63,7 @@ module _ {S O R : Type 0} (content : S → Content) (op_in : O → AnyOp) (reply
 
   -- the same world, with other views
   kept_views : (s : State (Slot S O R) DeskView) (k : K s) (vs : List DeskView)
-      → ((j : ℕ) (u : DeskView) → get_elem? vs j ≡ some u → ViewOk kinds k.lists k.world k.seat_of j u)
+      → ((j : ℕ) (u : DeskView) → get_elem? vs j ≡ some u → ViewAgrees kinds k.lists k.world k.seat_of j u)
       → Makers clients vs → K record { words = s.words; homes = s.homes; views = vs }
   kept_views s k vs seats makers = record {
     world = k.world;
@@ -82,27 +82,27 @@ module _ {S O R : Type 0} (content : S → Content) (op_in : O → AnyOp) (reply
   -- a message b more
   pub sending_keeps_rule : (id : ℕ) (v b : DeskView) → b.role ≡ role.Message
       → ((s : State (Slot S O R) DeskView) (k : K s) → get_elem? s.views id ≡ some v → (j : ℕ)
-      → ViewOk kinds k.lists k.world k.seat_of j b) → Splits K id v v b
+      → ViewAgrees kinds k.lists k.world k.seat_of j b) → Splits K id v v b
   sending_keeps_rule id v b idle ok s k at =
       subst (λ (z : List DeskView). K record { words = s.words; homes = s.homes; views = z ++ b ∷ [] })
       (sym (set_again s.views id v at))
       (kept_views s k (s.views ++ b ∷ []) (λ j u e. elim (at_end s.views b u j e) [
         | inl old ↦ k.seats j u old
-        | inr new ↦ subst (ViewOk kinds k.lists k.world k.seat_of j) new.1 (ok s k at j)
+        | inr new ↦ subst (ViewAgrees kinds k.lists k.world k.seat_of j) new.1 (ok s k at j)
       ]) (makers_more clients s.views b idle k.makers))
 
   -- the view v takes in the message t, which is spent, and becomes v'
   pub receiving_keeps_rule : (id : ℕ) (v v' : DeskView) (other : ℕ) (t : DeskView) → v'.role ≡ v.role
       → v'.number ≡ v.number → v'.made ≡ v.made
       → ((s : State (Slot S O R) DeskView) (k : K s) → get_elem? s.views id ≡ some v → get_elem? s.views other ≡ some t
-      → ViewOk kinds k.lists k.world k.seat_of id v') → Joins K id v other t v' empty_message
+      → ViewAgrees kinds k.lists k.world k.seat_of id v') → Joins K id v other t v' empty_message
   receiving_keeps_rule id v v' other t alike number made ok s k at apart there =
       let mid : List DeskView = set s.views id v' in
       kept_views s k (set mid other empty_message) (λ j u e. elim (at_set mid other j empty_message u e) [
-        | inl spent ↦ subst (ViewOk kinds k.lists k.world k.seat_of j) spent.1
+        | inl spent ↦ subst (ViewAgrees kinds k.lists k.world k.seat_of j) spent.1
             (empty_message_ok kinds k.lists k.world k.seat_of j)
         | inr kept ↦ elim (at_set s.views id j v' u kept.1) [
-          | inl new ↦ subst (λ (z : ℕ × DeskView). ViewOk kinds k.lists k.world k.seat_of z.0 z.1)
+          | inl new ↦ subst (λ (z : ℕ × DeskView). ViewAgrees kinds k.lists k.world k.seat_of z.0 z.1)
               (λ i. (sym new.0 i, new.1 i)) (ok s k at (sym (set_else s.views id other v' apart) ∙ there))
           | inr old ↦ k.seats j u old.1
         ]

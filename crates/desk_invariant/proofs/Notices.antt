@@ -12,7 +12,7 @@ use Rattle.desk_invariant.specs.declared.board.Role.TheVariants as role
 use Rattle.desk_invariant.specs.declared.board.DeskView.{DeskView}
 use Rattle.desk_model.specs.World.{journal_of}
 use Rattle.desk_invariant.specs.Views.{end_notice, after_notice, empty_message, end_message}
-use Rattle.desk_invariant.specs.Rule.{HasLeft, SeatOk}
+use Rattle.desk_invariant.specs.Rule.{HasLeft, SeatAgrees}
 use Rattle.desk_invariant.proofs.Seats.{seat_knowing, mine, Rule}
 use Rattle.desk_invariant.proofs.Ends.{own_is}
 use Rattle.desk_invariant.proofs.Messages.{message_ok, nothing_seen, sending_keeps_rule, receiving_keeps_rule}
@@ -39,6 +39,7 @@ module _ {S O R : Type 0} (content : S → Content) (op_in : O → AnyOp) (reply
       receiving_keeps_rule content op_in reply_in kinds clients quota id v
       (after_notice t.left v) other t refl refl refl (λ s k at there. let old = k.seats id v at in
       let client : v.role ≡ role.Client
-      → (k.seat_of v.number ≡ id) × SeatOk kinds k.world v.number (after_notice t.left v) = λ f. let c = old.client f in
+      → (k.seat_of v.number ≡ id) × SeatAgrees kinds k.world v.number (after_notice t.left v) = λ f. let c = old.client
+      f in
       (c.0, seat_knowing c.1.ready c.1.retired c.1) in
       assumption (client, All-append (HasLeft k.world) v.left t.left old.left (k.seats other t there).left))

@@ -29,7 +29,7 @@ use Rattle.desk_invariant.specs.declared.board.DeskView.{DeskView}
 use Rattle.desk_model.specs.declared.Request.{Request}
 use Rattle.desk_model.specs.declared.Answer.{Answer}
 use Rattle.desk_model.specs.World.{AnyEntry, AnyRequest, AnyAnswer, Stage, posted, picked}
-use Rattle.desk_model.specs.World.{answered, World, kind_at, logged, request_of, IsLegal, StartsWith}
+use Rattle.desk_model.specs.World.{answered, World, kind_at, logged, request_of, IsLegalLog, StartsWith}
 use Rattle.desk_model.specs.Transitions.{changed, handed, served_by}
 use Rattle.desk_model.specs.Sound.{Sound}
 use Rattle.desk_model.specs.Images.{request_in, answer_in}
@@ -38,7 +38,7 @@ use Rattle.desk_model.proofs.Entries.{starts_same, starts_longer}
 use Rattle.desk_model.proofs.Effects.{sound_picked, sound_put_back, sound_served}
 use Rattle.desk_invariant.specs.Views.{row_place, seen_of, waits_on, after_row_miss, after_pick, after_put_back}
 use Rattle.desk_invariant.specs.Views.{after_answer}
-use Rattle.desk_invariant.specs.Rule.{row_word, OwnOk, HeldOk, SeatOk, CallAt}
+use Rattle.desk_invariant.specs.Rule.{row_word, OwnCallAgrees, HeldAgrees, SeatAgrees, CallAt}
 use Rattle.desk_invariant.specs.Plays as play
 use Rattle.desk_invariant.proofs.Seats.{Later, row_leaves, alike, kept_after, looks, come_after, seat_knowing, mine}
 use Rattle.desk_invariant.proofs.Seats.{unmoved, Rule}
@@ -50,14 +50,14 @@ is_posted t x h e = grind arith
 
 -- the stage of a call that waits
 abbrev Waits : AnyRequest → Stage → Type 0
-Waits q t = OwnOk (own.Waiting q) t
+Waits q t = OwnCallAgrees (own.Waiting q) t
 
 -- the own call that is posted is the one that waits
-own_posted : (p q : AnyRequest) (o : Own) (t : Stage) → OwnOk o t → o ≡ own.Waiting p → t ≡ posted q → q ≡ p
+own_posted : (p q : AnyRequest) (o : Own) (t : Stage) → OwnCallAgrees o t → o ≡ own.Waiting p → t ≡ posted q → q ≡ p
 own_posted p q o t ok mine at = grind arith
 
 -- what a client knows of its own call stays true while the call goes on waiting
-own_waits : (o : Own) (q : AnyRequest) (t u : Stage) → Waits q t → Waits q u → OwnOk o t → OwnOk o u
+own_waits : (o : Own) (q : AnyRequest) (t u : Stage) → Waits q t → Waits q u → OwnCallAgrees o t → OwnCallAgrees o u
 own_waits o q t u from to e = grind arith
 
 -- ---- the other clients, when one row goes to another stage
@@ -67,9 +67,10 @@ abbrev rowed : World → (ℕ → Option ℕ) → (ℕ → List AnyEntry) → �
 rowed w hands logs r t = record w { hand = hands; log = logs; stage = changed w.stage r t }
 
 own_after : (w : World) (r d : ℕ) (q : AnyRequest) (t : Stage) → Waits q (w.stage r) → Waits q t → (o : Own)
-    → OwnOk o (w.stage d) → OwnOk o (changed w.stage r t d)
+    → OwnCallAgrees o (w.stage d) → OwnCallAgrees o (changed w.stage r t d)
 own_after w r d q t from to o =
-    changed_all (λ d u. OwnOk o (w.stage d) → OwnOk o u) w.stage r t (own_waits o q (w.stage r) t from to)
+    changed_all (λ d u. OwnCallAgrees o (w.stage d) → OwnCallAgrees o u) w.stage r t
+    (own_waits o q (w.stage r) t from to)
     (λ d _ e. e) d
 
 ready_after : (w : World) (r d : ℕ) (t : Stage) → ((q : AnyRequest) (a : AnyAnswer) → w.stage r ≢ answered q a)
@@ -130,8 +131,8 @@ seat_row : (kinds : List Kind) (w : World) (c r : ℕ) (q : AnyRequest) (t : Sta
     (logs : ℕ → List AnyEntry) (v : DeskView)
     (o : Held) (bs : List PutBack) → All (InRow (changed w.stage r t) w.holder c) bs → Waits q (w.stage r) → Waits q t
     → ((q : AnyRequest) (a : AnyAnswer) → w.stage r ≢ answered q a) → ((y : ℕ) → StartsWith (logs y) (w.log y))
-    → SeatOk kinds w c v → HeldOk (length kinds) (rowed w hands logs r t) c o
-    → SeatOk kinds (rowed w hands logs r t) c (record v { held = o; back = bs })
+    → SeatAgrees kinds w c v → HeldAgrees (length kinds) (rowed w hands logs r t) c o
+    → SeatAgrees kinds (rowed w hands logs r t) c (record v { held = o; back = bs })
 seat_row kinds w c r q t hands logs v o bs in_rows from to never grow ok now =
     let ready : v.ready ≡ true → (q : AnyRequest) × (a : AnyAnswer) × (changed w.stage r t c ≡ answered q a) =
     λ is. let a = ok.ready is in (a.0, a.1, ready_after w r c t never a.0 a.1 a.2) in assumption (
@@ -142,15 +143,15 @@ seat_row kinds w c r q t hands logs v o bs in_rows from to never grow ok now =
 
 -- the own row was not posted for x, while x is held with nothing in hand
 noted : (kinds : List Kind) (quota c x : ℕ) (w : World) (o : Own) → Sound kinds quota w → w.hand x ≡ None
-    → row_word (w.stage c) ≢ 1 + x → waits_on x o ≡ true → OwnOk o (w.stage c)
+    → row_word (w.stage c) ≢ 1 + x → waits_on x o ≡ true → OwnCallAgrees o (w.stage c)
     → (q : AnyRequest) × (a : AnyAnswer) × (w.stage c ≡ answered q a)
 noted kinds quota c x w o k free miss e ok = grind (arith, k.picked_up c, eqb-true)
 
 noting_ok : (kinds : List Kind) (quota c x r : ℕ) (w : World) (v : DeskView) (l : List AnyEntry)
     → v.held ≡ held.Pass x l → Sound kinds quota w
-    → row_word (w.stage r) ≢ 1 + x → SeatOk kinds w c v → SeatOk kinds w c (after_row_miss (row_place r) x v)
+    → row_word (w.stage r) ≢ 1 + x → SeatAgrees kinds w c v → SeatAgrees kinds w c (after_row_miss (row_place r) x v)
 noting_ok kinds quota c x r w v l pass k miss ok =
-    let free = (subst (HeldOk (length kinds) w c) pass ok.held).2 in
+    let free = (subst (HeldAgrees (length kinds) w c) pass ok.held).2 in
     let own_row : Bool = eqb (row_place r) (row_place v.number) in let number = ok.number in
     let now : (own_row && waits_on x v.own) ≡ true
     → (q : AnyRequest) × (a : AnyAnswer) × (w.stage c ≡ answered q a) = λ b.
@@ -177,15 +178,16 @@ module _ {S O R : Type 0} (content : S → Content) (op_in : O → AnyOp) (reply
   -- what a miss at the row r tells
   row_missed : (c x x' r r' : ℕ) (w : World) (m : Me (Slot S O R) DeskView) (l l' : List AnyEntry)
       → m.0.held ≡ held.Pass x l
-      → m.0.held ≡ held.Pass x' l' → r ≡ r' → row_word (w.stage r) ≢ 1 + x → SeatOk kinds w c m.0
+      → m.0.held ≡ held.Pass x' l' → r ≡ r' → row_word (w.stage r) ≢ 1 + x → SeatAgrees kinds w c m.0
       → (◌≡◌ {A = Me (Slot S O R) DeskView} (after_row_miss (row_place r) x m.0, m.1)
       (after_row_miss (row_place r) x' m.0, m.1)) × All (λ b. b.row ≢ r') m.0.back
-  row_missed c x x' r r' w m l l' pass pass' er miss ok = let h = subst (HeldOk (length kinds) w c) pass ok.held in (
-    ap (λ z. (after_row_miss (row_place r) z m.0, m.1)) (ap held_object (sym pass ∙ pass')),
-    λ i d l row. let z = ok.back i d l in let p = get_or m.0.back i d in
-        let on : p.request.object ≡ x = h.4 p.request.object z.1 in
-        miss (ap (λ j. row_word (w.stage j)) (er ∙ sym row) ∙ (ap row_word z.0 ∙ ap (λ n. 1 + n) on)),
-  )
+  row_missed c x x' r r' w m l l' pass pass' er miss ok = let h = subst (HeldAgrees (length kinds) w c) pass ok.held
+      in (
+        ap (λ z. (after_row_miss (row_place r) z m.0, m.1)) (ap held_object (sym pass ∙ pass')),
+        λ i d l row. let z = ok.back i d l in let p = get_or m.0.back i d in
+            let on : p.request.object ≡ x = h.4 p.request.object z.1 in
+            miss (ap (λ j. row_word (w.stage j)) (er ∙ sym row) ∙ (ap row_word z.0 ∙ ap (λ n. 1 + n) on)),
+      )
 
   pub look_at_row_keeps_rule : (slots id x r : ℕ) (m : Me (Slot S O R) DeskView) (l : List AnyEntry)
       → m.0.role ≡ role.Client → r < 32 → m.0.held ≡ held.Pass x l
@@ -221,7 +223,7 @@ module _ {S O R : Type 0} (content : S → Content) (op_in : O → AnyOp) (reply
       (play.picks content op_in reply_in (step slots (row_place r) (1 + x) (17 + x) maybe.none) m)
   pick_keeps_rule slots id x r m l cl inside pass s k deep at small =
       let w : World = k.world in let c : ℕ = m.0.number in let ok = mine k id cl at in
-      let h = subst (HeldOk (length kinds) w c) pass ok.held in
+      let h = subst (HeldAgrees (length kinds) w c) pass ok.held in
       let few = k.tied.objects in let low : x < 16 = (let l₀ : x < length kinds = h.0 in omega arith) in
       let word : get_or s.words (row_place r) 0 ≡ row_word (w.stage r) = k.tied.rows r inside in
       dite (ℕ_discrete (get_or s.words (row_place r) 0) (1 + x))
@@ -304,7 +306,7 @@ module _ {S O R : Type 0} (content : S → Content) (op_in : O → AnyOp) (reply
       (λ _. play.puts_back content op_in reply_in (step slots (row_place r) n 0 maybe.none) m n)
   put_back_keeps_rule slots id x r n m l q p tl cl hand carried is on word s k deep at small =
       let w : World = k.world in let c : ℕ = m.0.number in let ok = mine k id cl at in let h =
-      subst (HeldOk (length kinds) w c) hand ok.held in let t : Stage = posted q in
+      subst (HeldAgrees (length kinds) w c) hand ok.held in let t : Stage = posted q in
       let from : Waits q (w.stage r) = inr (inl h.6) in let to : Waits q t = inl refl in
       let never : (p : AnyRequest) (a : AnyAnswer)
       → w.stage r ≢ answered p a = λ p a e. absurd cc in
@@ -349,8 +351,8 @@ module _ {S O R : Type 0} (content : S → Content) (op_in : O → AnyOp) (reply
 
   -- the client that answered, and knows that its own row is answered if it was that one
   seat_answered : (w : World) (c x r : ℕ) (q : AnyRequest) (a : AnyAnswer) (v : DeskView) (o : Held)
-      → w.stage r ≡ picked q → SeatOk kinds w c v → HeldOk (length kinds) (served_by w x r q a) c o
-      → SeatOk kinds (served_by w x r q a) c (record v { held = o; ready = v.ready || eqb r v.number })
+      → w.stage r ≡ picked q → SeatAgrees kinds w c v → HeldAgrees (length kinds) (served_by w x r q a) c o
+      → SeatAgrees kinds (served_by w x r q a) c (record v { held = o; ready = v.ready || eqb r v.number })
   seat_answered w c x r q a v o is ok now =
       let from : Waits q (w.stage r) = inr (inl is) in let to : Waits q (answered q a) = inr (inr (a, refl)) in
       let never : (p : AnyRequest) (b : AnyAnswer) → w.stage r ≢ answered p b = λ p b e. absurd cc in
@@ -379,20 +381,20 @@ module _ {S O R : Type 0} (content : S → Content) (op_in : O → AnyOp) (reply
       (b : Answer R)
       (tl : List (ℕ × Slot S O R)) → m.0.role ≡ role.Client → m.0.held ≡ held.Hand x l r q
       → m.1 ≡ (16 + r, slot.Answer b) ∷ tl → q.object ≡ x
-      → IsLegal (kind_at m.0.kinds x) (l ++ logged r q (answer_in reply_in b))
+      → IsLegalLog (kind_at m.0.kinds x) (l ++ logged r q (answer_in reply_in b))
       → Allows K slots id m (row_place r) (λ _. 33)
       (λ _. play.answers content op_in reply_in (step slots (row_place r) 33 0 maybe.none) m 33)
   answer_keeps_rule slots id x r m l q b tl cl hand carried on legal s k deep at small =
       let w : World = k.world in let c : ℕ = m.0.number in let ok = mine k id cl at in
-      let h = subst (HeldOk (length kinds) w c) hand ok.held in
+      let h = subst (HeldAgrees (length kinds) w c) hand ok.held in
       let a : AnyAnswer = answer_in reply_in b in let t : Stage = answered q a in
       let more : List AnyEntry = logged r q a in
       let from : Waits q (w.stage r) = inr (inl h.6) in let to : Waits q t = inr (inr (a, refl)) in
       let never : (p : AnyRequest) (a : AnyAnswer)
       → w.stage r ≢ answered p a = λ p a e. absurd cc in
       -- the log with the answer is legal
-      let legal' : IsLegal (kind_at kinds x) (w.log x ++ more) =
-      subst (λ (z : List Kind × List AnyEntry). IsLegal (kind_at z.0 x) (z.1 ++ more))
+      let legal' : IsLegalLog (kind_at kinds x) (w.log x ++ more) =
+      subst (λ (z : List Kind × List AnyEntry). IsLegalLog (kind_at z.0 x) (z.1 ++ more))
       (λ i. (ok.kinds_are i, sym h.3 i)) legal in (
         after_answer r x (l ++ more) m.0,
         gives,

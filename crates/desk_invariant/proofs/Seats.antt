@@ -28,13 +28,13 @@ use Rattle.desk_model.specs.Sound.{Sound}
 use Rattle.desk_model.proofs.Changed.{changed_all}
 use Rattle.desk_model.proofs.Entries.{starts_longer, starts_same}
 use Rattle.desk_invariant.specs.Views.{seen_of, received_of, after_miss}
-use Rattle.desk_invariant.specs.Rule.{OwnOk, HeldOk, SeatOk, HasLeft, ViewOk, Makers, Tied, Kept}
+use Rattle.desk_invariant.specs.Rule.{OwnCallAgrees, HeldAgrees, SeatAgrees, HasLeft, ViewAgrees, Makers, Tied, Kept}
 
 -- ---- what a step leaves to the other clients
 
 -- what the client c, which knows what it knows in w, needs of a step of another to w'
 pub record Later (w w' : World) (c : ℕ) : Type 0 where
-  pub own : (o : Own) → OwnOk o (w.stage c) → OwnOk o (w'.stage c)
+  pub own : (o : Own) → OwnCallAgrees o (w.stage c) → OwnCallAgrees o (w'.stage c)
   pub ready : (q : AnyRequest) (a : AnyAnswer) → w.stage c ≡ answered q a → w'.stage c ≡ answered q a
   pub done : w'.done c ≡ w.done c
   pub logs : (x : ℕ) → StartsWith (w'.log x) (w.log x)
@@ -65,11 +65,11 @@ row_leaves w r t same d e = (
 same_later : (w : World) (c : ℕ) → Later w w c
 same_later w c = let logs : (x : ℕ) → StartsWith (w.log x) (w.log x) = λ x. starts_same (w.log x) in assumption
 
-held_stays : (n : ℕ) (w w' : World) (c : ℕ) → Later w w' c → (h : Held) → HeldOk n w c h → HeldOk n w' c h
+held_stays : (n : ℕ) (w w' : World) (c : ℕ) → Later w w' c → (h : Held) → HeldAgrees n w c h → HeldAgrees n w' c h
 held_stays n w w' c t h k = grind (arith, t.holds, t.held, t.picked)
 
 seat_stays : (kinds : List Kind) (w w' : World) (c : ℕ) (v : DeskView) → Leaves w w' → Later w w' c
-    → SeatOk kinds w c v → SeatOk kinds w' c v
+    → SeatAgrees kinds w c v → SeatAgrees kinds w' c v
 seat_stays kinds w w' c v leave t k =
     let ready : v.ready ≡ true → (q : AnyRequest) × (a : AnyAnswer) × (w'.stage c ≡ answered q a) =
     λ is. let a = k.ready is in (a.0, a.1, t.ready a.0 a.1 a.2) in
@@ -124,8 +124,8 @@ pub seat_knowing : {kinds : List Kind} {w : World} {c : ℕ} {v : DeskView} {rea
     {received : List (List AnyEntry)} {missed : List ℕ}
     {left : List Leaving} {retired still_there : List ℕ}
     → (ready ≡ true → (q : AnyRequest) × (a : AnyAnswer) × (w.stage c ≡ answered q a))
-    → All (λ d. w.ended d ≡ true) retired → SeatOk kinds w c v
-    → SeatOk kinds w c (record v {
+    → All (λ d. w.ended d ≡ true) retired → SeatAgrees kinds w c v
+    → SeatAgrees kinds w c (record v {
       ready = ready;
       received = received;
       missed = missed;
@@ -141,9 +141,9 @@ seat_knowing ready retired ok = assumption
 seats_after : (kinds : List Kind) (lists : List TableId) (clients : ℕ) (w w' : World) (so : ℕ → ℕ)
     (vs : List DeskView) (id : ℕ) (v v' : DeskView)
     → get_elem? vs id ≡ some v → v.role ≡ role.Client → Alike v v' → Makers clients vs
-    → ((j : ℕ) (u : DeskView) → get_elem? vs j ≡ some u → ViewOk kinds lists w so j u) → Leaves w w'
-    → ((c : ℕ) → c ≢ v.number → Later w w' c) → SeatOk kinds w' v.number v'
-    → (j : ℕ) (u : DeskView) → get_elem? (set vs id v') j ≡ some u → ViewOk kinds lists w' so j u
+    → ((j : ℕ) (u : DeskView) → get_elem? vs j ≡ some u → ViewAgrees kinds lists w so j u) → Leaves w w'
+    → ((c : ℕ) → c ≢ v.number → Later w w' c) → SeatAgrees kinds w' v.number v'
+    → (j : ℕ) (u : DeskView) → get_elem? (set vs id v') j ≡ some u → ViewAgrees kinds lists w' so j u
 seats_after kinds lists clients w w' so vs id v v' at cl alike makers before leave others ok j u e =
     let here = (before id v at).client cl in let next : 1 + v.number ≢ v.number = λ h. omega arith in
     let logs = (others (1 + v.number) next).logs in
@@ -159,13 +159,13 @@ seats_after kinds lists clients w w' so vs id v v' at cl alike makers before lea
     (o.own own.Absent b.0, o.done ∙ b.1, o.ended ∙ b.2, λ x f. b.3 x (o.holds x f)) in
     elim (at_set vs id j v' u e) [
       -- the view of the client of the step
-      | inl t ↦ subst (λ (z : ℕ × DeskView). ViewOk kinds lists w' so z.0 z.1)
+      | inl t ↦ subst (λ (z : ℕ × DeskView). ViewAgrees kinds lists w' so z.0 z.1)
           (λ i. (sym t.0 i, t.1 i)) record {
             seen = ok.seen;
             received = λ x. subst (λ z. StartsWith (w'.log x) (get_or z x [])) (sym alike.received)
                 (starts_longer (w'.log x) (w.log x) (received_of v x) (logs x) ((before id v at).received x));
             left = subst (All (HasLeft w')) (sym alike.left) (left_stays w w' v.left leave (before id v at).left);
-            client = λ _. (ap so alike.number ∙ here.0, subst (λ z. SeatOk kinds w' z v') (sym alike.number) ok);
+            client = λ _. (ap so alike.number ∙ here.0, subst (λ z. SeatAgrees kinds w' z v') (sym alike.number) ok);
             unmade = λ is c l. let is' : v.role ≡ role.Maker = sym alike.role ∙ is in
                 let l' : v.made ≤ c = subst (λ z. z ≤ c) alike.made l in
                 unmade c (is_made c v id at is' l') ((before id v at).unmade is' c l');
@@ -237,7 +237,7 @@ module _ {S O R : Type 0} {content : S → Content} {op_in : O → AnyOp} {reply
   -- what the view of a client says of the client itself is true
   pub mine : {s : State (Slot S O R) DeskView} {v : DeskView} (k : Rule content op_in reply_in kinds clients quota s)
       (id : ℕ) → v.role ≡ role.Client
-      → get_elem? s.views id ≡ some v → SeatOk kinds k.world v.number v
+      → get_elem? s.views id ≡ some v → SeatAgrees kinds k.world v.number v
   mine k id cl at = ((k.seats id _ at).client cl).1
 
   -- the world after a step of the client whose view v becomes v', with what the rule asks of it
@@ -251,7 +251,7 @@ module _ {S O R : Type 0} {content : S → Content} {op_in : O → AnyOp} {reply
     pub tied : Tied content op_in reply_in kinds k.lists world words homes
     pub leave : Leaves k.world world
     pub others : (d : ℕ) → d ≢ v.number → Later k.world world d
-    pub own : SeatOk kinds world v.number v'
+    pub own : SeatAgrees kinds world v.number v'
 
   -- the rule holds after a step for which there is such a world
   pub kept_after : {s : State (Slot S O R) DeskView} {v : DeskView} {words : List ℕ}
@@ -281,7 +281,7 @@ module _ {S O R : Type 0} {content : S → Content} {op_in : O → AnyOp} {reply
   pub unmoved : {s : State (Slot S O R) DeskView} {v : DeskView} (k : Rule content op_in reply_in kinds clients quota s)
       (i id : ℕ) (v' : DeskView) (cs : List (ℕ × Slot S O R)) → get_elem? s.views id ≡ some v → v.role ≡ role.Client
       → Alike v v'
-      → SeatOk kinds k.world v.number v'
+      → SeatAgrees kinds k.world v.number v'
       → Rule content op_in reply_in kinds clients quota (stepped s i (get_or s.words i 0) id cs v' keeps)
   unmoved {s = s} {v = v} k i id v' cs at cl alike ok =
       rw (set-get_or s.words i 0) (kept_after k id v' at cl alike record {

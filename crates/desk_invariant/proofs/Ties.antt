@@ -18,7 +18,7 @@ use Rattle.desk_model.specs.Transitions.{changed, staged, ticked, held_by, ended
 use Rattle.desk_model.specs.Images.{event_in}
 use Rattle.desk_model.proofs.Changed.{changed_else, changed_all}
 use Rattle.desk_invariant.specs.Views.{row_place, end_place, clock_place}
-use Rattle.desk_invariant.specs.Rule.{Home, lock_word, row_word, end_word, Fits, CoreAt, CallAt, JournalAt, Tied}
+use Rattle.desk_invariant.specs.Rule.{Home, lock_word, row_word, end_word, CoreFits, CoreAt, CallAt, JournalAt, Tied}
 
 module _ {S O R : Type 0} {content : S → Content} {op_in : O → AnyOp} {reply_in : R → AnyReply} where
   -- the slot of a journal serves a stage with the same request, unless the client has not come
@@ -80,7 +80,7 @@ module _ {S O R : Type 0} {content : S → Content} {op_in : O → AnyOp} {reply
         cores = λ x l e. let b = k.cores x l e in (
           b.0,
           set_else homes (16 + r) x home (λ e. omega arith) ∙ b.1,
-          subst (Fits content op_in reply_in (kind_at kinds x) (get_elem? lists x) b.0) (sym (kept x e)) b.2,
+          subst (CoreFits content op_in reply_in (kind_at kinds x) (get_elem? lists x) b.0) (sym (kept x e)) b.2,
         );
         calls = changed_all (λ j u. j < 32
             → CallAt content op_in reply_in (get_elem? (set homes (16 + r) home) (16 + j)) u) w.stage r t

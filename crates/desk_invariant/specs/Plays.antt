@@ -14,15 +14,16 @@ use Rattle.desk_invariant.specs.declared.board.Held.TheVariants as held
 use Rattle.desk_invariant.specs.declared.board.DeskView.{DeskView}
 use Rattle.desk_model.specs.declared.Request.{Request}
 use Rattle.desk_model.specs.declared.Answer.{Answer}
-use Rattle.desk_model.specs.World.{AnyEntry, AnyRequest, AnyAnswer, kind_at, logged, entries_of}
-use Rattle.desk_model.specs.World.{served, IsLegal, StartsWith}
+use Rattle.desk_model.specs.World.{AnyEntry, AnyRequest, AnyAnswer, kind_at, logged}
+use Rattle.desk_model.specs.World.{entries_of_client}
+use Rattle.desk_model.specs.World.{served, IsLegalLog, StartsWith}
 use Rattle.desk_model.specs.Images.{request_in, answer_in}
 use Rattle.desk_invariant.specs.Views.{row_place, end_place, seen_of, received_of, after_miss}
 use Rattle.desk_invariant.specs.Views.{after_row_miss, after_win, after_pick, after_put_back}
 use Rattle.desk_invariant.specs.Views.{after_answer, IsAccount, after_release, with_own, after_take}
 use Rattle.desk_invariant.specs.Views.{after_return, after_meet, after_end}
 use Rattle.desk_invariant.specs.Views.{after_end_seen, after_end_unset}
-use Rattle.desk_invariant.specs.Rule.{Fits}
+use Rattle.desk_invariant.specs.Rule.{CoreFits}
 use Rattle.desk_invariant.specs.Views.{answered_word, call_slot, journal_slot}
 use Rattle.desk_model.specs.Limits.{max_objects}
 
@@ -57,7 +58,7 @@ module _ {S O R : Type 0} (content : S → Content) (op_in : O → AnyOp) (reply
           after_win step.word l (known before),
           (step.word, slot.Core k) ∷ taken_slots before,
         ))
-        × Fits content op_in reply_in (kind_at (known before).kinds step.word)
+        × CoreFits content op_in reply_in (kind_at (known before).kinds step.word)
         (get_elem? (known before).lists step.word) k l
         × StartsWith l (seen_of (known before) step.word))
         × (found ≢ 0 → after ≡ (after_miss step.word (known before), taken_slots before))
@@ -150,9 +151,9 @@ module _ {S O R : Type 0} (content : S → Content) (op_in : O → AnyOp) (reply
           after_take q (answer_in reply_in b) l (known before),
           (call_slot c, slot.Answer b) ∷ taken_slots before,
         ))
-        × IsLegal (kind_at (known before).kinds q.object) l
+        × IsLegalLog (kind_at (known before).kinds q.object) l
         × StartsWith l (seen_of (known before) q.object)
-        × (entries_of (known before).number l
+        × (entries_of_client (known before).number l
         ≡ served q.object (known before).number (known before).done
         ++ logged (known before).number q (answer_in reply_in b)))
         × (found ≢ answered_word → (after
@@ -180,7 +181,7 @@ module _ {S O R : Type 0} (content : S → Content) (op_in : O → AnyOp) (reply
     abbrev pub learns : Step (Slot S O R) → Hands → ℕ → Hands → Type 0
     learns step before found after =
         (l : List AnyEntry) × (after ≡ (after_meet step.word l (known before), taken_slots before))
-        × IsLegal (kind_at (known before).kinds step.word) l
+        × IsLegalLog (kind_at (known before).kinds step.word) l
         × StartsWith l (seen_of (known before) step.word)
         × StartsWith l (received_of (known before) step.word)
         × (length (known before).seen ≡ max_objects) × IsAccount step.word (known before) l
@@ -192,7 +193,7 @@ module _ {S O R : Type 0} (content : S → Content) (op_in : O → AnyOp) (reply
           after_meet step.word (received_of (known before) step.word) (known before),
           taken_slots before,
         ))
-        × IsLegal (kind_at (known before).kinds step.word) (received_of (known before) step.word)
+        × IsLegalLog (kind_at (known before).kinds step.word) (received_of (known before) step.word)
         × IsAccount step.word (known before) (received_of (known before) step.word)
 
     -- the journal went into its place, and the client has ended

@@ -28,7 +28,8 @@ use Rattle.desk_model.specs.declared.Request.{Request}
 use Rattle.desk_model.specs.declared.Answer.{Answer}
 use Rattle.desk_model.specs.World.{AnyEntry, AnyRequest, AnyAnswer, AnyDone, Stage, absent, idle}
 use Rattle.desk_model.specs.World.{drawn, posted, picked, answered, taken, World, kind_at}
-use Rattle.desk_model.specs.World.{entries_of, served, request_of, journal_of, journal_in, Replays}
+use Rattle.desk_model.specs.World.{entries_of_client, served, request_of, journal_of, journal_in}
+use Rattle.desk_model.specs.World.{Replays}
 use Rattle.desk_model.specs.World.{StartsWith}
 use Rattle.desk_model.specs.Sound.{Sound}
 use Rattle.desk_model.specs.Images.{request_in, answer_in, entry_in, event_in}
@@ -59,12 +60,13 @@ end_word false = 0
 end_word true = 1
 
 -- what a client knows of its own call agrees with the stage
-abbrev pub OwnOk : Own → Stage → Type 0
-OwnOk own.Absent t = t ≡ absent
-OwnOk own.Idle t = t ≡ idle
-OwnOk (own.Drawn q) t = t ≡ drawn q
-OwnOk (own.Waiting q) t = (t ≡ posted q) ⊎ ((t ≡ picked q) ⊎ ((a : AnyAnswer) × (t ≡ answered q a)))
-OwnOk (own.Taken q a) t = t ≡ taken q a
+abbrev pub OwnCallAgrees : Own → Stage → Type 0
+OwnCallAgrees own.Absent t = t ≡ absent
+OwnCallAgrees own.Idle t = t ≡ idle
+OwnCallAgrees (own.Drawn q) t = t ≡ drawn q
+OwnCallAgrees (own.Waiting q) t = (t ≡ posted q)
+    ⊎ ((t ≡ picked q) ⊎ ((a : AnyAnswer) × (t ≡ answered q a)))
+OwnCallAgrees (own.Taken q a) t = t ≡ taken q a
 
 -- the client c holds the object x, and no other
 abbrev pub HoldsOnly : World → ℕ → ℕ → Type 0
@@ -72,21 +74,21 @@ HoldsOnly w c x = (y : ℕ) → w.holder y ≡ Some c → y ≡ x
 
 -- what the client c holds, by its view, is what it holds in the world, if there are n objects:
 -- nothing; an object with this log and a free hand; or also the request of a row in its hand
-abbrev pub HeldOk : ℕ → World → ℕ → Held → Type 0
-HeldOk n w c held.Free = (x : ℕ) → w.holder x ≢ Some c
-HeldOk n w c (held.Pass x l) =
+abbrev pub HeldAgrees : ℕ → World → ℕ → Held → Type 0
+HeldAgrees n w c held.Free = (x : ℕ) → w.holder x ≢ Some c
+HeldAgrees n w c (held.Pass x l) =
     (x < n) × (w.holder x ≡ Some c) × (w.hand x ≡ None) × (w.log x ≡ l) × HoldsOnly w c x
-HeldOk n w c (held.Hand x l r q) =
+HeldAgrees n w c (held.Hand x l r q) =
     (x < n) × (w.holder x ≡ Some c) × (w.hand x ≡ Some r) × (w.log x ≡ l) × HoldsOnly w c x
     × (r < max_clients) × (w.stage r ≡ picked q)
 
 -- the view of the client c
-pub record SeatOk (kinds : List Kind) (w : World) (c : ℕ) (v : DeskView) : Type 0 where
+pub record SeatAgrees (kinds : List Kind) (w : World) (c : ℕ) (v : DeskView) : Type 0 where
   pub number : v.number ≡ c
   pub small : c < max_clients
   pub kinds_are : v.kinds ≡ kinds
   pub done : v.done ≡ w.done c
-  pub own : OwnOk v.own (w.stage c)
+  pub own : OwnCallAgrees v.own (w.stage c)
   -- if the client knows that its row is answered, it is
   pub ready : v.ready ≡ true → (q : AnyRequest) × (a : AnyAnswer) × (w.stage c ≡ answered q a)
   -- what it has seen of an object is a beginning of its log, which has the client's calls that are
@@ -94,8 +96,8 @@ pub record SeatOk (kinds : List Kind) (w : World) (c : ℕ) (v : DeskView) : Typ
   pub wide_seen : length v.seen ≡ max_objects
   pub seen : (x : ℕ) → StartsWith (w.log x) (seen_of v x)
   pub covers : (x : ℕ)
-      → StartsWith (entries_of c (seen_of v x)) (served x c v.done ++ owed x c v.own)
-  pub held : HeldOk (length kinds) w c v.held
+      → StartsWith (entries_of_client c (seen_of v x)) (served x c v.done ++ owed x c v.own)
+  pub held : HeldAgrees (length kinds) w c v.held
   pub ended : w.ended c ≡ v.ended
   pub retired : All (λ d. w.ended d ≡ true) v.retired
   -- what was put back is in its row, and its object is held
@@ -107,12 +109,13 @@ abbrev pub HasLeft : World → Leaving → Type 0
 HasLeft w l = (w.ended l.client ≡ true) × (journal_in w l.client ≡ l.journal)
 
 -- any view: a client's, the maker's, or a message
-pub record ViewOk (kinds : List Kind) (lists : List TableId) (w : World) (seat_of : ℕ → ℕ) (j : ℕ)
+pub record ViewAgrees (kinds : List Kind) (lists : List TableId) (w : World) (seat_of : ℕ → ℕ)
+    (j : ℕ)
     (v : DeskView) : Type 0 where
   pub seen : (x : ℕ) → StartsWith (w.log x) (seen_of v x)
   pub received : (x : ℕ) → StartsWith (w.log x) (received_of v x)
   pub left : All (HasLeft w) v.left
-  pub client : v.role ≡ role.Client → (seat_of v.number ≡ j) × SeatOk kinds w v.number v
+  pub client : v.role ≡ role.Client → (seat_of v.number ≡ j) × SeatAgrees kinds w v.number v
   pub unmade : v.role ≡ role.Maker → (c : ℕ) → v.made ≤ c
       → (w.stage c ≡ absent) × (w.done c ≡ []) × (w.ended c ≡ false)
       × ((x : ℕ) → w.holder x ≢ Some c)
@@ -133,14 +136,14 @@ module _ {S O R : Type 0} (content : S → Content) (op_in : O → AnyOp) (reply
   where
     -- The core has this log, its object what the log leaves, and its walker walks this list: the
     -- one of the object, if the object has one.
-    abbrev pub Fits : Kind → maybe.Option TableId → Core S O R → List AnyEntry → Type 0
-    Fits kind list k log =
+    abbrev pub CoreFits : Kind → maybe.Option TableId → Core S O R → List AnyEntry → Type 0
+    CoreFits kind list k log =
         (map (entry_in op_in reply_in) k.log.items ≡ log)
         × Replays (empty kind) log (content k.object) × (list ≡ some k.list.roster)
 
     abbrev pub CoreAt : Kind → maybe.Option TableId → Home S O R → List AnyEntry → Type 0
     CoreAt kind list home log =
-        (k : Core S O R) × (home ≡ some (some (slot.Core k))) × Fits kind list k log
+        (k : Core S O R) × (home ≡ some (some (slot.Core k))) × CoreFits kind list k log
 
     -- the slot of a client's request or answer
     abbrev pub CallAt : Home S O R → Stage → Type 0
@@ -188,7 +191,7 @@ module _ {S O R : Type 0} (content : S → Content) (op_in : O → AnyOp) (reply
         pub sound : Sound kinds quota world
         pub tied : Tied kinds lists world s.words s.homes
         pub seats : (j : ℕ) (v : DeskView) → get_elem? s.views j ≡ some v
-            → ViewOk kinds lists world seat_of j v
+            → ViewAgrees kinds lists world seat_of j v
         pub makers : Makers clients s.views
         -- who holds an object has not ended
         pub holders : (x c : ℕ) → world.holder x ≡ Some c → (c < clients) × (world.ended c ≡ false)

@@ -10,7 +10,8 @@ use Rattle.desk_invariant.specs.declared.board.Held.TheVariants as held
 use Rattle.desk_invariant.specs.declared.board.Leaving.{Leaving}
 use Rattle.desk_invariant.specs.declared.board.Role.TheVariants as role
 use Rattle.desk_invariant.specs.declared.board.DeskView.{DeskView}
-use Rattle.desk_model.specs.World.{AnyEntry, AnyRequest, AnyAnswer, AnyEvent, logged_on, entries_of}
+use Rattle.desk_model.specs.World.{AnyEntry, AnyRequest, AnyAnswer, AnyEvent, logged_on}
+use Rattle.desk_model.specs.World.{entries_of_client}
 use Rattle.desk_model.specs.World.{served, journal_of}
 use Rattle.desk_model.specs.Limits.{max_objects}
 
@@ -129,7 +130,7 @@ MayHold x c o now = now ≡ []
 -- once and in order, and perhaps the one that is not over.
 abbrev pub IsAccount : ℕ → DeskView → List AnyEntry → Type 0
 IsAccount x v log =
-    (now : List AnyEntry) × (entries_of v.number log ≡ served x v.number v.done ++ now)
+    (now : List AnyEntry) × (entries_of_client v.number log ≡ served x v.number v.done ++ now)
     × MayHold x v.number v.own now
 
 -- a call on x was posted and its answer was not taken

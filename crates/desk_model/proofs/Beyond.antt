@@ -5,7 +5,8 @@ use Rattle.std.proofs.lemmas.List.Elements.{All-head, All-tail, All-contains, Co
 use Rattle.model.specs.declared.Kind.{Kind}
 use Rattle.desk_model.specs.declared.JournalEvent.TheVariants.{Returned}
 use Rattle.desk_model.specs.World.{AnyEntry, AnyRequest, AnyAnswer, AnyEvent, AnyDone, Stage, absent, idle, drawn}
-use Rattle.desk_model.specs.World.{posted, picked, answered, taken, World, logged_on, entries_of, served, served_now}
+use Rattle.desk_model.specs.World.{posted, picked, answered, taken, World, logged_on, entries_of_client, served}
+use Rattle.desk_model.specs.World.{served_now}
 use Rattle.desk_model.specs.World.{request_of, invoked, journal_of, journal_in}
 use Rattle.desk_model.specs.Sound.{IsAmong, Sound}
 use Rattle.desk_model.proofs.Entries.{logged_else}
@@ -36,10 +37,11 @@ nothing_now kinds x c ds (answered q a) far all = nothing_logged (length kinds) 
 nothing_now kinds x c ds (taken q a) far all = nothing_logged (length kinds) x c q a far (asked_among kinds ds q all)
 nothing_now kinds x c ds t h k = refl
 
-no_entries : (l : List AnyEntry) → ((c : ℕ) → entries_of c l ≡ []) → l ≡ []
+no_entries : (l : List AnyEntry) → ((c : ℕ) → entries_of_client c l ≡ []) → l ≡ []
 no_entries [] none = refl
-no_entries (e ∷ es) none = let own : e ∷ entries_of e.client es ≡ [] =
-    sym (ap (λ b. cond b (e ∷ entries_of e.client es) (entries_of e.client es)) (eq-eqb e.client e.client refl))
+no_entries (e ∷ es) none = let own : e ∷ entries_of_client e.client es ≡ [] =
+    sym (ap (λ b. cond b (e ∷ entries_of_client e.client es) (entries_of_client e.client es))
+    (eq-eqb e.client e.client refl))
     ∙ none e.client in absurd (cc)
 
 is_absent : (t : Stage) → ((t ≢ absent) → ⊥) → t ≡ absent

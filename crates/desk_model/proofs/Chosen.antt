@@ -7,7 +7,7 @@ use Rattle.model.specs.Objects.{Content, next}
 use Rattle.model.specs.Orders.{Call, RepliesAlong}
 use Rattle.model.proofs.Lists.{In, Pairs, pairs_weaker, pairs_map}
 use Rattle.model.proofs.Orders.{same_pos}
-use Rattle.desk_model.specs.World.{AnyEntry, entries_of, Replays}
+use Rattle.desk_model.specs.World.{AnyEntry, entries_of_client, Replays}
 
 -- each entry has beside it a call that P holds of
 abbrev pub Along : (AnyEntry → Call → Type 0) → List AnyEntry → List Call → Type 0
@@ -81,12 +81,12 @@ once_in_order es h = pairs_map (λ (a b : ℤ). a ≢ b) (λ (e : AnyEntry). pos
     (pairs_weaker (λ e f. e.ticket ≢ f.ticket) (λ e f. pos e.ticket ≢ pos f.ticket) es
     (λ e f i j ne s. ne (same_pos e.ticket f.ticket s)) h)
 
-pub in_own_entries : (e : AnyEntry) (es : List AnyEntry) → In e es → In e (entries_of e.client es)
+pub in_own_entries : (e : AnyEntry) (es : List AnyEntry) → In e es → In e (entries_of_client e.client es)
 in_own_entries e [] i = absurd i
 in_own_entries e (f ∷ es) i = go (f.client == e.client) refl i (in_own_entries e es)
   where
-    go : (b : Bool) → (f.client == e.client) ≡ b → In e (f ∷ es) → (In e es → In e (entries_of e.client es))
-        → In e (cond b (f ∷ entries_of e.client es) (entries_of e.client es))
+    go : (b : Bool) → (f.client == e.client) ≡ b → In e (f ∷ es) → (In e es → In e (entries_of_client e.client es))
+        → In e (cond b (f ∷ entries_of_client e.client es) (entries_of_client e.client es))
     go true s i g = elim i [ inl t ↦ inl t | inr j ↦ inr (g j) ]
     go false s i g = elim i [
       | inl t ↦ absurd (cc (sym s ∙ eq-eqb f.client e.client (ap (λ (d : AnyEntry). d.client) (sym t))))
@@ -94,29 +94,31 @@ in_own_entries e (f ∷ es) i = go (f.client == e.client) refl i (in_own_entries
     ]
 
 -- where the entries of each client rise and those of two clients have no ticket in common, no ticket stands twice
-pub tickets_once : (es : List AnyEntry) → ((c : ℕ) → Pairs (λ e f. e.ticket < f.ticket) (entries_of c es))
+pub tickets_once : (es : List AnyEntry) → ((c : ℕ) → Pairs (λ e f. e.ticket < f.ticket) (entries_of_client c es))
     → ((e f : AnyEntry) → In e es → In f es → e.ticket ≡ f.ticket → e.client ≡ f.client)
     → Pairs (λ e f. e.ticket ≢ f.ticket) es
 tickets_once [] up apart = tt
 tickets_once (e ∷ es) up apart = (head, tickets_once es tail (λ f g i j s. apart f g (inr i) (inr j) s))
   where
-    own : entries_of e.client (e ∷ es) ≡ e ∷ entries_of e.client es
-    own = ap (λ b. cond b (e ∷ entries_of e.client es) (entries_of e.client es)) (eq-eqb e.client e.client refl)
+    own : entries_of_client e.client (e ∷ es) ≡ e ∷ entries_of_client e.client es
+    own = ap (λ b. cond b (e ∷ entries_of_client e.client es) (entries_of_client e.client es))
+        (eq-eqb e.client e.client refl)
 
     head : (f : AnyEntry) → In f es → e.ticket ≢ f.ticket
     head f i s =
         let client : e.client ≡ f.client = apart e f (inl refl) (inr i) s in
-        let rises : Pairs (λ (e f : AnyEntry). e.ticket < f.ticket) (e ∷ entries_of e.client es) =
+        let rises : Pairs (λ (e f : AnyEntry). e.ticket < f.ticket) (e ∷ entries_of_client e.client es) =
         subst (Pairs (λ (e f : AnyEntry). e.ticket < f.ticket)) own (up e.client) in
         let l : e.ticket < f.ticket =
-        rises.0 f (subst (λ c. In f (entries_of c es)) (sym client) (in_own_entries f es i)) in
+        rises.0 f (subst (λ c. In f (entries_of_client c es)) (sym client) (in_own_entries f es i)) in
         omega arith
 
-    tail : (c : ℕ) → Pairs (λ e f. e.ticket < f.ticket) (entries_of c es)
+    tail : (c : ℕ) → Pairs (λ e f. e.ticket < f.ticket) (entries_of_client c es)
     tail c = go (e.client == c) (up c)
       where
-        go : (b : Bool) → Pairs (λ e f. e.ticket < f.ticket) (cond b (e ∷ entries_of c es) (entries_of c es))
-            → Pairs (λ e f. e.ticket < f.ticket) (entries_of c es)
+        go : (b : Bool) → Pairs (λ e f. e.ticket < f.ticket)
+            (cond b (e ∷ entries_of_client c es) (entries_of_client c es))
+            → Pairs (λ e f. e.ticket < f.ticket) (entries_of_client c es)
         go true h = h.1
         go false h = h
 

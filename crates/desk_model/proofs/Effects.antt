@@ -10,8 +10,9 @@ use Rattle.model.specs.declared.Kind.{Kind}
 use Rattle.model.specs.Objects.{kind_of}
 use Rattle.desk_model.specs.declared.Answer.TheVariants.{Reply, Refused}
 use Rattle.desk_model.specs.World.{AnyEntry, AnyRequest, AnyAnswer, AnyDone, Stage, absent, idle, drawn, posted, picked}
-use Rattle.desk_model.specs.World.{answered, taken, World, kind_at, logged, logged_on, entries_of, served, served_now}
-use Rattle.desk_model.specs.World.{request_of, calls_made, tickets_drawn, IsLegal, StartsWith}
+use Rattle.desk_model.specs.World.{answered, taken, World, kind_at, logged, logged_on, entries_of_client, served}
+use Rattle.desk_model.specs.World.{served_now}
+use Rattle.desk_model.specs.World.{request_of, calls_made, tickets_drawn, IsLegalLog, StartsWith}
 use Rattle.desk_model.specs.Transitions.{changed, staged, ticked, held_by, handed, served_by, ended_by}
 use Rattle.desk_model.specs.Sound.{Sound, SoundJournals, total}
 use Rattle.desk_model.proofs.Changed.{changed_here, changed_else, changed_all}
@@ -71,7 +72,8 @@ module _ (kinds : List Kind) (quota : ℕ) where
       → ((x : ℕ) → served_now x c t ≡ served_now x c (w.stage c)) → S w → S (staged w c t)
   sound_staged w c t before after same came puts k = record {
     legal = k.legal;
-    counted = λ d x. changed_all (λ d t. entries_of d (w.log x) ≡ served x d (w.done d) ++ served_now x d t) w.stage c t
+    counted = λ d x. changed_all (λ d t. entries_of_client d (w.log x) ≡ served x d (w.done d) ++ served_now x d t)
+        w.stage c t
         (k.counted c x ∙ ap (λ z. served x c (w.done c) ++ z) (sym (puts x))) (λ d _. k.counted d x) d;
     in_hand = λ x r e. let b = k.in_hand x r e in
         (b.0, changed_else w.stage c t r (λ g. before b.0 (ap w.stage (sym g) ∙ b.1)) ∙ b.1, b.2);
@@ -99,7 +101,7 @@ module _ (kinds : List Kind) (quota : ℕ) where
   sound_ticked w c t ds low before after puts fits more few journals k = record {
     legal = k.legal;
     counted = λ d x. changed_all
-        (λ d t. entries_of d (w.log x) ≡ served x d (changed w.done c ds d) ++ served_now x d t) w.stage c t
+        (λ d t. entries_of_client d (w.log x) ≡ served x d (changed w.done c ds d) ++ served_now x d t) w.stage c t
         (k.counted c x ∙ (sym (puts x) ∙ ap (λ z. served x c z ++ served_now x c t) (sym (changed_here w.done c ds))))
         (λ d other. k.counted d x
         ∙ ap (λ z. served x d z ++ served_now x d (w.stage d)) (sym (changed_else w.done c ds d other))) d;
@@ -166,7 +168,8 @@ module _ (kinds : List Kind) (quota : ℕ) where
       → w.holder x ≡ Some c → w.hand x ≡ None → S w → S (handed w x (Some r) r (picked q))
   sound_picked w x r c q is on holds free k = record {
     legal = k.legal;
-    counted = λ d y. changed_all (λ d t. entries_of d (w.log y) ≡ served y d (w.done d) ++ served_now y d t) w.stage r
+    counted = λ d y. changed_all (λ d t. entries_of_client d (w.log y) ≡ served y d (w.done d) ++ served_now y d t)
+        w.stage r
         (picked q)
         (k.counted r y ∙ ap (λ z. served y r (w.done r) ++ served_now y r z) is) (λ d _. k.counted d y) d;
     in_hand = λ y j. changed_all
@@ -225,7 +228,8 @@ module _ (kinds : List Kind) (quota : ℕ) where
       → w.holder x ≡ Some c → w.hand x ≡ Some r → S w → S (handed w x None r (posted q))
   sound_put_back w x r c q is on holds held k = record {
     legal = k.legal;
-    counted = λ d y. changed_all (λ d t. entries_of d (w.log y) ≡ served y d (w.done d) ++ served_now y d t) w.stage r
+    counted = λ d y. changed_all (λ d t. entries_of_client d (w.log y) ≡ served y d (w.done d) ++ served_now y d t)
+        w.stage r
         (posted q)
         (k.counted r y ∙ ap (λ z. served y r (w.done r) ++ served_now y r z) is) (λ d _. k.counted d y) d;
     in_hand = λ y j. others_in_hand w x r j (posted q) q is on k y;
@@ -251,39 +255,43 @@ module _ (kinds : List Kind) (quota : ℕ) where
   early_logged clock r q Refused l = All-nil (λ (e : AnyEntry). e.ticket < clock)
 
   counted_after : (w : World) (x r : ℕ) (q : AnyRequest) (a : AnyAnswer) → w.stage r ≡ picked q → q.object ≡ x → S w
-      → (d y : ℕ) → entries_of d (changed w.log x (w.log x ++ logged r q a) y)
+      → (d y : ℕ) → entries_of_client d (changed w.log x (w.log x ++ logged r q a) y)
       ≡ served y d (w.done d) ++ served_now y d (changed w.stage r (answered q a) d)
   counted_after w x r q a is on k d y =
       let l : List AnyEntry = w.log x ++ logged r q a in
-      let mine : entries_of r (w.log y) ≡ served y r (w.done r) =
+      let mine : entries_of_client r (w.log y) ≡ served y r (w.done r) =
       k.counted r y ∙ (ap (λ z. served y r (w.done r) ++ served_now y r z) is ∙ append-nil (served y r (w.done r))) in
-      let mine_x : entries_of r (w.log x) ≡ served x r (w.done r) =
+      let mine_x : entries_of_client r (w.log x) ≡ served x r (w.done r) =
       k.counted r x ∙ (ap (λ z. served x r (w.done r) ++ served_now x r z) is ∙ append-nil (served x r (w.done r))) in
-      changed_all (λ d t. entries_of d (changed w.log x l y) ≡ served y d (w.done d) ++ served_now y d t) w.stage r
+      changed_all (λ d t. entries_of_client d (changed w.log x l y) ≡ served y d (w.done d) ++ served_now y d t)
+      w.stage r
       (answered q a)
       (dite (ℕ_discrete y x)
-      (λ same. subst (λ z. entries_of r (changed w.log x l z) ≡ served z r (w.done r) ++ logged_on z r q a) (sym same)
-      (ap (entries_of r) (changed_here w.log x l)
+      (λ same. subst (λ z. entries_of_client r (changed w.log x l z) ≡ served z r (w.done r) ++ logged_on z r q a)
+      (sym same)
+      (ap (entries_of_client r) (changed_here w.log x l)
       ∙ (entries-append r (w.log x) (logged r q a)
       ∙ (λ i. mine_x i ++ (own_entries r q a ∙ sym (logged_here x r q a on)) i))))
-      (λ other. ap (entries_of r) (changed_else w.log x l y other)
+      (λ other. ap (entries_of_client r) (changed_else w.log x l y other)
       ∙ (mine ∙ (sym (append-nil (served y r (w.done r)))
       ∙ ap (λ z. served y r (w.done r) ++ z) (sym (logged_else y r q a (λ e. other (sym e ∙ on))))))))
       (λ d apart. dite (ℕ_discrete y x)
-      (λ same. subst (λ z. entries_of d (changed w.log x l z) ≡ served z d (w.done d) ++ served_now z d (w.stage d))
+      (λ same. subst (λ z. entries_of_client d (changed w.log x l z) ≡ served z d (w.done d)
+      ++ served_now z d (w.stage d))
       (sym same)
-      (ap (entries_of d) (changed_here w.log x l)
+      (ap (entries_of_client d) (changed_here w.log x l)
       ∙ (entries-append d (w.log x) (logged r q a)
-      ∙ (ap (λ z. entries_of d (w.log x) ++ z) (others_entries d r q a apart)
-      ∙ (append-nil (entries_of d (w.log x)) ∙ k.counted d x)))))
-      (λ other. ap (entries_of d) (changed_else w.log x l y other) ∙ k.counted d y))
+      ∙ (ap (λ z. entries_of_client d (w.log x) ++ z) (others_entries d r q a apart)
+      ∙ (append-nil (entries_of_client d (w.log x)) ∙ k.counted d x)))))
+      (λ other. ap (entries_of_client d) (changed_else w.log x l y other) ∙ k.counted d y))
       d
 
   pub sound_served : (w : World) (x r c : ℕ) (q : AnyRequest) (a : AnyAnswer) → w.stage r ≡ picked q → q.object ≡ x
       → w.holder x ≡ Some c → w.hand x ≡ Some r
-      → IsLegal (kind_at kinds x) (w.log x ++ logged r q a) → S w → S (served_by w x r q a)
+      → IsLegalLog (kind_at kinds x) (w.log x ++ logged r q a) → S w → S (served_by w x r q a)
   sound_served w x r c q a is on holds held legal k = record {
-    legal = changed_all (λ y l. IsLegal (kind_at kinds y) l) w.log x (w.log x ++ logged r q a) legal (λ y _. k.legal y);
+    legal = changed_all (λ y l. IsLegalLog (kind_at kinds y) l) w.log x (w.log x ++ logged r q a) legal
+        (λ y _. k.legal y);
     counted = counted_after w x r q a is on k;
     in_hand = λ y j. others_in_hand w x r j (answered q a) q is on k y;
     picked_up = others_picked_up w x r (answered q a) q is on held (λ p e. absurd (cc)) k;

@@ -7,8 +7,9 @@ use Rattle.model.specs.declared.Kind.{Kind}
 use Rattle.model.specs.Objects.{Content, empty, next}
 use Rattle.desk_model.specs.declared.Answer.TheVariants.{Reply, Refused}
 use Rattle.desk_model.specs.Images.{entry_in, event_in}
-use Rattle.desk_model.specs.World.{AnyEntry, AnyEvent, AnyRequest, AnyAnswer, AnyDone, logged, logged_on, entries_of}
-use Rattle.desk_model.specs.World.{served, Replays, IsLegal, StartsWith, Serves}
+use Rattle.desk_model.specs.World.{AnyEntry, AnyEvent, AnyRequest, AnyAnswer, AnyDone, logged, logged_on}
+use Rattle.desk_model.specs.World.{entries_of_client}
+use Rattle.desk_model.specs.World.{served, Replays, IsLegalLog, StartsWith, Serves}
 
 pub starts_longer : (xs ys zs : List AnyEntry) → StartsWith xs ys → StartsWith ys zs → StartsWith xs zs
 starts_longer xs ys zs a b = (b.0 ++ a.0, a.1 ∙ (ap (λ l. l ++ a.0) b.1 ∙ append_assoc zs b.0 a.0))
@@ -16,15 +17,16 @@ starts_longer xs ys zs a b = (b.0 ++ a.0, a.1 ∙ (ap (λ l. l ++ a.0) b.1 ∙ a
 pub starts_same : (xs : List AnyEntry) → StartsWith xs xs
 starts_same xs = ([], sym (append-nil xs))
 
-pub entries-append : (c : ℕ) (xs ys : List AnyEntry) → entries_of c (xs ++ ys) ≡ entries_of c xs ++ entries_of c ys
+pub entries-append : (c : ℕ) (xs ys : List AnyEntry) → entries_of_client c (xs ++ ys) ≡ entries_of_client c xs
+    ++ entries_of_client c ys
 entries-append c [] ys = refl
 entries-append c (e ∷ es) ys = let rest = entries-append c es ys in grind arith
 
-pub own_entries : (c : ℕ) (q : AnyRequest) (a : AnyAnswer) → entries_of c (logged c q a) ≡ logged c q a
+pub own_entries : (c : ℕ) (q : AnyRequest) (a : AnyAnswer) → entries_of_client c (logged c q a) ≡ logged c q a
 own_entries c q (Reply p) = ap (λ b. cond b (logged c q (Reply p)) []) (eq-eqb c c refl)
 own_entries c q Refused = refl
 
-pub others_entries : (c r : ℕ) (q : AnyRequest) (a : AnyAnswer) → c ≢ r → entries_of c (logged r q a) ≡ []
+pub others_entries : (c r : ℕ) (q : AnyRequest) (a : AnyAnswer) → c ≢ r → entries_of_client c (logged r q a) ≡ []
 others_entries c r q (Reply p) other = ap (λ b. cond b (logged r q (Reply p)) []) (ne_eqb r c (λ e. other (sym e)))
 others_entries c r q Refused other = refl
 
@@ -60,7 +62,8 @@ replays_front : (c after : Content) (xs ys : List AnyEntry) → Replays c (xs ++
 replays_front c after [] ys h = (c, refl)
 replays_front c after (x ∷ xs) ys h = let b = replays_front h.0 after xs ys h.2 in (b.0, (h.0, h.1, b.1))
 
-pub legal_front : (kind : Kind) (log seen : List AnyEntry) → StartsWith log seen → IsLegal kind log → IsLegal kind seen
+pub legal_front : (kind : Kind) (log seen : List AnyEntry) → StartsWith log seen → IsLegalLog kind log
+    → IsLegalLog kind seen
 legal_front kind log seen begins legal =
     replays_front (empty kind) legal.0 seen begins.0 (subst (λ z. Replays (empty kind) z legal.0) begins.1 legal.1)
 

@@ -7,7 +7,8 @@ use Rattle.model.specs.Orders.{Numbered, Return, Call, ProcessCall, calls_in, ca
 use Rattle.model.proofs.Lists.{In, Pairs, in_filter, in_filter_passes, in_filter_from, in_map, in_map_from}
 use Rattle.model.proofs.Lists.{pairs_weaker, contains_from_in, all_from_in, all_at, all_from_pairs, in_right}
 use Rattle.desk_model.specs.declared.JournalEvent.TheVariants.{Invoked}
-use Rattle.desk_model.specs.World.{AnyEntry, World, kind_at, entries_of, logged, request_of, journal_in, tickets_in}
+use Rattle.desk_model.specs.World.{AnyEntry, World, kind_at, entries_of_client, logged, request_of, journal_in}
+use Rattle.desk_model.specs.World.{tickets_in}
 use Rattle.desk_model.specs.World.{ticket_of}
 use Rattle.desk_model.specs.Sound.{Sound, IsInTime}
 use Rattle.desk_model.specs.Records.{order_of, IsSoundRecord}
@@ -45,7 +46,7 @@ module _ (kinds : List Kind) (quota : ℕ) (w : World) (k : Sound kinds quota w)
   abbrev ops : List ProcessCall
   ops = calls_in past
 
-  put_in_log : (c x : ℕ) → entries_of c (w.log x) ≡ put_in x c (w.done c) (w.stage c)
+  put_in_log : (c x : ℕ) → entries_of_client c (w.log x) ≡ put_in x c (w.done c) (w.stage c)
   put_in_log c x = k.counted c x ∙ served_is x c (w.done c) (w.stage c)
 
   sources : (x : ℕ) (e : AnyEntry) → In e (w.log x) → IsOf x e.client e (journal_in w e.client) (calls_by w e.client)

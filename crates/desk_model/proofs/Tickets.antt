@@ -13,7 +13,8 @@ use Rattle.model.specs.Objects.{kind_of}
 use Rattle.desk_model.specs.declared.Answer.TheVariants.{Reply, Refused}
 use Rattle.desk_model.specs.declared.JournalEvent.TheVariants.{Returned}
 use Rattle.desk_model.specs.World.{AnyEntry, AnyRequest, AnyAnswer, AnyEvent, AnyDone, Stage, absent, idle, drawn}
-use Rattle.desk_model.specs.World.{taken, World, kind_at, logged, entries_of, served, served_now, request_of, invoked}
+use Rattle.desk_model.specs.World.{taken, World, kind_at, logged, entries_of_client, served, served_now, request_of}
+use Rattle.desk_model.specs.World.{invoked}
 use Rattle.desk_model.specs.World.{journal_of, journal_in, ticket_of, tickets_in, StartsWith}
 use Rattle.desk_model.specs.Transitions.{changed, ticked}
 use Rattle.desk_model.specs.Sound.{ShareOut, IsAmong, IsInTime, SoundJournals, Sound}
@@ -50,17 +51,19 @@ splits_own x e l es [] later f = let same : x ≡ e = cc in ([], l, ap (λ z. z 
 splits_own x e l es (y ∷ s) later f = let rest : es ≡ s ++ e ∷ [] = cc in one_more x e l (later s rest)
 
 -- where the last of a client's entries is e, the log has e
-splits_at : (c : ℕ) (l s : List AnyEntry) (e : AnyEntry) → entries_of c l ≡ s ++ e ∷ [] → Splits l e
+splits_at : (c : ℕ) (l s : List AnyEntry) (e : AnyEntry) → entries_of_client c l ≡ s ++ e ∷ [] → Splits l e
 splits_at c [] [] e is = absurd cc
 splits_at c [] (y ∷ s) e is = absurd cc
 splits_at c (x ∷ l) s e is =
-    elim (eqb x.client c) as (λ b. cond b (x ∷ entries_of c l) (entries_of c l) ≡ s ++ e ∷ [] → Splits (x ∷ l) e) [
-      | true ↦ splits_own x e l (entries_of c l) s (λ s' f. splits_at c l s' e f)
+    elim (eqb x.client c) as (λ b. cond b (x ∷ entries_of_client c l) (entries_of_client c l) ≡ s ++ e ∷ []
+    → Splits (x ∷ l) e) [
+      | true ↦ splits_own x e l (entries_of_client c l) s (λ s' f. splits_at c l s' e f)
       | false ↦ λ f. one_more x e l (splits_at c l s e f)
     ] is
 
 -- what is logged last of a client stands after entries that are all of tickets below n
-pub stands_in : (c n : ℕ) (l s : List AnyEntry) (q : AnyRequest) (a : AnyAnswer) → entries_of c l ≡ s ++ logged c q a
+pub stands_in : (c n : ℕ) (l s : List AnyEntry) (q : AnyRequest) (a : AnyAnswer) → entries_of_client c l ≡ s
+    ++ logged c q a
     → All (λ (e : AnyEntry). e.ticket < n) l
     → (before : List AnyEntry) × (after : List AnyEntry) × (l ≡ before ++ logged c q a ++ after)
     × All (λ (e : AnyEntry). e.ticket < n) before
@@ -196,7 +199,7 @@ module _ (kinds : List Kind) where
   journals_returned quota w c n q a was now k =
       let x : ℕ = q.object in let d : AnyDone = record { request = q; answer = a; returned = n } in
       let ds : List AnyDone = w.done c in
-      let last : entries_of c (w.log x) ≡ served x c ds ++ logged c q a =
+      let last : entries_of_client c (w.log x) ≡ served x c ds ++ logged c q a =
       k.counted c x ∙ (ap (λ z. served x c ds ++ served_now x c z) was
       ∙ ap (λ z. served x c ds ++ z) (logged_here x c q a refl)) in
       let in_time : IsInTime w c d =

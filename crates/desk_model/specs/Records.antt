@@ -8,7 +8,7 @@ use Rattle.model.specs.Histories.{Inv, Res, process_of}
 use Rattle.model.specs.Orders.{Numbered, IsHistory, IsValidOrder, calls_on}
 use Rattle.desk_model.specs.declared.Answer.TheVariants.{Reply, Refused}
 use Rattle.desk_model.specs.declared.JournalEvent.TheVariants.{Invoked, Returned}
-use Rattle.desk_model.specs.World.{AnyEntry, AnyEvent, kind_at, ticket_of, IsLegal}
+use Rattle.desk_model.specs.World.{AnyEntry, AnyEvent, kind_at, ticket_of, IsLegalLog}
 use Rattle.desk_model.specs.Sound.{ShareOut, IsAmong}
 
 -- The journal of the client c denotes these events: its calls in turn, the last one perhaps
@@ -49,7 +49,7 @@ pub record IsSoundRecord (kinds : List Kind) (quota : ℕ) (journals : ℕ → L
   pub denoted : IsHistoryOf journals history
   pub well_formed : IsHistory history
   -- each log is legal: its replies are those that `next` gives
-  pub legal : (x : ℕ) → IsLegal (kind_at kinds x) (logs x)
+  pub legal : (x : ℕ) → IsLegalLog (kind_at kinds x) (logs x)
   -- each entry of a log is of a call in its client's journal
   pub agree : (x : ℕ) → All (λ e. Contains (journals e.client) (Invoked e.ticket x e.op)) (logs x)
   -- each log is a valid order of the calls on its object

@@ -5,8 +5,9 @@ use Rattle.model.specs.declared.Kind.{Kind}
 use Rattle.model.specs.Objects.{kind_of}
 use Rattle.desk_model.specs.declared.JournalEvent.TheVariants.{Invoked, Returned}
 use Rattle.desk_model.specs.World.{AnyEntry, AnyRequest, AnyEvent, AnyDone, absent, picked, World}
-use Rattle.desk_model.specs.World.{kind_at, logged, entries_of, served, served_now, request_of}
-use Rattle.desk_model.specs.World.{calls_made, tickets_drawn, journal_in, tickets_in, IsLegal}
+use Rattle.desk_model.specs.World.{kind_at, logged, entries_of_client, served, served_now}
+use Rattle.desk_model.specs.World.{request_of}
+use Rattle.desk_model.specs.World.{calls_made, tickets_drawn, journal_in, tickets_in, IsLegalLog}
 use Rattle.desk_model.specs.Limits.{max_clients}
 
 -- the sum of the first n values
@@ -45,11 +46,11 @@ pub record SoundJournals (kinds : List Kind) (w : World) : Type 0 where
 
 pub record Sound (kinds : List Kind) (quota : ℕ) (w : World) : Type 0 where
   -- each log is legal
-  pub legal : (x : ℕ) → IsLegal (kind_at kinds x) (w.log x)
+  pub legal : (x : ℕ) → IsLegalLog (kind_at kinds x) (w.log x)
   -- the log of an object holds, of the calls of a client on it, just those that were answered by a
   -- reply, in order
   pub counted : (c x : ℕ)
-      → entries_of c (w.log x) ≡ served x c (w.done c) ++ served_now x c (w.stage c)
+      → entries_of_client c (w.log x) ≡ served x c (w.done c) ++ served_now x c (w.stage c)
   -- what is in hand is a request for the object, and each request that was picked up is in hand
   pub in_hand : (x r : ℕ) → w.hand x ≡ Some r
       → (q : AnyRequest) × (w.stage r ≡ picked q) × (q.object ≡ x)

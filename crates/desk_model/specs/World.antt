@@ -89,9 +89,10 @@ abbrev pub logged_on : ℕ → ℕ → AnyRequest → AnyAnswer → List AnyEntr
 logged_on x c q a = if q.object == x then logged c q a else []
 
 -- the entries of one client
-abbrev pub entries_of : ℕ → List AnyEntry → List AnyEntry
-entries_of c [] = []
-entries_of c (e ∷ es) = if e.client == c then e ∷ entries_of c es else entries_of c es
+abbrev pub entries_of_client : ℕ → List AnyEntry → List AnyEntry
+entries_of_client c [] = []
+entries_of_client c (e ∷ es) = if e.client == c then e
+    ∷ entries_of_client c es else entries_of_client c es
 
 -- what the calls of a client that are over have put into the log of x
 abbrev pub served : ℕ → ℕ → List AnyDone → List AnyEntry
@@ -156,8 +157,8 @@ Replays c (e ∷ es) after =
     (between : Content) × (next c e.op ≡ Some (between, e.reply)) × Replays between es after
 
 -- A log is legal if it is replayed from the empty content.
-abbrev pub IsLegal : Kind → List AnyEntry → Type 0
-IsLegal kind log = (after : Content) × Replays (empty kind) log after
+abbrev pub IsLegalLog : Kind → List AnyEntry → Type 0
+IsLegalLog kind log = (after : Content) × Replays (empty kind) log after
 
 -- the first list begins with the second
 abbrev pub StartsWith : List AnyEntry → List AnyEntry → Type 0

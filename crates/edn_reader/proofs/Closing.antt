@@ -4,7 +4,7 @@ use Rattle.std.proofs.Common.{append_assoc, arith}
 use Rattle.std.specs.Prelude.{nat_lt}
 use Rattle.std.proofs.lemmas.List.{append-nil}
 use Rattle.edn_reader.specs.Datum.{Atom, nil, boolean, integer, string, keyword, Datum, atom, vector, dictionary}
-use Rattle.edn_reader.specs.Datum.{items_of, entries_of, max_open, Fits, ItemsFit, EntriesFit}
+use Rattle.edn_reader.specs.Datum.{items_of, entries_of, max_open, DatumFits, ItemsFit, EntriesFit}
 use Rattle.edn_reader.specs.Token.{Token, open_vector, close_vector, open_map, close_map, leaf, tokens_of}
 use Rattle.edn_reader.specs.Reading.{Frame, in_text, in_vector, in_map, in_pair, State, has_key, put_key, put, close_as}
 use Rattle.edn_reader.specs.Reading.{close_vector_at, close_map_at, takes_key, open_at, step}
@@ -99,7 +99,7 @@ put_value (in_pair es k) d h = (in_map (es ++ (k, d) ∷ []), refl)
 
 -- the innermost frame as a value, of which these tokens are left
 closing : (i f : Frame) (fs : List Frame) (d : Datum) (left : List Token) → tokens_of d ≡ frame_tokens i ++ left
-    → Fits (16 - length fs) d
+    → DatumFits (16 - length fs) d
     → takes_key f ≡ false → IsGrounded f fs → FrameFits (16 - length fs) f
     → ((g : Frame) → IsGrounded g fs → FrameFits (16 - length fs) g → AreFirst (stack_tokens fs ++ frame_tokens g))
     → AreFirst ((stack_tokens fs ++ frame_tokens f) ++ frame_tokens i)
@@ -129,12 +129,12 @@ closable (in_text ds) fs h k st room =
       parts = sym (append-nil (list_tokens ds));
     })
 closable (in_vector ds) (f ∷ fs) h k st room =
-    let fit : Fits (16 - length fs) (vector (items_of ds)) =
+    let fit : DatumFits (16 - length fs) (vector (items_of ds)) =
     (omega arith, subst (λ (n : ℕ). ItemsFit n (items_of ds)) (omega arith) k) in
     closing (in_vector ds) f fs (vector (items_of ds)) (close_vector ∷ []) refl fit h.0 h.1 st.0
     (λ g l m. closable g fs l m st.1 (omega arith))
 closable (in_map es) (f ∷ fs) h k st room =
-    let fit : Fits (16 - length fs) (dictionary (entries_of es)) =
+    let fit : DatumFits (16 - length fs) (dictionary (entries_of es)) =
     (omega arith, subst (λ (n : ℕ). EntriesFit n (entries_of es)) (omega arith) k) in
     closing (in_map es) f fs (dictionary (entries_of es)) (close_map ∷ []) refl fit h.0 h.1 st.0
     (λ g l m. closable g fs l m st.1 (omega arith))
@@ -142,7 +142,7 @@ closable (in_pair es x) (f ∷ fs) h k st room =
     let n = 16 - length (f ∷ fs) in
     let entries : EntriesFit n (entries_of (es ++ (x, atom nil) ∷ [])) =
     entries_fit-append n es x (atom nil) k.0 k.1 tt in
-    let fit : Fits (16 - length fs) (dictionary (entries_of (es ++ (x, atom nil) ∷ []))) =
+    let fit : DatumFits (16 - length fs) (dictionary (entries_of (es ++ (x, atom nil) ∷ []))) =
     (omega arith, subst (λ (m : ℕ). EntriesFit m (entries_of (es ++ (x, atom nil) ∷ []))) (omega arith) entries) in
     closing (in_pair es x) f fs (dictionary (entries_of (es ++ (x, atom nil) ∷ [])))
     (leaf (atom nil) ∷ close_map ∷ []) (pair_left es x) fit h.0 h.1

@@ -8,7 +8,7 @@ use Rattle.std.specs.Str.{bytes_eq}
 use Rattle.edn_reader.proofs.Strings.{some_is}
 use Rattle.edn_reader.proofs.Keys.{same_not}
 use Rattle.edn_reader.specs.Datum.{keyword, Datum, atom, vector, dictionary, Items, no_items, item, Entries, no_entries}
-use Rattle.edn_reader.specs.Datum.{entry, items_of, entries_of, Lacks, Fits, ItemsFit, EntriesFit}
+use Rattle.edn_reader.specs.Datum.{entry, items_of, entries_of, Lacks, DatumFits, ItemsFit, EntriesFit}
 use Rattle.edn_reader.specs.Token.{Token, close_vector, close_map, leaf, tokens_of, items_tokens, entries_tokens}
 use Rattle.edn_reader.specs.Reading.{Frame, in_vector, in_map, in_pair, State, has_key, put, close_as, takes_key}
 use Rattle.edn_reader.specs.Reading.{open_at, step, steps}
@@ -77,19 +77,27 @@ TakesAll frame = (ds : List Datum) (d : Datum) → put (frame ds) d ≡ Some (fr
 mutual
   unfolding step
 
-  pub steps_datum : (d : Datum) (n : ℕ) (i : Frame) (fs : List Frame) (g : Frame) → Fits n d → n + length fs ≡ 16
+  pub steps_datum : (d : Datum) (n : ℕ) (i : Frame) (fs : List Frame) (g : Frame) → DatumFits n d → n + length fs ≡ 16
       → put i d ≡ Some g → steps (tokens_of d) (at i fs) ≡ Some (at g fs)
   steps_datum (atom a) n i fs g fit len e = rw e refl
   steps_datum (vector ds) n i fs g fit len e =
       let a : steps (items_tokens ds) (at (in_vector []) (i ∷ fs)) ≡ Some (at (in_vector (items_list ds)) (i ∷ fs)) =
       steps_items ds (n - 1) in_vector (λ xs d. refl) [] (i ∷ fs) fit.1 (omega (arith, fit.0)) in
-      rw (opens (in_vector []) i fs (holds_vector i ds g e) (omega (arith, fit.0)),
-      steps-append (items_tokens ds) (close_vector ∷ []) _ _ a, items_of_list ds, e) refl
+      rw (
+        opens (in_vector []) i fs (holds_vector i ds g e) (omega (arith, fit.0)),
+        steps-append (items_tokens ds) (close_vector ∷ []) _ _ a,
+        items_of_list ds,
+        e,
+      ) refl
   steps_datum (dictionary ds) n i fs g fit len e =
       let a : steps (entries_tokens ds) (at (in_map []) (i ∷ fs)) ≡ Some (at (in_map (entries_list ds)) (i ∷ fs)) =
       steps_entries ds (n - 1) [] (i ∷ fs) fit.1 tt (omega (arith, fit.0)) in
-      rw (opens (in_map []) i fs (holds_map i ds g e) (omega (arith, fit.0)),
-      steps-append (entries_tokens ds) (close_map ∷ []) _ _ a, entries_of_list ds, e) refl
+      rw (
+        opens (in_map []) i fs (holds_map i ds g e) (omega (arith, fit.0)),
+        steps-append (entries_tokens ds) (close_map ∷ []) _ _ a,
+        entries_of_list ds,
+        e,
+      ) refl
 
   pub steps_items : (ds : Items) (n : ℕ) (frame : List Datum → Frame) (all : TakesAll frame) (pre : List Datum)
       (fs : List Frame) → ItemsFit n ds → n + length fs ≡ 16

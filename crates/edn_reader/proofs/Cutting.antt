@@ -73,7 +73,7 @@ module _ (ts : List Token) (m : Bool) where
         ap (keep_all ((tokens_of d ++ entries_tokens es) ++ us)) (past (leaf (atom (keyword k))) n r)
         ∙ rw (append_assoc, value_passed d (entries_tokens es ++ us) n r) (entries_passed es us n r)
 
--- ---- a value that is cut
+  -- ---- a value that is cut
 
   -- an item of a vector, whose room is used up
   item_dropped : (d : Datum) (us : List Token) → keep_all (tokens_of d ++ us) (at ts m 1 0) ≡ keep_all us (at ts m 1 0)
@@ -113,8 +113,11 @@ items_kept no_items us ts m (suc r) = refl
 items_kept (item d ds) us ts m zero =
     rw (append_assoc, item_dropped ts m d (items_tokens ds ++ close_vector ∷ us), items_kept ds us ts m zero) refl
 items_kept (item d ds) us ts m (suc r) =
-    rw (append_assoc, item_kept d (items_tokens ds ++ close_vector ∷ us) ts m r,
-    items_kept ds us (ts ++ tokens_of (truncated_item d)) m r) (simp append_assoc)
+    rw (
+      append_assoc,
+      item_kept d (items_tokens ds ++ close_vector ∷ us) ts m r,
+      items_kept ds us (ts ++ tokens_of (truncated_item d)) m r,
+    ) (simp append_assoc)
 
 vector_kept : (ds : Items) (us ts : List Token) (m : Bool)
     → keep_all (tokens_of (vector ds) ++ us) (at ts m 0 0)

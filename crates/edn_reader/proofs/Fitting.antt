@@ -8,7 +8,7 @@ use Rattle.std.proofs.lemmas.Bool.{both_ways, or_parts}
 use Rattle.std.proofs.lemmas.List.{drop_more}
 use Rattle.edn_reader.specs.declared.form.Name.{Name}
 use Rattle.edn_reader.specs.declared.form.Form.{Form}
-use Rattle.edn_reader.specs.Datum.{Datum, entries_of, Lacks, Fits, EntriesFit}
+use Rattle.edn_reader.specs.Datum.{Datum, entries_of, Lacks, DatumFits, EntriesFit}
 use Rattle.edn_reader.specs.Names.{name_bytes}
 use Rattle.edn_reader.specs.Reading.{has_key}
 use Rattle.edn_reader.specs.View.{view, pair_views}
@@ -37,7 +37,7 @@ From n xs i = EntriesFit n (entries_of (pair_views (drop i xs)))
 
 -- the pair at i, and those after it
 abbrev pub AtAndAfter : ℕ → List (Name × Form) → ℕ → Name × Form → Type 0
-AtAndAfter n xs i x = Lacks (name_bytes x.0) (entries_of (pair_views (drop (i + 1) xs))) × Fits n (view x.1)
+AtAndAfter n xs i x = Lacks (name_bytes x.0) (entries_of (pair_views (drop (i + 1) xs))) × DatumFits n (view x.1)
     × From n xs (i + 1)
 
 at_place : (xs : List (Name × Form)) (i : ℕ) (x : Name × Form) → i < length xs → x ≡ get_or xs i x
@@ -66,7 +66,7 @@ key_again n xs later i x lt e q h f =
 -- a pair that fits
 pub fits_on : (n : ℕ) (xs later : List (Name × Form)) (i : ℕ) (x : Name × Form) → i < length xs → x ≡ get_or xs i x
     → later ≡ drop (i + 1) xs
-    → false ≡ has_key (name_bytes x.0) (pair_views later) → Fits n (view x.1) → (P : Type 0) → (From n xs i ↔ P)
+    → false ≡ has_key (name_bytes x.0) (pair_views later) → DatumFits n (view x.1) → (P : Type 0) → (From n xs i ↔ P)
     → From n xs (i + 1) ↔ P
 fits_on n xs later i x lt e q h f P both =
     let k : has_key (name_bytes x.0) (pair_views (drop (i + 1) xs)) ≡ false =

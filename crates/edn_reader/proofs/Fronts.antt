@@ -4,7 +4,7 @@ use Rattle.std.proofs.Common.{subst, arith}
 use Rattle.std.specs.Prelude.{option_and_then}
 use Rattle.std.specs.Str.{IsUtf8}
 use Rattle.std.proofs.lemmas.List.{append-nil}
-use Rattle.edn_reader.specs.Datum.{Datum, Fits, items_of, max_open}
+use Rattle.edn_reader.specs.Datum.{Datum, DatumFits, items_of, max_open}
 use Rattle.edn_reader.specs.Elements.{SpellsFront, PassesElement}
 use Rattle.edn_reader.specs.Reading.{next, skip, in_text, State, step, steps, opening, closed}
 use Rattle.edn_reader.specs.Sound.{BeginWith}
@@ -15,7 +15,7 @@ use Rattle.edn_reader.proofs.Lexical.{first_shorter, skip_within}
 use Rattle.edn_reader.proofs.Next.{next_from}
 use Rattle.edn_reader.proofs.Prefixes.{not_nothing}
 use Rattle.edn_reader.proofs.Progress.{Progress, goes_on, next_shorter}
-use Rattle.edn_reader.proofs.Turns.{start, element_front}
+use Rattle.edn_reader.proofs.BufferTurns.{start, element_front}
 use Rattle.edn_reader.proofs.Strings.{some_is}
 
 -- ---- what is left is shorter
@@ -53,7 +53,7 @@ progress (t ∷ ts) text mid rest s z (q, n, b) e p =
     by_step (Some x) h k go = go x h k
 
 -- the tokens of a form whose keys are distinct and whose brackets are not too deep
-pub front_of : (text rest : List ℕ) (d : Datum) → IsUtf8 text → Fits max_open d → BeginWith (tokens_of d) text rest
+pub front_of : (text rest : List ℕ) (d : Datum) → IsUtf8 text → DatumFits max_open d → BeginWith (tokens_of d) text rest
     → SpellsFront text (d ∷ []) rest × IsUtf8 rest
 front_of text rest d u f b =
     let e : steps (tokens_of d ++ []) opening ≡ Some (closed (d ∷ [])) =

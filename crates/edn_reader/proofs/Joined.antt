@@ -4,16 +4,16 @@ use Rattle.std.proofs.Common.{◌≡◌, ℕ, false, ◌++◌, List, [], ◌∷�
 use Rattle.std.proofs.lemmas.List.{append-nil}
 use Rattle.std.proofs.lemmas.Str.{IsUtf8-append, IsUtf8-nil}
 use Rattle.edn_reader.specs.Bytes.{is_token_byte}
-use Rattle.edn_reader.specs.Datum.{Datum, Fits, ItemsFit, items_of, max_open}
+use Rattle.edn_reader.specs.Datum.{Datum, DatumFits, ItemsFit, items_of, max_open}
 use Rattle.edn_reader.specs.Token.{Token, open_vector, close_vector, open_map, close_map, leaf, tokens_of, items_tokens}
 use Rattle.edn_reader.specs.Spells.{IsGap, EndsComment, IsEnding, EndsText, EndsToken, Begins, Lexes, Spells}
-use Rattle.edn_reader.specs.Text.{InProfile, text_of, lines_of}
+use Rattle.edn_reader.specs.Text.{InProfile, text_of, form_lines}
 use Rattle.edn_reader.specs.Laws.{EachSpelled}
 use Rattle.edn_reader.proofs.Utf8.{ascii_utf8, text_utf8}
 use Rattle.edn_reader.proofs.Written.{ends_token, lexes_datum}
 
 -- what is written for a form spells it
-pub text_spells_it : (d : Datum) → Fits max_open d → InProfile d → Spells (d ∷ []) (text_of d)
+pub text_spells_it : (d : Datum) → DatumFits max_open d → InProfile d → Spells (d ∷ []) (text_of d)
 text_spells_it d fits p =
     let l : Lexes (tokens_of d ++ []) (text_of d ++ []) = lexes_datum d [] [] p tt tt in
     record {
@@ -123,6 +123,6 @@ joined_spell ds es a b h k =
 pub nothing_spelled : Spells [] []
 nothing_spelled = record { utf8 = IsUtf8-nil; tokens = tt; fits = tt }
 
-pub lines_spell_them : (ds : List Datum) → EachSpelled ds → Spells ds (lines_of ds)
+pub lines_spell_them : (ds : List Datum) → EachSpelled ds → Spells ds (form_lines ds)
 lines_spell_them [] h = nothing_spelled
-lines_spell_them (d ∷ ds) h = joined_spell (d ∷ []) ds (text_of d) (lines_of ds) h.0 (lines_spell_them ds h.1)
+lines_spell_them (d ∷ ds) h = joined_spell (d ∷ []) ds (text_of d) (form_lines ds) h.0 (lines_spell_them ds h.1)

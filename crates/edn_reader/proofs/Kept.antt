@@ -5,7 +5,7 @@ use Rattle.std.proofs.Common.{arith}
 use Rattle.std.specs.Prelude.{nat_lt}
 use Rattle.std.proofs.lemmas.Bool.{ltb-true, both_ways, or_parts}
 use Rattle.edn_reader.specs.Datum.{Atom, keyword, Datum, atom, vector, dictionary, items_of, entries_of, max_open}
-use Rattle.edn_reader.specs.Datum.{Lacks, Fits, ItemsFit, EntriesFit}
+use Rattle.edn_reader.specs.Datum.{Lacks, DatumFits, ItemsFit, EntriesFit}
 use Rattle.edn_reader.specs.Token.{Token, open_vector, close_vector, open_map, close_map, leaf}
 use Rattle.edn_reader.specs.Reading.{Frame, in_text, in_vector, in_map, in_pair, State, has_key, put_key, put, close_as}
 use Rattle.edn_reader.specs.Reading.{close_vector_at, close_map_at, takes_key, open_at, step}
@@ -14,7 +14,7 @@ use Rattle.edn_reader.proofs.Keys.{same_self}
 use Rattle.edn_reader.proofs.Consumed.{kept_if_not, mapped, IsPlain, opened_at}
 use Rattle.edn_reader.proofs.Strings.{some_is}
 
-items_fit-append : (n : ℕ) (ds : List Datum) (d : Datum) → ItemsFit n (items_of ds) → Fits n d
+items_fit-append : (n : ℕ) (ds : List Datum) (d : Datum) → ItemsFit n (items_of ds) → DatumFits n d
     → ItemsFit n (items_of (ds ++ d ∷ []))
 items_fit-append n [] d h k = (k, tt)
 items_fit-append n (x ∷ ds) d h k = (h.0, items_fit-append n ds d h.1 k)
@@ -25,7 +25,7 @@ Lacks-append l [] k d h n = (n, tt)
 Lacks-append l (e ∷ es) k d h n = (h.0, Lacks-append l es k d h.1 n)
 
 pub entries_fit-append : (n : ℕ) (es : List (List ℕ × Datum)) (k : List ℕ) (d : Datum) → EntriesFit n (entries_of es)
-    → has_key k es ≡ false → Fits n d → EntriesFit n (entries_of (es ++ (k, d) ∷ []))
+    → has_key k es ≡ false → DatumFits n d → EntriesFit n (entries_of (es ++ (k, d) ∷ []))
 entries_fit-append n [] k d h new fit = (tt, fit, tt)
 entries_fit-append n (e ∷ es) k d h new fit =
     let p = or_parts (bytes_eq k e.0) (has_key k es) new in
@@ -54,7 +54,8 @@ put_key_fits n es (keyword k) g h e =
     let p = kept_if_not (has_key k es) (in_pair es k) g e in subst (FrameFits n) p.1 (h, p.0)
 put_key_fits n es a g h e = absurd cc
 
-pub put_fits : (n : ℕ) (f : Frame) (d : Datum) (g : Frame) → FrameFits n f → Fits n d → put f d ≡ Some g → FrameFits n g
+pub put_fits : (n : ℕ) (f : Frame) (d : Datum) (g : Frame) → FrameFits n f → DatumFits n d → put f d ≡ Some g
+    → FrameFits n g
 put_fits n (in_text ds) d g h k e =
     subst (FrameFits n) (some_is (in_text (ds ++ d ∷ [])) g e) (items_fit-append n ds d h k)
 put_fits n (in_vector ds) d g h k e =
@@ -73,12 +74,12 @@ open_fits f s z any h e =
       outer = (h.inner, h.outer);
     })
 
-close_fits : (d : Datum) (fs : List Frame) (z : State) → ((n : ℕ) → 0 < n → n - 1 ≡ 16 - length fs → Fits n d)
+close_fits : (d : Datum) (fs : List Frame) (z : State) → ((n : ℕ) → 0 < n → n - 1 ≡ 16 - length fs → DatumFits n d)
     → length fs ≤ 16 → StackFits fs → close_as d fs ≡ Some z → StateFits z
 close_fits d [] z fit room h e = absurd cc
 close_fits d (f ∷ fs) z fit room h e =
     let m = mapped _ (put f d) z e in
-    let k : Fits (16 - length fs) d = fit (16 - length fs) (omega arith) (omega arith) in
+    let k : DatumFits (16 - length fs) d = fit (16 - length fs) (omega arith) (omega arith) in
     subst StateFits m.2 (record {
       room = omega arith;
       inner = put_fits (16 - length fs) f d m.0 h.0 k m.1;
@@ -107,7 +108,7 @@ step_fits close_vector s z p h e = close_vector_fits s.inner s.outer z h.inner h
 step_fits close_map s z p h e = close_map_fits s.inner s.outer z h.inner h.room h.outer e
 step_fits (leaf d) s z p h e =
     let m = mapped _ (put s.inner d) z e in
-    let k : Fits (16 - length s.outer) d = rw p.1 tt in
+    let k : DatumFits (16 - length s.outer) d = rw p.1 tt in
     subst StateFits m.2 (record {
       room = h.room;
       inner = put_fits (16 - length s.outer) s.inner d m.0 h.inner k m.1;

@@ -1,8 +1,8 @@
 -- What reading and writing promise each other.
 use Rattle.std.specs.Prelude.{◌≡◌, ℕ, List, [], ◌∷◌, ◌++◌}
-use Rattle.edn_reader.specs.Datum.{Datum, Fits, max_open}
+use Rattle.edn_reader.specs.Datum.{Datum, DatumFits, max_open}
 use Rattle.edn_reader.specs.Spells.{Spells}
-use Rattle.edn_reader.specs.Text.{InProfile, text_of, lines_of}
+use Rattle.edn_reader.specs.Text.{InProfile, text_of, form_lines}
 
 -- the text of each of these forms spells it
 abbrev pub EachSpelled : List Datum → Type 0
@@ -15,7 +15,7 @@ OneReading = (ds es : List Datum) (bytes : List ℕ) → Spells ds bytes → Spe
 
 -- The text that is written for a form spells it.
 abbrev pub TextSpells : Type 0
-TextSpells = (d : Datum) → Fits max_open d → InProfile d → Spells (d ∷ []) (text_of d)
+TextSpells = (d : Datum) → DatumFits max_open d → InProfile d → Spells (d ∷ []) (text_of d)
 
 -- Two texts with a line feed between them spell the forms of both.
 abbrev pub JoinedSpell : Type 0
@@ -25,7 +25,7 @@ JoinedSpell =
 
 -- The texts of some forms, each followed by a line feed, spell these forms.
 abbrev pub LinesSpell : Type 0
-LinesSpell = (ds : List Datum) → EachSpelled ds → Spells ds (lines_of ds)
+LinesSpell = (ds : List Datum) → EachSpelled ds → Spells ds (form_lines ds)
 
 -- Whole lines: whatever follows them is spelled after their forms.
 abbrev pub SpellsBefore : List ℕ → List Datum → Type 0

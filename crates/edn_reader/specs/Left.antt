@@ -7,8 +7,8 @@ use Rattle.edn_reader.specs.TokenBuffers.{tokens_on, integer_vector_on}
 use Rattle.edn_reader.specs.declared.elements.Elements.{Elements}
 
 -- the rest of the text
-abbrev pub left_of : Elements → List ℕ
-left_of e = e.rest.now
+abbrev pub text_left : Elements → List ℕ
+text_left e = e.rest.now
 
 -- the byte of the text at which the rest begins
 abbrev pub start_of : Elements → ℕ

@@ -62,9 +62,9 @@ abbrev pub pair_text : Bool → List ℕ → Datum → List ℕ
 pair_text first k d = between first (codes ", ") ++ ((58 ∷ k) ++ (32 ∷ text_of d))
 
 -- the texts of some forms, each followed by a line feed
-abbrev pub lines_of : List Datum → List ℕ
-lines_of [] = []
-lines_of (d ∷ ds) = text_of d ++ 10 ∷ lines_of ds
+abbrev pub form_lines : List Datum → List ℕ
+form_lines [] = []
+form_lines (d ∷ ds) = text_of d ++ 10 ∷ form_lines ds
 
 -- ---- what has a text that can be read back
 

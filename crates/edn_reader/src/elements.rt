@@ -32,7 +32,7 @@ pub struct Elements<'a> {
 
 impl<'a> Elements<'a> {
     ghost use Rattle.std.specs.Prelude.{true, option_map};
-    ghost use Rattle.edn_reader.specs.Left.{left_of, start_of, keeping_in, tokens_in};
+    ghost use Rattle.edn_reader.specs.Left.{text_left, start_of, keeping_in, tokens_in};
     ghost use Rattle.edn_reader.specs.Left.{integer_vector_in};
     ghost use Rattle.edn_reader.specs.Truncation.{all_kept, truncated_kept};
     ghost use Rattle.edn_reader.specs.Truncation.{truncated_and_integer_vector};
@@ -47,7 +47,7 @@ impl<'a> Elements<'a> {
         integer_vector_key: Option<&'a [u8]>,
         text: &'a [u8],
     ) -> Result<Elements<'a>, EdnFault>
-        ensures text { IfOk result (λ r. (left_of r ≡ text.entry.now) × (start_of r ≡ 0)) }
+        ensures text { IfOk result (λ r. (text_left r ≡ text.entry.now) × (start_of r ≡ 0)) }
         ensures keeps { IfOk result (λ r. keeping_in r
             ≡ record {
               cuts = cuts;
@@ -83,7 +83,7 @@ impl<'a> Elements<'a> {
     /// Elements of which each token is kept. A text that is too long is not looked at; then comes
     /// whether it is UTF-8 as a whole. No memory is taken.
     pub fn new(alloc: Global, text: &'a [u8]) -> Result<Elements<'a>, EdnFault>
-        ensures text { IfOk result (λ r. (left_of r ≡ text.entry.now) × (start_of r ≡ 0)) }
+        ensures text { IfOk result (λ r. (text_left r ≡ text.entry.now) × (start_of r ≡ 0)) }
         ensures keeps { IfOk result (λ r. keeping_in r ≡ all_kept) }
         ensures short { IfOk result (λ r. IsShort text.entry.now × IsUtf8 text.entry.now) }
         ensures unreadable { IfErr result (IsUnreadable text.entry.now) }
@@ -95,7 +95,7 @@ impl<'a> Elements<'a> {
     /// nil in place of those that are vectors and maps, and of a map none. An element that is no
     /// map is kept as a value is. What is not kept takes no memory, and is read as all else is.
     pub fn truncated(alloc: Global, text: &'a [u8]) -> Result<Elements<'a>, EdnFault>
-        ensures text { IfOk result (λ r. (left_of r ≡ text.entry.now) × (start_of r ≡ 0)) }
+        ensures text { IfOk result (λ r. (text_left r ≡ text.entry.now) × (start_of r ≡ 0)) }
         ensures keeps { IfOk result (λ r. keeping_in r ≡ truncated_kept) }
         ensures short { IfOk result (λ r. IsShort text.entry.now × IsUtf8 text.entry.now) }
         ensures unreadable { IfErr result (IsUnreadable text.entry.now) }
@@ -111,7 +111,7 @@ impl<'a> Elements<'a> {
         text: &'a [u8],
         key: &'a [u8],
     ) -> Result<Elements<'a>, EdnFault>
-        ensures text { IfOk result (λ r. (left_of r ≡ text.entry.now) × (start_of r ≡ 0)) }
+        ensures text { IfOk result (λ r. (text_left r ≡ text.entry.now) × (start_of r ≡ 0)) }
         ensures keeps { IfOk result (λ r. keeping_in r
             ≡ truncated_and_integer_vector key.entry.now) }
         ensures short { IfOk result (λ r. IsShort text.entry.now × IsUtf8 text.entry.now) }
@@ -123,7 +123,7 @@ impl<'a> Elements<'a> {
     /// What is left of the text.
     #[inline(always)]
     pub fn rest(&self) -> &'a str
-        ensures { result.now ≡ left_of self.now }
+        ensures { result.now ≡ text_left self.now }
     {
         self.rest
     }
@@ -133,14 +133,14 @@ impl<'a> Elements<'a> {
     #[inline(always)]
     #[tactic(auto, using(crate::proofs::Fronts::rest_shorter))]
     pub fn pass(&mut self, after: &'a [u8])
-        requires { PassesElement (left_of self.old) after.now }
-        ensures left { left_of self.new ≡ after.entry.now }
+        requires { PassesElement (text_left self.old) after.now }
+        ensures left { text_left self.new ≡ after.entry.now }
         ensures keeps { keeping_in self.new ≡ keeping_in self.old }
         ensures tokens { tokens_in self.new ≡ tokens_in self.old }
         ensures integer_vector { integer_vector_in self.new ≡ integer_vector_in self.old }
-        ensures moves { start_of self.new + length (left_of self.new)
-            ≡ start_of self.old + length (left_of self.old) }
-        ensures shorter { length (left_of self.new) < length (left_of self.old) }
+        ensures moves { start_of self.new + length (text_left self.new)
+            ≡ start_of self.old + length (text_left self.old) }
+        ensures shorter { length (text_left self.new) < length (text_left self.old) }
     {
         // What follows an element of a text is text.
         self.rest = unsafe { std::str::from_utf8_unchecked(after) };
@@ -149,8 +149,8 @@ impl<'a> Elements<'a> {
     /// The byte of the text at which the next token begins, or the text's length if there is
     /// none.
     pub(crate) fn place(&self) -> usize
-        ensures { result + length (skip (left_of self.now))
-            ≡ start_of self.now + length (left_of self.now) }
+        ensures { result + length (skip (text_left self.now))
+            ≡ start_of self.now + length (text_left self.now) }
     {
         self.whole - skip(self.rest.as_bytes()).len()
     }
@@ -159,20 +159,20 @@ impl<'a> Elements<'a> {
     /// was, and the next call returns the same, except for an allocation failure.
     pub fn advance(&mut self) -> Result<bool, EdnFault>
         ensures reads { IfOk result (λ more.
-            ReadsNext (keeping_in self.old) (left_of self.old) (tokens_in self.new)
+            ReadsNext (keeping_in self.old) (text_left self.old) (tokens_in self.new)
             (integer_vector_in self.new)
-            (if more then Some (left_of self.new) else None)) }
+            (if more then Some (text_left self.new) else None)) }
         ensures keeps { keeping_in self.new ≡ keeping_in self.old }
-        ensures moves { start_of self.new + length (left_of self.new)
-            ≡ start_of self.old + length (left_of self.old) }
+        ensures moves { start_of self.new + length (text_left self.new)
+            ≡ start_of self.old + length (text_left self.old) }
         ensures shorter { IfOk result (λ more. more ≡ true →
-            length (left_of self.new) < length (left_of self.old)) }
-        ensures same { IfErr result (λ _. left_of self.new ≡ left_of self.old) }
+            length (text_left self.new) < length (text_left self.old)) }
+        ensures same { IfErr result (λ _. text_left self.new ≡ text_left self.old) }
         ensures none { IfErr result (λ e. e.kind ≢ FaultKind.NoMemory
-            → (ds : List Datum) → Spells ds (left_of self.old) → ⊥) }
+            → (ds : List Datum) → Spells ds (text_left self.old) → ⊥) }
         // An allocation failed, and nothing was wrong yet, as in `read_forms`.
         ensures memory { IfErr result (λ e. e.kind ≡ FaultKind.NoMemory
-            → IsSoundFrom (start_of self.old) e.place (left_of self.old)) }
+            → IsSoundFrom (start_of self.old) e.place (text_left self.old)) }
         ensures short { IfErr result (λ e. e.kind ≢ FaultKind.TooLong) }
     {
         match self
@@ -202,7 +202,7 @@ impl<'a> Elements<'a> {
         ensures gone { integer_vector_in self.new ≡ None }
         ensures tokens { tokens_in self.new ≡ tokens_in self.old }
         ensures keeps { keeping_in self.new ≡ keeping_in self.old }
-        ensures left { (left_of self.new ≡ left_of self.old)
+        ensures left { (text_left self.new ≡ text_left self.old)
             × (start_of self.new ≡ start_of self.old) }
     {
         self.token_buffer.take_integer_vector(self.alloc)

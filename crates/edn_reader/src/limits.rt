@@ -1,6 +1,6 @@
 //! Whether a form keeps the limits of a text.
 ghost use Rattle.std.specs.Prelude.{◌≡◌, ◌↔◌, IsTrue};
-ghost use Rattle.edn_reader.specs.Datum.{max_open, Fits, ItemsFit, EntriesFit};
+ghost use Rattle.edn_reader.specs.Datum.{max_open, DatumFits, ItemsFit, EntriesFit};
 ghost use Rattle.edn_reader.specs.Reading.{has_key};
 ghost use Rattle.edn_reader.specs.View.{view, pair_views, items_in, entries_in};
 
@@ -24,7 +24,7 @@ fn is_among(pairs: &[(Name, Form)], name: &[u8]) -> bool
 /// Whether the keys of each map are distinct and at most 16 vectors and maps are in one another, as
 /// in each form that was read. It takes no memory, and compares the keys of a map pair by pair.
 pub fn fits(form: &Form) -> bool
-    ensures { IsTrue result ↔ Fits max_open (view form.now) }
+    ensures { IsTrue result ↔ DatumFits max_open (view form.now) }
 {
     fits_within(form, MAX_OPEN)
 }
@@ -32,7 +32,7 @@ pub fn fits(form: &Form) -> bool
 /// Whether the form fits if this many vectors and maps may still be opened.
 #[cycle(fits)]
 fn fits_within(form: &Form, depth: usize) -> bool
-    ensures { IsTrue result ↔ Fits depth (view form.now) }
+    ensures { IsTrue result ↔ DatumFits depth (view form.now) }
 {
     match form {
         Form::Vector(forms) => depth > 0 && items_fit(forms, depth - 1),

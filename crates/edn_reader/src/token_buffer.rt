@@ -146,7 +146,7 @@ impl<'a> TokenBuffer<'a> {
     }
 
     /// Reads the next element. Do not use the token buffer after an error.
-    #[tactic(auto, using(crate::proofs::Lexical::skip_within, crate::proofs::Turns::after_piece_shorter))]
+    #[tactic(auto, using(crate::proofs::Lexical::skip_within, crate::proofs::BufferTurns::after_piece_shorter))]
     fn try_read(
         &mut self,
         alloc: Global,

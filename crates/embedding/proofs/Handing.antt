@@ -5,7 +5,7 @@ use Rattle.report.specs.declared.verdict.Verdict.TheVariants as verdict
 use Rattle.judging.specs.Texts.{AreValidTexts}
 use Rattle.judging.specs.Verdicts.{IsYesUnlessMemory}
 use Rattle.history_commands.specs.Checked.{IsCheck}
-use Rattle.history_commands.specs.Outputs.{number_of, status_of}
+use Rattle.history_commands.specs.Outputs.{status_number, status_of}
 use Rattle.history_commands.specs.declared.output.Output.{Output}
 use Rattle.history_commands.specs.declared.status.Status.{Status}
 use Rattle.history_commands.specs.declared.status.Status.TheVariants.{Yes, No, OutOfMemory}
@@ -15,17 +15,17 @@ use Rattle.embedding.specs.Handed.{IsAnswered, IsHandedOut}
 
 pub answered : (IsMade : Status → List ℕ → Type 0) (made : Result Output AllocError) (result : ℕ)
     (before after : List ℕ) (told : ℕ) → IfOk made (λ o. IsMade o.status o.text.items)
-    → IfOk made (λ o. (result ≡ number_of o.status) × IsHandedOut o.text.items before after told)
-    → IfErr made (λ e. (result ≡ number_of OutOfMemory) × IsHandedOut (codes "out of memory\n") before after told)
+    → IfOk made (λ o. (result ≡ status_number o.status) × IsHandedOut o.text.items before after told)
+    → IfErr made (λ e. (result ≡ status_number OutOfMemory) × IsHandedOut (codes "out of memory\n") before after told)
     → IsAnswered IsMade result before after told
 answered IsMade (Ok o) result before after told is given memory = inl (o.status, o.text.items, is, given.0, given.1)
 answered IsMade (Err e) result before after told is given memory = inr memory
 
 -- A number other than that of an allocation failure shows what its status shows of lines.
 pub shows : (IsMade : Status → List ℕ → Type 0) (Q : Type 0) (own : Status) (result : ℕ) (before after : List ℕ)
-    (told : ℕ) → ((status : Status) → number_of status ≡ number_of own → status ≡ own)
+    (told : ℕ) → ((status : Status) → status_number status ≡ status_number own → status ≡ own)
     → own ≢ OutOfMemory → ((status : Status) (text : List ℕ) → IsMade status text → status ≡ own → Q)
-    → IsAnswered IsMade result before after told → result ≡ number_of own → Q
+    → IsAnswered IsMade result before after told → result ≡ status_number own → Q
 shows IsMade Q own result before after told by_number other show (inl a) e =
     show a.0 a.1 a.2 (by_number a.0 (sym a.3 ∙ e))
 shows IsMade Q own result before after told by_number other show (inr m) e =
@@ -47,10 +47,10 @@ yes_or_memory verdict.NoMemory is = inr refl
 
 pub accepted : (h c : List ℕ) (result : ℕ) (before after : List ℕ) (told : ℕ)
     → IsAnswered (IsCheck h c) result before after told → AreValidTexts h c
-    → (result ≡ number_of Yes) ⊎ (result ≡ number_of OutOfMemory)
+    → (result ≡ status_number Yes) ⊎ (result ≡ status_number OutOfMemory)
 accepted h c result before after told (inl a) valid =
     let k = a.2.output in elim (yes_or_memory k.0 (k.1.accepts valid)) [
-      | inl e ↦ inl (a.3 ∙ ap number_of (k.2 ∙ e))
-      | inr e ↦ inr (a.3 ∙ ap number_of (k.2 ∙ e))
+      | inl e ↦ inl (a.3 ∙ ap status_number (k.2 ∙ e))
+      | inr e ↦ inr (a.3 ∙ ap status_number (k.2 ∙ e))
     ]
 accepted h c result before after told (inr m) valid = inr m.0

@@ -1,6 +1,6 @@
 -- What is handed to the caller.
 use Rattle.std.specs.Prelude.{◌≡◌, ◌⊎◌, ◌++◌, ℕ, List, codes, length, take, drop, min}
-use Rattle.history_commands.specs.Outputs.{number_of}
+use Rattle.history_commands.specs.Outputs.{status_number}
 use Rattle.history_commands.specs.declared.status.Status.{Status}
 use Rattle.history_commands.specs.declared.status.Status.TheVariants.{OutOfMemory}
 
@@ -15,7 +15,7 @@ pub record IsHandedOut (text before after : List ℕ) (told : ℕ) : Type 0 wher
 -- allocation for the text failed, and one line says so.
 abbrev pub IsAnswered : (Status → List ℕ → Type 0) → ℕ → List ℕ → List ℕ → ℕ → Type 0
 IsAnswered IsOutput result before after told =
-    ((status : Status) × (text : List ℕ) × IsOutput status text × (result ≡ number_of status)
+    ((status : Status) × (text : List ℕ) × IsOutput status text × (result ≡ status_number status)
     × IsHandedOut text before after told)
-    ⊎ ((result ≡ number_of OutOfMemory)
+    ⊎ ((result ≡ status_number OutOfMemory)
     × IsHandedOut (codes "out of memory\n") before after told)

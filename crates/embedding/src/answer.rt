@@ -1,7 +1,7 @@
 //! Answers in the caller's buffer.
 
 ghost use Rattle.std.specs.Prelude.{◌≡◌, IfOk, IfErr, codes};
-ghost use Rattle.history_commands.specs.Outputs.{number_of};
+ghost use Rattle.history_commands.specs.Outputs.{status_number};
 ghost use Rattle.embedding.specs.Handed.{IsHandedOut};
 
 use history_commands::{Output, Status};
@@ -19,9 +19,9 @@ fn hand_out(lines: &[u8], out: &mut [u8], needed: &mut usize)
 /// Copies the output into the buffer, and returns the number of its status; or reports a failed
 /// allocation.
 pub(crate) fn answer(made: Result<Output, AllocError>, out: &mut [u8], needed: &mut usize) -> u32
-    ensures made { IfOk made (λ o. (result ≡ number_of o.status)
+    ensures made { IfOk made (λ o. (result ≡ status_number o.status)
         × IsHandedOut o.text.items out.old out.new needed.new) }
-    ensures memory { IfErr made (λ _. (result ≡ number_of Status.OutOfMemory)
+    ensures memory { IfErr made (λ _. (result ≡ status_number Status.OutOfMemory)
         × IsHandedOut (codes "out of memory\n") out.old out.new needed.new) }
 {
     match made {

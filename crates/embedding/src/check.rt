@@ -3,7 +3,7 @@
 ghost use Rattle.std.specs.Prelude.{◌≡◌, ◌⊎◌};
 ghost use Rattle.judging.specs.Texts.{AreValidTexts, IsLinearizableText};
 ghost use Rattle.history_commands.specs.Checked.{IsCheck};
-ghost use Rattle.history_commands.specs.Outputs.{number_of};
+ghost use Rattle.history_commands.specs.Outputs.{status_number};
 ghost use Rattle.embedding.specs.Handed.{IsAnswered};
 
 use crate::answer::answer;
@@ -25,13 +25,13 @@ pub extern "C" fn fcbench_check(
     needed: &mut usize,
 ) -> u32
     // The headline: if it returns 0, the history that the bytes denote is linearizable.
-    ensures linearizable { result ≡ number_of Status.Yes → IsLinearizableText history.now }
+    ensures linearizable { result ≡ status_number Status.Yes → IsLinearizableText history.now }
     // The lines are those of a verdict that holds, with its status, or memory for them was refused.
     ensures checked { IsAnswered (IsCheck history.now certificates.now)
         result out.old out.new needed.new }
     // Valid certificates are accepted, unless an allocation fails.
     ensures accepts { AreValidTexts history.now certificates.now →
-        (result ≡ number_of Status.Yes) ⊎ (result ≡ number_of Status.OutOfMemory) }
+        (result ≡ status_number Status.Yes) ⊎ (result ≡ status_number Status.OutOfMemory) }
 {
     let verdict = judge_alone(alloc, history, certificates);
     answer(verdict_output(alloc, &verdict), out, needed)

@@ -3,7 +3,7 @@
 ghost use Rattle.std.specs.Prelude.{◌≡◌};
 ghost use Rattle.history_commands.specs.Refuted.{IsRefute};
 ghost use Rattle.judging.specs.Texts.{IsNotLinearizableText};
-ghost use Rattle.history_commands.specs.Outputs.{number_of};
+ghost use Rattle.history_commands.specs.Outputs.{status_number};
 ghost use Rattle.embedding.specs.Handed.{IsAnswered};
 ghost use Rattle.embedding.specs.Steps as spec;
 
@@ -28,7 +28,7 @@ pub extern "C" fn fcbench_refute(
     needed: &mut usize,
 ) -> u32
     // If it returns 1, the history that the bytes denote is not linearizable.
-    ensures refuted { result ≡ number_of Status.No → IsNotLinearizableText history.now }
+    ensures refuted { result ≡ status_number Status.No → IsNotLinearizableText history.now }
     // The lines are the answers to the reasons, with their status, or memory for them was refused.
     ensures answered { IsAnswered (IsRefute history.now reasons.now (spec.search_steps steps))
         result out.old out.new needed.new }

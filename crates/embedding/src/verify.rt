@@ -4,7 +4,7 @@ ghost use Rattle.std.specs.Prelude.{◌≡◌};
 ghost use Rattle.judging.specs.Texts.{IsLinearizableText};
 ghost use Rattle.judging.specs.Texts.{IsNotLinearizableText};
 ghost use Rattle.history_commands.specs.Verified.{IsVerification};
-ghost use Rattle.history_commands.specs.Outputs.{number_of};
+ghost use Rattle.history_commands.specs.Outputs.{status_number};
 ghost use Rattle.embedding.specs.Handed.{IsAnswered};
 ghost use Rattle.embedding.specs.Steps as spec;
 
@@ -30,9 +30,9 @@ pub extern "C" fn fcbench_verify(
     needed: &mut usize,
 ) -> u32
     // The headline: if it returns 0, the history that the bytes denote is linearizable.
-    ensures linearizable { result ≡ number_of Status.Yes → IsLinearizableText history.now }
+    ensures linearizable { result ≡ status_number Status.Yes → IsLinearizableText history.now }
     // If it returns 1, that history is not linearizable.
-    ensures refuted { result ≡ number_of Status.No → IsNotLinearizableText history.now }
+    ensures refuted { result ≡ status_number Status.No → IsNotLinearizableText history.now }
     // The lines are those of a verification with this status, or memory for them was refused.
     ensures verified { IsAnswered
         (IsVerification history.now evidence.now (spec.search_steps steps))

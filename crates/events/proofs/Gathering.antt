@@ -14,17 +14,17 @@ use Rattle.events.specs.declared.operations.End.{End}
 use Rattle.events.specs.declared.operations.End.TheVariants.{Pending}
 use Rattle.events.specs.declared.operations.Invocation.{Invocation}
 use Rattle.events.specs.Events.{next_event}
-use Rattle.events.specs.Operations.{end_by, end_at, begun, operations_on, IsGathered}
+use Rattle.events.specs.Operations.{end_by, end_at, begun, operations_on, IsGatheredObject}
 
 -- What is known before the event at place k: how the next event of each process ends an operation, and the operations
 -- of each object.
 pub record IsAhead (ends : ℕ → End) (kept : ℕ → Option (List Invocation)) (later : List Event) : Type 0 where
   pub ahead : (p : ℕ) → ends p ≡ end_at (next_event p later)
-  pub gathered : (x : ℕ) → IsGathered (kept x) (operations_on x later)
+  pub gathered : (x : ℕ) → IsGatheredObject (kept x) (operations_on x later)
 
 pub nothing_ahead : (ends : ℕ → End) (kept : ℕ → Option (List Invocation)) → ((p : ℕ) → ends p ≡ Pending)
     → ((x : ℕ) → kept x ≡ None) → IsAhead ends kept []
-nothing_ahead ends kept n k = record { ahead = n; gathered = λ x. subst (λ o. IsGathered o []) (sym (k x)) refl }
+nothing_ahead ends kept n k = record { ahead = n; gathered = λ x. subst (λ o. IsGatheredObject o []) (sym (k x)) refl }
 
 -- one event more
 abbrev pub WithEnd : (ends ends' : ℕ → End) → Event → Type 0
@@ -44,7 +44,7 @@ pub ahead_other : (ends ends' : ℕ → End) (kept : ℕ → Option (List Invoca
     → ((how : End) → begun e.number e.action how ≡ []) → WithEnd ends ends' e → IsAhead ends' kept (e ∷ later)
 ahead_other ends ends' kept e later h none step = record {
   ahead = ends_more ends ends' e later h.ahead step;
-  gathered = λ x. subst (λ t. IsGathered (kept x) (t ++ operations_on x later)) (sym (nothing (e.object == x)))
+  gathered = λ x. subst (λ t. IsGatheredObject (kept x) (t ++ operations_on x later)) (sym (nothing (e.object == x)))
       (h.gathered x);
 }
   where
@@ -68,19 +68,19 @@ ahead_begun ends ends' kept kept' e op o later h invokes is own_kept others_kept
         ∙ ap (λ (x : Invocation). x ∷ [])
         (ap (λ (n : End). record { number = e.number; op = op; «end» = n }) (sym (h.ahead e.process)) ∙ sym is)
 
-    one_more : (k : Option (List Invocation)) (ops : List Invocation) → IsGathered k ops
-        → IsGathered (Some (unwrap_or k [] ++ o ∷ [])) (o ∷ ops)
+    one_more : (k : Option (List Invocation)) (ops : List Invocation) → IsGatheredObject k ops
+        → IsGatheredObject (Some (unwrap_or k [] ++ o ∷ [])) (o ∷ ops)
     one_more None ops g = (ap (λ xs. reverse (o ∷ xs)) (sym g), λ q. cc q)
     one_more (Some xs) ops g = (ap (λ ys. ys ++ o ∷ []) g.0 ∙ sym (reverse-append (o ∷ []) ops), λ q. cc q)
 
     go : (x : ℕ) (b : Bool) → (e.object == x) ≡ b
-        → IsGathered (kept' x) (cond b (begun e.number e.action (end_at (next_event e.process later))) []
+        → IsGatheredObject (kept' x) (cond b (begun e.number e.action (end_at (next_event e.process later))) []
         ++ operations_on x later)
-    go x true q = subst (λ t. IsGathered (kept' x) (t ++ operations_on x later)) (sym begins)
-        (subst (λ n. IsGathered (kept' n) (o ∷ operations_on n later)) (eqb-true e.object x q)
-        (subst (λ k. IsGathered k (o ∷ operations_on e.object later)) (sym own_kept)
+    go x true q = subst (λ t. IsGatheredObject (kept' x) (t ++ operations_on x later)) (sym begins)
+        (subst (λ n. IsGatheredObject (kept' n) (o ∷ operations_on n later)) (eqb-true e.object x q)
+        (subst (λ k. IsGatheredObject k (o ∷ operations_on e.object later)) (sym own_kept)
         (one_more (kept e.object) (operations_on e.object later) (h.gathered e.object))))
-    go x false q = subst (λ k. IsGathered k (operations_on x later))
+    go x false q = subst (λ k. IsGatheredObject k (operations_on x later))
         (sym (others_kept x (λ s. eqb-false e.object x q (sym s)))) (h.gathered x)
 
 -- an event, for a default that nothing reads

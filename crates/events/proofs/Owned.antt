@@ -8,7 +8,7 @@ use Rattle.events.specs.declared.event.Action.TheVariants.{Invoke, Ok, Fail, Inf
 use Rattle.events.specs.declared.event.Event.{Event}
 use Rattle.events.specs.declared.operations.Invocation.{Invocation}
 use Rattle.events.specs.Events.{next_event, IsProper}
-use Rattle.events.specs.Operations.{end_at, begun, operations_on, operations_in, IsGathered}
+use Rattle.events.specs.Operations.{end_at, begun, operations_on, operations_in, IsGatheredObject}
 use Rattle.events.proofs.ProcessRuns.{idle, busy, state_by, MayDo, Runs, runs_from_start}
 use Rattle.events.proofs.Calls.{AllRun, all_run_later}
 
@@ -103,11 +103,11 @@ in_part part parts x = x % parts == part
 
 -- what was gathered of the events on them is what all events have
 pub gathered_in : (part parts x : ℕ) (es : List Event) (kept : Option (List Invocation)) → IsProper es
-    → IsGathered kept (operations_on x (owned (in_part part parts) es))
-    → IsGathered kept (operations_in part parts x es)
+    → IsGatheredObject kept (operations_on x (owned (in_part part parts) es))
+    → IsGatheredObject kept (operations_in part parts x es)
 gathered_in part parts x es kept proper h = go (in_part part parts x) refl
   where
-    go : (b : Bool) → in_part part parts x ≡ b → IsGathered kept (cond b (operations_on x es) [])
-    go true q = subst (IsGathered kept)
+    go : (b : Bool) → in_part part parts x ≡ b → IsGatheredObject kept (cond b (operations_on x es) [])
+    go true q = subst (IsGatheredObject kept)
         (operations_owned (in_part part parts) x es q (λ p. (idle, runs_from_start es p proper))) h
-    go false q = subst (IsGathered kept) (no_operations (in_part part parts) x es q) h
+    go false q = subst (IsGatheredObject kept) (no_operations (in_part part parts) x es q) h

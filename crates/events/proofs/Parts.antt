@@ -14,7 +14,7 @@ use Rattle.events.specs.declared.event.Event.{Event}
 use Rattle.events.specs.declared.operations.End.{End}
 use Rattle.events.specs.declared.operations.End.TheVariants.{Returned, Pending, Failed}
 use Rattle.events.specs.declared.operations.Invocation.{Invocation}
-use Rattle.events.specs.Events.{next_event, Follows, IsProper, kind_in, kind_at, IsNamed}
+use Rattle.events.specs.Events.{next_event, Follows, IsProper, kind_in_action, kind_of_object, IsNamed}
 use Rattle.events.specs.Operations.{end_by, end_at, begun, operations_on, EndsAfter, ObjectCalls, IsObjectHistory}
 
 -- the event of an operation
@@ -202,7 +202,7 @@ kinds_after earlier (e ∷ es) all is h = (
 )
 
 kind_here : (x : ℕ) (es : List Event) (o : Invocation) → Pairs SameKind es → In o (operations_on x es)
-    → kind_of o.op ≡ kind_at es x
+    → kind_of o.op ≡ kind_of_object es x
 kind_here x [] o h i = absurd i
 kind_here x (e ∷ es) o h i =
     go (e.object == x) refl
@@ -210,7 +210,8 @@ kind_here x (e ∷ es) o h i =
     (operations_on x es) i) (kind_here x es o h.1)
   where
     own : (a : Action) → (e.object ≡ x) → e.action ≡ a → ((e.action ≡ Invoke o.op) ⊎ In o (operations_on x es))
-        → (In o (operations_on x es) → kind_of o.op ≡ kind_at es x) → kind_of o.op ≡ kind_in a (kind_at es x)
+        → (In o (operations_on x es) → kind_of o.op ≡ kind_of_object es x) → kind_of o.op
+        ≡ kind_in_action a (kind_of_object es x)
     own (Invoke op) s q (inl t) f =
         ap kind_of (let r : Invoke op ≡ Invoke o.op = sym q ∙ t in let u : o.op ≡ op = cc in u)
     own (Invoke op) s q (inr j) f =
@@ -224,8 +225,8 @@ kind_here x (e ∷ es) o h i =
 
     go : (b : Bool) → (e.object == x) ≡ b
         → In o (cond (e.object == x) (begun e.number e.action (end_at (next_event e.process es))) [])
-        ⊎ In o (operations_on x es) → (In o (operations_on x es) → kind_of o.op ≡ kind_at es x)
-        → kind_of o.op ≡ cond b (kind_in e.action (kind_at es x)) (kind_at es x)
+        ⊎ In o (operations_on x es) → (In o (operations_on x es) → kind_of o.op ≡ kind_of_object es x)
+        → kind_of o.op ≡ cond b (kind_in_action e.action (kind_of_object es x)) (kind_of_object es x)
     go true q (inl j) f = own e.action (eqb-true e.object x q) refl
         (inl (begun_here x e (end_at (next_event e.process es)) o j).2) f
     go true q (inr j) f = own e.action (eqb-true e.object x q) refl (inr j) f
@@ -237,7 +238,7 @@ kind_here x (e ∷ es) o h i =
 -- ---- joined
 
 abbrev pub object_calls : List Event → ℕ → ObjectCalls
-object_calls es x = record { object = x; kind = kind_at es x; ops = operations_on x es }
+object_calls es x = record { object = x; kind = kind_of_object es x; ops = operations_on x es }
 
 pub is_object_history : (es : List Event) → IsProper es → (x : ℕ) → IsObjectHistory (object_calls es x)
 is_object_history es h x =
@@ -245,7 +246,8 @@ is_object_history es h x =
     let kinds : Pairs SameKind es = kinds_after [] es es refl h in
     record {
       rising = all_from_pairs (λ a b. a.number < b.number) (operations_on x es) (operations_rising x es up);
-      of_kind = all_from_in (λ o. kind_of o.op ≡ kind_at es x) (operations_on x es) (λ o i. kind_here x es o kinds i);
+      of_kind = all_from_in (λ o. kind_of o.op ≡ kind_of_object es x) (operations_on x es)
+          (λ o i. kind_here x es o kinds i);
       ends = all_from_in (λ o. EndsAfter o.number (operations_on x es) o.«end») (operations_on x es)
           (λ o i. ends_after x es o up i);
     }

@@ -7,7 +7,7 @@ use Rattle.model.specs.declared.AnyOp.{AnyOp}
 use Rattle.events.specs.declared.event.Action.{Action}
 use Rattle.events.specs.declared.event.Action.TheVariants.{Invoke, Ok, Fail, Info}
 use Rattle.events.specs.declared.event.Event.{Event}
-use Rattle.events.specs.Events.{last_event, IsIdleAfter, IsIdle, IsOutstanding, HasShape, Follows, IsProper}
+use Rattle.events.specs.Events.{last_event, IsIdleAfter, IsIdle, IsOutstandingCall, HasShape, Follows, IsProper}
 
 -- what a process is doing
 pub data State : Type 0 where
@@ -59,7 +59,7 @@ may_invoke (Some e) x op h = go e.action h
     go Fail i = tt
     go Info i = absurd i
 
-busy_with : (last : Option Event) (x : ℕ) (op : AnyOp) → IsOutstanding last x op → state_after last ≡ busy x op
+busy_with : (last : Option Event) (x : ℕ) (op : AnyOp) → IsOutstandingCall last x op → state_after last ≡ busy x op
 busy_with last x op h = ap state_after h.1 ∙ (ap (λ a. state_by h.0.object a) h.3 ∙ ap (λ y. busy y op) h.2)
 
 may_do : (earlier : List Event) (p x : ℕ) (a : Action) → Follows earlier p x a

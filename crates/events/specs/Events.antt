@@ -42,8 +42,9 @@ IsOfKindAt earlier x op =
     → e.action ≡ Invoke earlier_op → kind_of earlier_op ≡ kind_of op
 
 -- the process has this operation outstanding, on this object
-abbrev pub IsOutstanding : Option Event → ℕ → AnyOp → Type 0
-IsOutstanding last x op = (e : Event) × (last ≡ Some e) × (e.object ≡ x) × (e.action ≡ Invoke op)
+abbrev pub IsOutstandingCall : Option Event → ℕ → AnyOp → Type 0
+IsOutstandingCall last x op = (e : Event) × (last ≡ Some e) × (e.object ≡ x)
+    × (e.action ≡ Invoke op)
 
 -- a reply of the shape that the operation has, as nil or an integer where it answers a value
 abbrev pub HasShape : AnyOp → AnyReply → Type 0
@@ -55,9 +56,9 @@ HasShape op r = reply_with (function_in op) (reply_value r) ≡ Some r
 abbrev pub Follows : List Event → ℕ → ℕ → Action → Type 0
 Follows earlier p x (Invoke op) = IsIdle (last_event p earlier) × IsOfKindAt earlier x op
 Follows earlier p x (Ok r) =
-    (op : AnyOp) × IsOutstanding (last_event p earlier) x op × HasShape op r
-Follows earlier p x Fail = (op : AnyOp) × IsOutstanding (last_event p earlier) x op
-Follows earlier p x Info = (op : AnyOp) × IsOutstanding (last_event p earlier) x op
+    (op : AnyOp) × IsOutstandingCall (last_event p earlier) x op × HasShape op r
+Follows earlier p x Fail = (op : AnyOp) × IsOutstandingCall (last_event p earlier) x op
+Follows earlier p x Info = (op : AnyOp) × IsOutstandingCall (last_event p earlier) x op
 
 -- Numbers rise, and each event fits after those before it.
 pub record IsProper (es : List Event) : Type 0 where
@@ -103,14 +104,15 @@ pub record IsNamed (es : List Event) (x : ℕ) : Type 0 where
   pub on_object : event.object ≡ x
   pub invokes : event.action ≡ Invoke op
 
-abbrev pub kind_in : Action → Kind → Kind
-kind_in (Invoke op) other = kind_of op
-kind_in (Ok r) other = other
-kind_in Fail other = other
-kind_in Info other = other
+abbrev pub kind_in_action : Action → Kind → Kind
+kind_in_action (Invoke op) other = kind_of op
+kind_in_action (Ok r) other = other
+kind_in_action Fail other = other
+kind_in_action Info other = other
 
 -- the kind of an object: that of the first invocation that names it
-abbrev pub kind_at : List Event → ℕ → Kind
-kind_at [] x = some_kind
-kind_at (e ∷ later) x =
-    if e.object == x then kind_in e.action (kind_at later x) else kind_at later x
+abbrev pub kind_of_object : List Event → ℕ → Kind
+kind_of_object [] x = some_kind
+kind_of_object (e ∷ later) x =
+    if e.object == x then kind_in_action e.action (kind_of_object later x) else kind_of_object
+    later x

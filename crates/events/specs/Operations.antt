@@ -14,7 +14,7 @@ use Rattle.events.specs.declared.event.Event.{Event}
 use Rattle.events.specs.declared.operations.End.{End}
 use Rattle.events.specs.declared.operations.End.TheVariants.{Returned, Pending, Failed}
 use Rattle.events.specs.declared.operations.Invocation.{Invocation}
-use Rattle.events.specs.Events.{next_event, IsNamed, kind_at, denoted}
+use Rattle.events.specs.Events.{next_event, IsNamed, kind_of_object, denoted}
 
 -- how an operation ends, by the next event of its process
 abbrev pub end_by : ℕ → Action → End
@@ -28,8 +28,8 @@ end_at None = Pending
 end_at (Some e) = end_by e.number e.action
 
 -- how it ends if nothing is kept of it
-abbrev pub end_in : Option End → End
-end_in kept = unwrap_or kept Pending
+abbrev pub end_kept : Option End → End
+end_kept kept = unwrap_or kept Pending
 
 abbrev pub begun : ℕ → Action → End → List Invocation
 begun number (Invoke op) how = record { number = number; op = op; «end» = how } ∷ []
@@ -57,8 +57,8 @@ return_of Pending = None
 return_of Failed = None
 
 -- a call returned, and another reply than this
-abbrev pub Differs : Option Return → AnyReply → Type 0
-Differs returned gives = (r : Return) × (returned ≡ Some r) × (r.reply ≢ gives)
+abbrev pub ReplyDiffers : Option Return → AnyReply → Type 0
+ReplyDiffers returned gives = (r : Return) × (returned ≡ Some r) × (r.reply ≢ gives)
 
 -- if a call returned, it returned this reply
 abbrev pub Agrees : Option Return → AnyReply → Type 0
@@ -99,9 +99,9 @@ pub record IsObjectHistory (h : ObjectCalls) : Type 0 where
   pub ends : All (λ o. EndsAfter o.number h.ops o.«end») h.ops
 
 -- what is kept of an object's operations: them in reverse, or nothing if there are none
-abbrev pub IsGathered : Option (List Invocation) → List Invocation → Type 0
-IsGathered None ops = ops ≡ []
-IsGathered (Some kept) ops = (kept ≡ reverse ops) × (ops ≢ [])
+abbrev pub IsGatheredObject : Option (List Invocation) → List Invocation → Type 0
+IsGatheredObject None ops = ops ≡ []
+IsGatheredObject (Some kept) ops = (kept ≡ reverse ops) × (ops ≢ [])
 
 -- an object of which something is kept is in the list
 abbrev pub IsListed : {V : Type 0} → Option V → List ℕ → ℕ → Type 0
@@ -112,6 +112,6 @@ pub record AreObjects (part parts : ℕ) (es : List Event) (objects : List Objec
   pub rising : AllPairs (λ a b. a.object < b.object) objects
   pub named : (x : ℕ) → Contains (map (λ o. o.object) objects) x
       ↔ (IsNamed es x × (x % parts ≡ part))
-  pub kinds : All (λ o. o.kind ≡ kind_at es o.object) objects
+  pub kinds : All (λ o. o.kind ≡ kind_of_object es o.object) objects
   pub operations : All (λ o. o.ops ≡ operations_on o.object es) objects
   pub calls : All (λ o. calls_of o.ops ≡ calls_on o.object (denoted es)) objects

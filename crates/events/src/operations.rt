@@ -24,7 +24,7 @@ fn is_same(left: AnyReply, right: AnyReply) -> bool
 
 impl End {
     ghost use Rattle.std.specs.Prelude.{is_some};
-    ghost use Rattle.events.specs.Operations.{return_of, Agrees, Differs};
+    ghost use Rattle.events.specs.Operations.{return_of, Agrees, ReplyDiffers};
 
     /// Whether the operation returned.
     pub fn has_returned(&self) -> bool
@@ -35,7 +35,7 @@ impl End {
 
     /// Whether it returned, and another reply than this.
     pub fn differs(&self, gives: AnyReply) -> bool
-        ensures { MatchBool result (Differs (return_of self.now) gives)
+        ensures { MatchBool result (ReplyDiffers (return_of self.now) gives)
             (Agrees (return_of self.now) gives) }
     {
         match self {

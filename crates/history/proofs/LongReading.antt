@@ -10,14 +10,14 @@ use Rattle.history.specs.declared.fault.HistoryFaultKind.{HistoryFaultKind}
 use Rattle.history.specs.declared.fault.HistoryFaultKind.TheVariants.{TooMany, NoMemory}
 use Rattle.history.specs.declared.long_reader.LongReader.{LongReader}
 use Rattle.history.specs.Maps.{client_of}
-use Rattle.history.specs.Faults.{IsMapFault, number_of}
-use Rattle.history.specs.Denotes.{event_of, events_from}
-use Rattle.history.specs.Seen.{HasFirst, IsRead}
+use Rattle.history.specs.Faults.{IsMapFault, history_fault_number}
+use Rattle.history.specs.Denotes.{event_of, events_of_forms}
+use Rattle.history.specs.Seen.{HasFirst, IsFormRead}
 use Rattle.history.specs.LongReading.{AreReadAtAnyLength, IsOfPlace}
 use Rattle.history.proofs.Reading.{events_push, faultless_push}
 
 pub read_more : (old new : LongReader) (ds : List Datum) (d : Datum) (es : List Event) → AreReadAtAnyLength old ds
-    → IsRead new.seen ds d es
+    → IsFormRead new.seen ds d es
     → new.maps ≡ old.maps + 1 → AreReadAtAnyLength new (ds ++ d ∷ [])
 read_more old new ds d es h r q =
     record {
@@ -28,9 +28,9 @@ read_more old new ds d es h r q =
     }
 
 pub events_more : (ds : List Datum) (d : Datum) (es : List Event) → es ≡ event_of (length ds) (client_of d)
-    → events_from 0 (ds ++ d ∷ []) ≡ events_from 0 ds ++ es
+    → events_of_forms 0 (ds ++ d ∷ []) ≡ events_of_forms 0 ds ++ es
 events_more ds d es is =
-    events_push 0 ds d ∙ ap (λ (x : List Event). events_from 0 ds ++ x)
+    events_push 0 ds d ∙ ap (λ (x : List Event). events_of_forms 0 ds ++ x)
     (ap (λ (k : ℕ). event_of k (client_of d)) (zero-add (length ds)) ∙ sym is)
 
 -- a fault of the map is none of its place
@@ -40,7 +40,7 @@ of_the_map ds d k h (inr q) = let g : IsMapFault ds d NoMemory = subst (IsMapFau
 
 pub first_of_all : (reader : LongReader) (ds : List Datum) (d : Datum) (k : HistoryFaultKind)
     → AreReadAtAnyLength reader ds → HasFirst IsMapFault ds d k
-    → IsFirstFaultBy IsMapFault number_of (ds ++ d ∷ []) reader.maps k
+    → IsFirstFaultBy IsMapFault history_fault_number (ds ++ d ∷ []) reader.maps k
 first_of_all reader ds d k h f =
     record {
       earlier = ds;

@@ -8,14 +8,15 @@ use Rattle.edn_reader.specs.Datum.{Datum}
 use Rattle.events.specs.declared.event.Event.{Event}
 use Rattle.history.specs.declared.fault.HistoryFaultKind.{HistoryFaultKind}
 use Rattle.history.specs.declared.fault.HistoryFaultKind.TheVariants.{NotAnOperation, TooMany, NoMemory}
-use Rattle.history.specs.Faults.{max_maps, HasGreatObject, IsMapFault, IsFault, IsFaultless, IsFaultlessAtAnyLength}
-use Rattle.history.specs.Faults.{number_of}
+use Rattle.history.specs.Faults.{max_maps, HasGreatObject, IsMapFault, IsHistoryFormFault, HasNoHistoryFault}
+use Rattle.history.specs.Faults.{IsFaultlessAtAnyLength}
+use Rattle.history.specs.Faults.{history_fault_number}
 use Rattle.history.specs.Denotes.{Denotes, DenotesAtAnyLength}
 use Rattle.history.specs.Seen.{HasFirst, HasNoFault}
 
 -- ---- of one form
 
-fault_within : (ds : List Datum) (d : Datum) (k : HistoryFaultKind) → IsMapFault ds d k → IsFault ds d k
+fault_within : (ds : List Datum) (d : Datum) (k : HistoryFaultKind) → IsMapFault ds d k → IsHistoryFormFault ds d k
 fault_within ds d NotAnOperation h = inl h
 fault_within ds d TooMany h = absurd h.2
 fault_within ds d kind h = h
@@ -24,7 +25,7 @@ fault_within ds d kind h = h
 abbrev pub IsSmall : Datum → Type 0
 IsSmall d = HasGreatObject d → ⊥
 
-fault_or_limit : (ds : List Datum) (d : Datum) (k : HistoryFaultKind) → IsSmall d → IsFault ds d k
+fault_or_limit : (ds : List Datum) (d : Datum) (k : HistoryFaultKind) → IsSmall d → IsHistoryFormFault ds d k
     → IsMapFault ds d k ⊎ ((k ≡ TooMany) × (max_maps ≤ length ds))
 fault_or_limit ds d NotAnOperation small (inl h) = inl h
 fault_or_limit ds d NotAnOperation small (inr h) = absurd (small h)
@@ -32,7 +33,7 @@ fault_or_limit ds d TooMany small h = inr (refl, h)
 fault_or_limit ds d kind small h = inl h
 
 before_limit : (ds : List Datum) (d : Datum) (k : HistoryFaultKind) → IsMapFault ds d k
-    → number_of k < number_of TooMany
+    → history_fault_number k < history_fault_number TooMany
 before_limit ds d TooMany h = absurd h.2
 before_limit ds d NoMemory h = absurd h.2
 before_limit ds d kind h = omega arith
@@ -41,53 +42,54 @@ before_limit ds d kind h = omega arith
 pub not_memory : (ds : List Datum) (d : Datum) (k : HistoryFaultKind) → IsMapFault ds d k → k ≡ NoMemory → ⊥
 not_memory ds d k h q = let g : IsMapFault ds d NoMemory = subst (IsMapFault ds d) q h in g.2
 
-pub great_first : (ds : List Datum) (d : Datum) → HasGreatObject d → HasFirst IsFault ds d NotAnOperation
+pub great_first : (ds : List Datum) (d : Datum) → HasGreatObject d → HasFirst IsHistoryFormFault ds d NotAnOperation
 great_first ds d great = record { stands = inr great; first = λ j f. least j }
   where
-    least : (j : HistoryFaultKind) → 1 ≤ number_of j
+    least : (j : HistoryFaultKind) → 1 ≤ history_fault_number j
     least NotAnOperation = omega arith
     least kind = omega arith
 
 pub first_within : (ds : List Datum) (d : Datum) (k : HistoryFaultKind) → IsSmall d → HasFirst IsMapFault ds d k
-    → HasFirst IsFault ds d k
+    → HasFirst IsHistoryFormFault ds d k
 first_within ds d k small h = record {
   stands = fault_within ds d k h.stands;
   first = λ j f. elim (fault_or_limit ds d j small f) [
     | inl g ↦ h.first j g
     | inr t ↦ let l = before_limit ds d k h.stands in
-        subst (λ (x : HistoryFaultKind). number_of k ≤ number_of x) (sym t.0) (omega arith)
+        subst (λ (x : HistoryFaultKind). history_fault_number k ≤ history_fault_number x) (sym t.0) (omega arith)
   ];
 }
 
 pub none_within : (ds : List Datum) (d : Datum) → IsSmall d → HasNoFault IsMapFault ds d → length ds < max_maps
-    → HasNoFault IsFault ds d
+    → HasNoFault IsHistoryFormFault ds d
 none_within ds d small none few k f = elim (fault_or_limit ds d k small f) [
   | inl g ↦ none k g
   | inr t ↦ let l = t.1 in omega arith
 ]
 
 pub too_many_first : (ds : List Datum) (d : Datum) → IsSmall d → HasNoFault IsMapFault ds d → max_maps ≤ length ds
-    → HasFirst IsFault ds d TooMany
+    → HasFirst IsHistoryFormFault ds d TooMany
 too_many_first ds d small none many = record {
   stands = many;
   first = λ j f. elim (fault_or_limit ds d j small f) [
     | inl g ↦ absurd (none j g)
-    | inr t ↦ subst (λ (x : HistoryFaultKind). number_of TooMany ≤ number_of x) (sym t.0) (omega arith)
+    | inr t ↦ subst (λ (x : HistoryFaultKind). history_fault_number TooMany ≤ history_fault_number x) (sym t.0)
+        (omega arith)
   ];
 }
 
 -- ---- of all forms
 
-pub at_any_length : (ds : List Datum) → IsFaultless ds → IsFaultlessAtAnyLength ds
+pub at_any_length : (ds : List Datum) → HasNoHistoryFault ds → IsFaultlessAtAnyLength ds
 at_any_length ds h earlier later d k q f = h earlier later d k q (fault_within earlier d k f)
 
 -- and none is on a great object
-pub small_objects : (ds : List Datum) → IsFaultless ds → All IsSmall ds
+pub small_objects : (ds : List Datum) → HasNoHistoryFault ds → All IsSmall ds
 small_objects ds h = all_from_in IsSmall ds
     (λ d i great. let r = in_split d ds i in h r.0 r.1 d NotAnOperation r.2 (inr great))
 
 pub faultless_within : (ds : List Datum) → IsFaultlessAtAnyLength ds → length ds ≤ max_maps → All IsSmall ds
-    → IsFaultless ds
+    → HasNoHistoryFault ds
 faultless_within ds h few small earlier later d k q f =
     elim (fault_or_limit earlier d k (all_at IsSmall ds small d (subst (In d) (sym q) (in_middle d earlier later))) f) [
       | inl g ↦ h earlier later d k q g

@@ -7,47 +7,48 @@ use Rattle.edn_reader.specs.Datum.{Datum}
 use Rattle.events.specs.declared.event.Action.{Action}
 use Rattle.events.specs.declared.event.Event.{Event}
 use Rattle.history.specs.Maps.{ClientMap, client_of}
-use Rattle.history.specs.Denotes.{action_of, event_with, event_of, events_from}
+use Rattle.history.specs.Denotes.{action_of, event_of_map, event_of, events_of_forms}
 use Rattle.history.specs.Noting.{shift_event}
 
 -- ---- joined forms
 
-events_join : (n : ℕ) (ds es : List Datum) → events_from n (ds ++ es)
-    ≡ events_from n ds ++ events_from (n + length ds) es
-events_join n [] es = ap (λ k. events_from k es) (let e : n ≡ n + 0 = omega arith in e)
+events_join : (n : ℕ) (ds es : List Datum) → events_of_forms n (ds ++ es)
+    ≡ events_of_forms n ds ++ events_of_forms (n + length ds) es
+events_join n [] es = ap (λ k. events_of_forms k es) (let e : n ≡ n + 0 = omega arith in e)
 events_join n (d ∷ ds) es =
     ap (λ t. event_of n (client_of d) ++ t) (events_join (n + 1) ds es)
-    ∙ (sym (append_assoc (event_of n (client_of d)) (events_from (n + 1) ds) (events_from (n + 1 + length ds) es))
-    ∙ ap (λ k. (event_of n (client_of d) ++ events_from (n + 1) ds) ++ events_from k es)
+    ∙ (sym (append_assoc (event_of n (client_of d)) (events_of_forms (n + 1) ds)
+    (events_of_forms (n + 1 + length ds) es))
+    ∙ ap (λ k. (event_of n (client_of d) ++ events_of_forms (n + 1) ds) ++ events_of_forms k es)
     (let e : n + 1 + length ds ≡ n + length (d ∷ ds) = omega arith in e))
 
 shift_one : (n k : ℕ) (c : Option ClientMap) → event_of (n + k) c ≡ map (shift_event n) (event_of k c)
 shift_one n k None = refl
 shift_one n k (Some m) = go (action_of m.type m)
   where
-    go : (a : Option Action) → event_with (n + k) m a ≡ map (shift_event n) (event_with k m a)
+    go : (a : Option Action) → event_of_map (n + k) m a ≡ map (shift_event n) (event_of_map k m a)
     go None = refl
     go (Some a) = refl
 
-events_moved : (n k : ℕ) (ds : List Datum) → events_from (n + k) ds ≡ map (shift_event n) (events_from k ds)
+events_moved : (n k : ℕ) (ds : List Datum) → events_of_forms (n + k) ds ≡ map (shift_event n) (events_of_forms k ds)
 events_moved n k [] = refl
 events_moved n k (d ∷ ds) =
-    ap (λ t. t ++ events_from (n + k + 1) ds) (shift_one n k (client_of d))
-    ∙ (ap (λ i. map (shift_event n) (event_of k (client_of d)) ++ events_from i ds)
+    ap (λ t. t ++ events_of_forms (n + k + 1) ds) (shift_one n k (client_of d))
+    ∙ (ap (λ i. map (shift_event n) (event_of k (client_of d)) ++ events_of_forms i ds)
     (let e : n + k + 1 ≡ n + (k + 1) = omega arith in e)
     ∙ (ap (λ t. map (shift_event n) (event_of k (client_of d)) ++ t) (events_moved n (k + 1) ds)
-    ∙ sym (map-append (shift_event n) (event_of k (client_of d)) (events_from (k + 1) ds))))
+    ∙ sym (map-append (shift_event n) (event_of k (client_of d)) (events_of_forms (k + 1) ds))))
 
 -- the same forms after n others
-events_shift : (n : ℕ) (ds : List Datum) → events_from n ds ≡ map (shift_event n) (events_from 0 ds)
-events_shift n ds = ap (λ k. events_from k ds) (let e : n ≡ n + 0 = omega arith in e) ∙ events_moved n 0 ds
+events_shift : (n : ℕ) (ds : List Datum) → events_of_forms n ds ≡ map (shift_event n) (events_of_forms 0 ds)
+events_shift n ds = ap (λ k. events_of_forms k ds) (let e : n ≡ n + 0 = omega arith in e) ∙ events_moved n 0 ds
 
 -- forms after others
-pub events_after : (ds es : List Datum) → events_from 0 (ds ++ es)
-    ≡ events_from 0 ds ++ map (shift_event (length ds)) (events_from 0 es)
+pub events_after : (ds es : List Datum) → events_of_forms 0 (ds ++ es)
+    ≡ events_of_forms 0 ds ++ map (shift_event (length ds)) (events_of_forms 0 es)
 events_after ds es =
     events_join 0 ds es
-    ∙ ap (λ xs. events_from 0 ds ++ xs) (ap (λ n. events_from n es) (zero-add (length ds))
+    ∙ ap (λ xs. events_of_forms 0 ds ++ xs) (ap (λ n. events_of_forms n es) (zero-add (length ds))
     ∙ events_shift (length ds) es)
 
 -- events that are counted from where they are

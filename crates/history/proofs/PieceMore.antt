@@ -14,7 +14,7 @@ use Rattle.model.specs.declared.Kind.{Kind}
 use Rattle.model.proofs.Lists.{all_from_in, all_at, contains_from_in, in_from_contains, in_left, in_right}
 use Rattle.edn_fields.specs.Fields.{max_object}
 use Rattle.edn_reader.specs.Datum.{Datum}
-use Rattle.edn_reader.proofs.Following.{Along}
+use Rattle.edn_reader.proofs.FormsInARow.{Along}
 use Rattle.seq_objects.specs.declared.function.Function.{Function}
 use Rattle.seq_objects.specs.Functions.{kind_of_function}
 use Rattle.events.specs.declared.event.Action.{Action}
@@ -27,8 +27,8 @@ use Rattle.history.specs.declared.piece.ReadPiece.{ReadPiece}
 use Rattle.history.specs.declared.fault.HistoryFaultKind.TheVariants.{AfterInfo}
 use Rattle.history.specs.Maps.{ClientMap, client_of, is_ignored, clients}
 use Rattle.history.specs.Faults.{last_map, IsMapFault, IsFaultlessAtAnyLength}
-use Rattle.history.specs.Denotes.{action_of, event_with, event_of, events_from}
-use Rattle.history.specs.Seen.{doing_after, IsKept, IsKindOf, IsNoOther, IsProcessFault, IsSeen, IsSeenBy}
+use Rattle.history.specs.Denotes.{action_of, event_of_map, event_of, events_of_forms}
+use Rattle.history.specs.Seen.{doing_after, IsProcessKept, IsKindOf, IsNoOther, IsProcessFault, IsSeen, IsSeenBy}
 use Rattle.history.specs.Noting.{IsFirstOrAllowed, NotesProcess, NotesObject}
 use Rattle.history.specs.ReadPieces.{kept_after, IsAllowed, FitsAfter, ContinuesWhereItFits, IsOfForms}
 use Rattle.history.specs.Views.{map_type, client_map}
@@ -143,13 +143,13 @@ continues_more old new ds d c w f a h is known action process object before s k 
 -- the events of forms and one more map of a client
 event_added : (ds : List Datum) (d : Datum) (c : code.ClientMap) (w : Datum) (n : ℕ) (a : Action) → n ≡ length ds
     → client_of d ≡ Some (client_map c w)
-    → action_of (map_type c.map_type) (client_map c w) ≡ Some a → events_from 0 (ds ++ d ∷ [])
-    ≡ events_from 0 ds ++ noted_event c n a ∷ []
+    → action_of (map_type c.map_type) (client_map c w) ≡ Some a → events_of_forms 0 (ds ++ d ∷ [])
+    ≡ events_of_forms 0 ds ++ noted_event c n a ∷ []
 event_added ds d c w n a count is action =
     let m = client_map c w in
     events_push 0 ds d
-    ∙ ap (λ t. events_from 0 ds ++ t) (ap (λ k. event_of k (client_of d)) (zero-add (length ds) ∙ sym count)
-    ∙ (ap (event_of n) is ∙ ap (event_with n m) action))
+    ∙ ap (λ t. events_of_forms 0 ds ++ t) (ap (λ k. event_of k (client_of d)) (zero-add (length ds) ∙ sym count)
+    ∙ (ap (event_of n) is ∙ ap (event_of_map n m) action))
 
 -- the processes so far have a first map, and that of one more map has one too
 firsts_more : (old new : ℕ → Option Process) (was now : List FirstMap) (m : FirstMap) → NotesProcess old new was now m
@@ -247,8 +247,8 @@ pub part_skip : (old new : ReadPiece) (ds : List Datum) (d : Datum) → IsOfForm
       events = old.events;
     } → IsOfForms new (ds ++ d ∷ [])
 part_skip old new ds d h none ignored same =
-    let events : events_from 0 (ds ++ d ∷ []) ≡ events_from 0 ds = events_push 0 ds d
-    ∙ (ap (λ c. events_from 0 ds ++ event_of (0 + length ds) c) none ∙ append-nil (events_from 0 ds)) in
+    let events : events_of_forms 0 (ds ++ d ∷ []) ≡ events_of_forms 0 ds = events_push 0 ds d
+    ∙ (ap (λ c. events_of_forms 0 ds ++ event_of (0 + length ds) c) none ∙ append-nil (events_of_forms 0 ds)) in
     subst (λ p. IsOfForms p (ds ++ d ∷ [])) (sym same) (record {
       count = ap (λ k. k + 1) h.count ∙ sym (length-append ds (d ∷ []));
       events = h.events ∙ sym events;
@@ -265,12 +265,12 @@ part_skip old new ds d h none ignored same =
 pub seen_same : (s t : ℕ → Option Process) (k l : ℕ → Option Kind) (ds : List Datum) → IsSeenBy s k ds
     → ((p : ℕ) → t p ≡ s p) → ((x : ℕ) → l x ≡ k x) → IsSeenBy t l ds
 seen_same s t k l ds h sp kx = record {
-  processes = λ p. subst (λ o. IsKept o (last_map p (clients ds))) (sym (sp p)) (h.processes p);
+  processes = λ p. subst (λ o. IsProcessKept o (last_map p (clients ds))) (sym (sp p)) (h.processes p);
   kinds = λ x. subst (λ o. IsKindOf o (clients ds) x) (sym (kx x)) (h.kinds x);
   closed = h.closed;
 }
 
-no_process_kept : (o : Option Process) → IsKept o None → o ≡ None
+no_process_kept : (o : Option Process) → IsProcessKept o None → o ≡ None
 no_process_kept None h = refl
 no_process_kept (Some p) h = absurd cc
 

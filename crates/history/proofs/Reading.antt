@@ -12,21 +12,21 @@ use Rattle.history.specs.declared.fault.HistoryFault.{HistoryFault}
 use Rattle.history.specs.declared.fault.HistoryFaultKind.{HistoryFaultKind}
 use Rattle.history.specs.Maps.{client_of}
 use Rattle.edn_fields.specs.FirstFaults.{AreFaultless}
-use Rattle.history.specs.Faults.{max_maps, IsFault, IsFaultless, IsFirstFault}
-use Rattle.history.specs.Denotes.{event_of, events_from, Denotes}
-use Rattle.history.specs.Seen.{IsSeen, HasNoFault, HasFirst, IsRead}
-use Rattle.history.specs.Texts.{AreRead}
+use Rattle.history.specs.Faults.{max_maps, IsHistoryFormFault, HasNoHistoryFault, IsFirstFault}
+use Rattle.history.specs.Denotes.{event_of, events_of_forms, Denotes}
+use Rattle.history.specs.Seen.{IsSeen, HasNoFault, HasFirst, IsFormRead}
+use Rattle.history.specs.Texts.{AreEventsRead}
 use Rattle.history.proofs.MapLimit.{IsSmall, none_within}
 
 pub events_push : (n : ℕ) (ds : List Datum) (d : Datum)
-    → events_from n (ds ++ d ∷ []) ≡ events_from n ds ++ event_of (n + length ds) (client_of d)
+    → events_of_forms n (ds ++ d ∷ []) ≡ events_of_forms n ds ++ event_of (n + length ds) (client_of d)
 events_push n [] d = append-nil (event_of n (client_of d))
     ∙ ap (λ k. event_of k (client_of d)) (let e : n ≡ n + 0 = omega arith in e)
 events_push n (x ∷ ds) d =
     ap (λ es. event_of n (client_of x) ++ es) (events_push (n + 1) ds d)
-    ∙ (sym (append_assoc (event_of n (client_of x)) (events_from (n + 1) ds)
+    ∙ (sym (append_assoc (event_of n (client_of x)) (events_of_forms (n + 1) ds)
     (event_of (n + 1 + length ds) (client_of d)))
-    ∙ ap (λ k. (event_of n (client_of x) ++ events_from (n + 1) ds) ++ event_of k (client_of d))
+    ∙ ap (λ k. (event_of n (client_of x) ++ events_of_forms (n + 1) ds) ++ event_of k (client_of d))
     (let e : n + 1 + length ds ≡ n + length (x ∷ ds) = omega arith in e))
 
 -- a split of a longer list
@@ -48,16 +48,17 @@ split_push (y ∷ ds) d (x ∷ earlier) later e q =
       | inr h ↦ inr (h.0, ap (λ z. z ∷ ds) head ∙ ap (λ t. x ∷ t) h.1)
     ]
 
-pub faultless_push : (IsFault : List Datum → Datum → HistoryFaultKind → Type 0) (ds : List Datum) (d : Datum)
-    → AreFaultless IsFault ds
-    → HasNoFault IsFault ds d → AreFaultless IsFault (ds ++ d ∷ [])
-faultless_push IsFault ds d h none earlier later e k q f = elim (split_push ds d earlier later e q) [
-  | inl s ↦ none k (subst (λ x. IsFault ds x k) s.1 (subst (λ x. IsFault x e k) s.0 f))
+pub faultless_push : (IsHistoryFormFault : List Datum → Datum → HistoryFaultKind → Type 0) (ds : List Datum) (d : Datum)
+    → AreFaultless IsHistoryFormFault ds
+    → HasNoFault IsHistoryFormFault ds d → AreFaultless IsHistoryFormFault (ds ++ d ∷ [])
+faultless_push IsHistoryFormFault ds d h none earlier later e k q f = elim (split_push ds d earlier later e q) [
+  | inl s ↦ none k (subst (λ x. IsHistoryFormFault ds x k) s.1 (subst (λ x. IsHistoryFormFault x e k) s.0 f))
   | inr s ↦ h earlier s.0 e k s.1 f
 ]
 
-pub nothing_faulty : (IsFault : List Datum → Datum → HistoryFaultKind → Type 0) → AreFaultless IsFault []
-nothing_faulty IsFault earlier later d k e f = no_split earlier e
+pub nothing_faulty : (IsHistoryFormFault : List Datum → Datum → HistoryFaultKind → Type 0)
+    → AreFaultless IsHistoryFormFault []
+nothing_faulty IsHistoryFormFault earlier later d k e f = no_split earlier e
   where
     no_split : (earlier : List Datum) → [] ≡ earlier ++ d ∷ later → ⊥
     no_split [] e = cc
@@ -65,21 +66,21 @@ nothing_faulty IsFault earlier later d k e f = no_split earlier e
 
 -- ---- what is read
 
-pub nothing_read : (seen : Seen) (es : List Event) → IsSeen seen [] → es ≡ [] → AreRead seen 0 [] es
-nothing_read seen es h e = record { kept = h; faultless = nothing_faulty IsFault; events = e; count = refl }
+pub nothing_read : (seen : Seen) (es : List Event) → IsSeen seen [] → es ≡ [] → AreEventsRead seen 0 [] es
+nothing_read seen es h e = record { kept = h; faultless = nothing_faulty IsHistoryFormFault; events = e; count = refl }
 
 -- one map more
 pub one_more : (old new : Seen) (number : ℕ) (ds : List Datum) (d : Datum) (es more : List Event)
-    → AreRead old number ds es → number < max_maps → IsSmall d
-    → IsRead new ds d more → AreRead new (number + 1) (ds ++ d ∷ []) (es ++ more)
+    → AreEventsRead old number ds es → number < max_maps → IsSmall d
+    → IsFormRead new ds d more → AreEventsRead new (number + 1) (ds ++ d ∷ []) (es ++ more)
 one_more old new number ds d es more h few small r =
     record {
       kept = r.seen;
-      faultless = faultless_push IsFault ds d h.faultless (none_within ds d small r.no_fault
+      faultless = faultless_push IsHistoryFormFault ds d h.faultless (none_within ds d small r.no_fault
           (subst (λ (n : ℕ). n < max_maps) (sym h.count) few));
       events = ap (λ (x : List Event). x ++ more) h.events
-          ∙ (ap (λ (x : List Event). events_from 0 ds ++ x) r.events ∙ sym
-          (events_push 0 ds d ∙ ap (λ (k : ℕ). events_from 0 ds ++ event_of k (client_of d))
+          ∙ (ap (λ (x : List Event). events_of_forms 0 ds ++ x) r.events ∙ sym
+          (events_push 0 ds d ∙ ap (λ (k : ℕ). events_of_forms 0 ds ++ event_of k (client_of d))
           (zero-add (length ds))));
       count = omega (arith, length-append ds (d ∷ []), h.count);
     }
@@ -94,24 +95,27 @@ one_form fs i f l is = ap views (take_more fs i f l) ∙ (map-append view (take 
 
 pub faultless_more : (seen : Seen) (fs : List Form) (i : ℕ) (f : Form) (es : List Event) → i < length fs
     → f ≡ get_or fs i f
-    → AreRead seen i (views (take i fs)) es → HasNoFault IsFault (views (take i fs)) (view f) → IsFaultless
+    → AreEventsRead seen i (views (take i fs)) es → HasNoFault IsHistoryFormFault (views (take i fs)) (view f)
+    → HasNoHistoryFault
     (views (take (i + 1) fs))
 faultless_more seen fs i f es l is h none =
-    let ds = views (take i fs) in subst IsFaultless (sym (one_form fs i f l is))
-    (faultless_push IsFault ds (view f) h.faultless none)
+    let ds = views (take i fs) in subst HasNoHistoryFault (sym (one_form fs i f l is))
+    (faultless_push IsHistoryFormFault ds (view f) h.faultless none)
 
 -- one form more
 pub one_read : (old new : Seen) (fs : List Form) (i : ℕ) (f : Form) (es more : List Event) → i < length fs
     → f ≡ get_or fs i f → i < max_maps → IsSmall (view f)
-    → AreRead old i (views (take i fs)) es → IsRead new (views (take i fs)) (view f) more → AreRead new (i + 1)
+    → AreEventsRead old i (views (take i fs)) es → IsFormRead new (views (take i fs)) (view f) more
+    → AreEventsRead new (i + 1)
     (views (take (i + 1) fs)) (es ++ more)
 one_read old new fs i f es more l is few small h r =
-    subst (λ xs. AreRead new (i + 1) xs (es ++ more)) (sym (one_form fs i f l is))
+    subst (λ xs. AreEventsRead new (i + 1) xs (es ++ more)) (sym (one_form fs i f l is))
     (one_more old new i (views (take i fs)) (view f) es more h few small r)
 
 pub first_fault : (seen : Seen) (fs : List Form) (i : ℕ) (f : Form) (es : List Event) (k : HistoryFaultKind)
     → i < length fs → f ≡ get_or fs i f
-    → AreRead seen i (views (take i fs)) es → HasFirst IsFault (views (take i fs)) (view f) k → IsFirstFault
+    → AreEventsRead seen i (views (take i fs)) es → HasFirst IsHistoryFormFault (views (take i fs)) (view f) k
+    → IsFirstFault
     (views fs) (record { kind = k; map = i })
 first_fault seen fs i f es k l is h first = record {
   earlier = views (take i fs);
@@ -135,7 +139,7 @@ pub fault_refutes : (ds : List Datum) (fault : HistoryFault) (es : List Event) �
     → Denotes ds es → ⊥
 fault_refutes ds fault es h d = d.faultless h.earlier h.later h.form fault.kind h.split h.stands
 
-pub all_read : (seen : Seen) (fs : List Form) (i : ℕ) (es : List Event) → length fs ≤ i → AreRead seen i
+pub all_read : (seen : Seen) (fs : List Form) (i : ℕ) (es : List Event) → length fs ≤ i → AreEventsRead seen i
     (views (take i fs)) es → Denotes (views fs) es
 all_read seen fs i es l h =
     subst (λ x. Denotes (views x) es) (take_all i fs l) (record { faultless = h.faultless; events = h.events })

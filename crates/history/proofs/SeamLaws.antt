@@ -19,7 +19,7 @@ use Rattle.history.specs.declared.piece.ReadPiece.{ReadPiece}
 use Rattle.history.specs.declared.seams.Seams.{Seams}
 use Rattle.history.specs.declared.fault.HistoryFaultKind.{HistoryFaultKind}
 use Rattle.history.specs.Faults.{max_maps}
-use Rattle.history.specs.Denotes.{events_from}
+use Rattle.history.specs.Denotes.{events_of_forms}
 use Rattle.history.specs.Seen.{IsProcessFault}
 use Rattle.history.specs.Views.{map_type}
 use Rattle.history.specs.Noting.{TakesOver, IsOneKind, shift_event}
@@ -108,8 +108,8 @@ joined_more old new read ds es h p allowed one few processes kinds events maps =
       faultless = faultless_within (ds ++ es) whole.0 (omega (arith, length-append ds es, few, counted, own))
           (All-append IsSmall ds es (small_objects ds h.faultless) p.small);
       events = events ∙ (ap (λ xs. xs ++ map (shift_event old.maps) read.events.items) h.events
-          ∙ (ap (λ xs. events_from 0 ds ++ map (shift_event old.maps) xs) p.events
-          ∙ (ap (λ n. events_from 0 ds ++ map (shift_event n) (events_from 0 es)) (sym counted)
+          ∙ (ap (λ xs. events_of_forms 0 ds ++ map (shift_event old.maps) xs) p.events
+          ∙ (ap (λ n. events_of_forms 0 ds ++ map (shift_event n) (events_of_forms 0 es)) (sym counted)
           ∙ sym (events_after ds es))));
       count = omega (arith, length-append ds es, counted, own, maps);
     }

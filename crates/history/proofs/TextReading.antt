@@ -4,7 +4,7 @@ use Rattle.std.proofs.Common.{take, refl, sym, subst, ◌∙◌, arith}
 use Rattle.std.specs.Option.{is_some}
 use Rattle.std.proofs.lemmas.List.{length-append, take_all, take-append-le}
 use Rattle.edn_reader.specs.Datum.{Datum}
-use Rattle.edn_reader.proofs.Following.{Along, front_more}
+use Rattle.edn_reader.proofs.FormsInARow.{Along, front_more}
 use Rattle.edn_fields.proofs.FirstFaults.{first_more}
 use Rattle.events.specs.declared.event.Event.{Event}
 use Rattle.events.specs.Events.{IsProper}
@@ -14,22 +14,23 @@ use Rattle.history.specs.declared.fault.HistoryFaultKind.{HistoryFaultKind}
 use Rattle.history.specs.declared.fault.HistoryFaultKind.TheVariants.{NoMemory}
 use Rattle.history.specs.declared.text_reader.Reading.{Reading}
 use Rattle.history.specs.declared.client_map.OperationMap.{OperationMap}
-use Rattle.history.specs.Faults.{IsFault, IsFaultless}
+use Rattle.history.specs.Faults.{IsHistoryFormFault, HasNoHistoryFault}
 use Rattle.history.specs.Seen.{HasFirst, HasNoFault}
-use Rattle.history.specs.Texts.{IsFoundIn, AreRead, IsReadOrFaulty, IsReading}
+use Rattle.history.specs.Texts.{IsHistoryFaultIn, AreEventsRead, AreEventsReadOrFaulty, IsHistoryReading}
 use Rattle.history.specs.UsualForms.{ReadsForm}
 use Rattle.history.proofs.Reading.{faultless_push}
 use Rattle.history.proofs.Proper.{proper_events}
 
 -- more forms after a fault
-found_more : (ds : List Datum) (d : Datum) (f : HistoryFault) → IsFoundIn ds f → IsFoundIn (ds ++ d ∷ []) f
+found_more : (ds : List Datum) (d : Datum) (f : HistoryFault) → IsHistoryFaultIn ds f
+    → IsHistoryFaultIn (ds ++ d ∷ []) f
 found_more ds d f h = (
   λ n. first_more ds d f.map f.kind (h.0 n),
   λ m. (
       let a = h.1 m in
       let lt : f.map < length ds = a.0 in (
         omega (arith, lt, length-append ds (d ∷ [])),
-        subst IsFaultless (sym (take_front (f.map + 1) ds d (omega (arith, lt)))) a.1,
+        subst HasNoHistoryFault (sym (take_front (f.map + 1) ds d (omega (arith, lt)))) a.1,
       )
       ),
 )
@@ -37,29 +38,31 @@ found_more ds d f h = (
     take_front : (n : ℕ) (xs : List Datum) (d : Datum) → n ≤ length xs → take n (xs ++ d ∷ []) ≡ take n xs
     take_front n xs d le = rw take-append-le refl
 
-faulty_more : (r : Reading) (f : HistoryFault) (ds : List Datum) (d : Datum) → r.fault ≡ Some f → IsReading r ds
-    → IsReading r (ds ++ d ∷ [])
+faulty_more : (r : Reading) (f : HistoryFault) (ds : List Datum) (d : Datum) → r.fault ≡ Some f → IsHistoryReading r ds
+    → IsHistoryReading r (ds ++ d ∷ [])
 faulty_more r f ds d e h =
-    let a : IsFoundIn ds f = subst (λ (o : Option HistoryFault). IsReadOrFaulty o r.seen r.map ds r.events.items) e h in
-    subst (λ (o : Option HistoryFault). IsReadOrFaulty o r.seen r.map (ds ++ d ∷ []) r.events.items) (sym e)
+    let a : IsHistoryFaultIn ds f = subst (λ (o : Option HistoryFault). AreEventsReadOrFaulty o r.seen r.map ds
+    r.events.items) e h in
+    subst (λ (o : Option HistoryFault). AreEventsReadOrFaulty o r.seen r.map (ds ++ d ∷ []) r.events.items) (sym e)
     (found_more ds d f a)
 
-pub faulty_stays : (r : Reading) (ds : List Datum) (d : Datum) → is_some r.fault ≡ true → IsReading r ds
-    → IsReading r (ds ++ d ∷ [])
+pub faulty_stays : (r : Reading) (ds : List Datum) (d : Datum) → is_some r.fault ≡ true → IsHistoryReading r ds
+    → IsHistoryReading r (ds ++ d ∷ [])
 faulty_stays r ds d e h = by_fault r.fault refl e
   where
-    by_fault : (o : Option HistoryFault) → r.fault ≡ o → is_some o ≡ true → IsReading r (ds ++ d ∷ [])
+    by_fault : (o : Option HistoryFault) → r.fault ≡ o → is_some o ≡ true → IsHistoryReading r (ds ++ d ∷ [])
     by_fault None q k = absurd cc
     by_fault (Some f) q k = faulty_more r f ds d q h
 
-pub are_read : (r : Reading) (ds : List Datum) → r.fault ≡ None → IsReading r ds
-    → AreRead r.seen r.map ds r.events.items
-are_read r ds e h = subst (λ (o : Option HistoryFault). IsReadOrFaulty o r.seen r.map ds r.events.items) e h
+pub are_read : (r : Reading) (ds : List Datum) → r.fault ≡ None → IsHistoryReading r ds
+    → AreEventsRead r.seen r.map ds r.events.items
+are_read r ds e h = subst (λ (o : Option HistoryFault). AreEventsReadOrFaulty o r.seen r.map ds r.events.items) e h
 
 -- what is wrong with the map after those that were read
 pub found : (seen : Seen) (number : ℕ) (ds : List Datum) (d : Datum) (es : List Event) (k : HistoryFaultKind)
-    → AreRead seen number ds es
-    → (k ≢ NoMemory → HasFirst IsFault ds d k) → (k ≡ NoMemory → HasNoFault IsFault ds d) → IsFoundIn (ds ++ d ∷ [])
+    → AreEventsRead seen number ds es
+    → (k ≢ NoMemory → HasFirst IsHistoryFormFault ds d k) → (k ≡ NoMemory → HasNoFault IsHistoryFormFault ds d)
+    → IsHistoryFaultIn (ds ++ d ∷ [])
     (record { kind = k; map = number })
 found seen number ds d es k h first none = (
   λ n. (let f = first n in
@@ -77,13 +80,13 @@ found seen number ds d es k h first none = (
       let long = length-append ds (d ∷ []) in
       let count : length ds ≡ number = h.count in (
         omega (arith, long, count),
-        subst IsFaultless (sym (take_all (number + 1) (ds ++ d ∷ [])
-            (omega (arith, long, count)))) (faultless_push IsFault ds d h.faultless (none m)),
+        subst HasNoHistoryFault (sym (take_all (number + 1) (ds ++ d ∷ [])
+            (omega (arith, long, count)))) (faultless_push IsHistoryFormFault ds d h.faultless (none m)),
       )
       ),
 )
 
-pub proper_reading : (r : Reading) (ds : List Datum) → r.fault ≡ None → IsReading r ds → IsProper r.events.items
+pub proper_reading : (r : Reading) (ds : List Datum) → r.fault ≡ None → IsHistoryReading r ds → IsProper r.events.items
 proper_reading r ds e h = let a = are_read r ds e h in subst IsProper (sym a.events) (proper_events ds a.faultless)
 
 -- one form more, which says this

@@ -7,7 +7,7 @@ use Rattle.std.specs.Str.{IsUtf8, bytes_eq}
 use Rattle.std.proofs.lemmas.Slice.Eq.{bytes_eq-Decides}
 use Rattle.edn_reader.specs.Bytes.{is_name}
 use Rattle.edn_reader.specs.Datum.{Atom, nil, boolean, integer, keyword, Datum, atom, vector, dictionary, no_items}
-use Rattle.edn_reader.specs.Datum.{item, Entries, no_entries, entry, Fits, EntriesFit}
+use Rattle.edn_reader.specs.Datum.{item, Entries, no_entries, entry, DatumFits, EntriesFit}
 use Rattle.edn_reader.specs.Token.{Token, close_vector, open_map, close_map, leaf, tokens_of, entries_tokens}
 use Rattle.edn_reader.specs.Reading.{first, got}
 use Rattle.edn_reader.specs.Spells.{EndsToken}
@@ -219,8 +219,9 @@ form_with n t f d es =
 abbrev map_with : ℕ → MapType → Function → ℕ → Value → ClientMap
 map_with n t f x v = record { process = n; map_type = t; function = Some f; object = x; value = Some v }
 
-fits_with : (n : ℕ) (t : MapType) (f : Function) (d : Datum) (es : Entries) → Fits 15 d → LackEach operation_keys es
-    → EntriesFit 15 es → Fits 16 (form_with n t f d es)
+fits_with : (n : ℕ) (t : MapType) (f : Function) (d : Datum) (es : Entries) → DatumFits 15 d
+    → LackEach operation_keys es
+    → EntriesFit 15 es → DatumFits 16 (form_with n t f d es)
 fits_with n t f d es h l e = grind arith
 
 client_is : (n : ℕ) (t : MapType) (f : Function) (x : ℕ) (v : Value) (d : Datum) (es : Entries)
@@ -301,8 +302,8 @@ indexed_with i j n t f d =
     (entry (codes "process") (atom (integer (pos n)))
     (entry (codes "f") (atom (keyword (name_of f))) (entry (codes "value") d no_entries)))))
 
-indexed_fits : (i j : ℤ) (n : ℕ) (t : MapType) (f : Function) (d : Datum) → Fits 15 d
-    → Fits 16 (dictionary (indexed_with i j n t f d))
+indexed_fits : (i j : ℤ) (n : ℕ) (t : MapType) (f : Function) (d : Datum) → DatumFits 15 d
+    → DatumFits 16 (dictionary (indexed_with i j n t f d))
 indexed_fits i j n t f d h = grind arith
 
 indexed_client : (i j : ℤ) (n : ℕ) (t : MapType) (f : Function) (v : Value) (d : Datum)

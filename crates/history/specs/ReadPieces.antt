@@ -10,9 +10,9 @@ use Rattle.history.specs.declared.piece.FirstMap.{FirstMap}
 use Rattle.history.specs.declared.piece.ReadPiece.{ReadPiece}
 use Rattle.history.specs.declared.seams.Seams.{Seams}
 use Rattle.history.specs.Faults.{HasGreatObject, IsFaultlessAtAnyLength}
-use Rattle.history.specs.Denotes.{events_from}
+use Rattle.history.specs.Denotes.{events_of_forms}
 use Rattle.history.specs.Seen.{IsProcessFault, IsNoOther, IsSeenBy}
-use Rattle.history.specs.Texts.{AreRead}
+use Rattle.history.specs.Texts.{AreEventsRead}
 use Rattle.history.specs.Views.{map_type}
 
 -- ---- a piece after earlier maps
@@ -50,7 +50,7 @@ ContinuesWhereItFits read ds =
 -- are counted from the piece's first form.
 pub record IsOfForms (read : ReadPiece) (ds : List Datum) : Type 0 where
   pub count : read.maps ≡ length ds
-  pub events : read.events.items ≡ events_from 0 ds
+  pub events : read.events.items ≡ events_of_forms 0 ds
   -- each process of which something is kept has a first map, and each object is listed
   pub processes : (p : ℕ) →
       IsListed (value_of read.seen.processes p) (map (λ m. m.process) read.firsts.items) p
@@ -63,4 +63,4 @@ pub record IsOfForms (read : ReadPiece) (ds : List Datum) : Type 0 where
 
 -- What is kept of the pieces so far is what these forms say, which have no fault.
 abbrev pub AreJoined : Seams → List Datum → Type 0
-AreJoined seams ds = AreRead seams.seen seams.maps ds seams.events.items
+AreJoined seams ds = AreEventsRead seams.seen seams.maps ds seams.events.items

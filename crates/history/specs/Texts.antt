@@ -11,8 +11,8 @@ use Rattle.history.specs.declared.fault.HistoryFaultKind.TheVariants.{NoMemory}
 use Rattle.history.specs.declared.fault.TextFault.{TextFault}
 use Rattle.history.specs.declared.fault.TextFault.TheVariants.{Text, Maps}
 use Rattle.history.specs.declared.text_reader.Reading.{Reading}
-use Rattle.history.specs.Faults.{IsFaultless, IsFirstFault}
-use Rattle.history.specs.Denotes.{events_from}
+use Rattle.history.specs.Faults.{HasNoHistoryFault, IsFirstFault}
+use Rattle.history.specs.Denotes.{events_of_forms}
 use Rattle.history.specs.Seen.{IsSeen}
 
 -- Nothing is wrong with the text of a history as far as it was looked at: up to a token and with
@@ -22,35 +22,37 @@ IsHistorySound h =
     IsShort h
     × (((place : ℕ) × IsSoundAt place h)
     ⊎ ((ds : List Datum) × Spells ds h × (map : ℕ) × (map < length ds)
-    × IsFaultless (take (map + 1) ds)))
+    × HasNoHistoryFault (take (map + 1) ds)))
 
 -- The first fault of the forms; or an allocation failed for one of them, and up to it and with it
 -- there is none.
-abbrev pub IsFoundIn : List Datum → HistoryFault → Type 0
-IsFoundIn ds f =
+abbrev pub IsHistoryFaultIn : List Datum → HistoryFault → Type 0
+IsHistoryFaultIn ds f =
     (f.kind ≢ NoMemory → IsFirstFault ds f)
-    × (f.kind ≡ NoMemory → (f.map < length ds) × IsFaultless (take (f.map + 1) ds))
+    × (f.kind ≡ NoMemory → (f.map < length ds) × HasNoHistoryFault (take (f.map + 1) ds))
 
 -- The text is unreadable, or an allocation failed for a token; or it is short and spells forms in
 -- which this was found.
-abbrev pub IsTextFault : List ℕ → TextFault → Type 0
-IsTextFault text (Text e) =
+abbrev pub IsHistoryTextFault : List ℕ → TextFault → Type 0
+IsHistoryTextFault text (Text e) =
     (e.kind ≢ edn_kind.NoMemory → IsUnreadable text e)
     × (e.kind ≡ edn_kind.NoMemory → IsShort text × IsSoundAt e.place text)
-IsTextFault text (Maps f) = IsShort text × (ds : List Datum) × Spells ds text × IsFoundIn ds f
+IsHistoryTextFault text (Maps f) = IsShort text × (ds : List Datum) × Spells ds text
+    × IsHistoryFaultIn ds f
 
 -- ---- the maps so far
 
-pub record AreRead (seen : Seen) (number : ℕ) (ds : List Datum) (es : List Event) : Type 0 where
+pub record AreEventsRead (seen : Seen) (number : ℕ) (ds : List Datum) (es : List Event) :
+    Type 0 where
   pub kept : IsSeen seen ds
-  pub faultless : IsFaultless ds
-  pub events : es ≡ events_from 0 ds
+  pub faultless : HasNoHistoryFault ds
+  pub events : es ≡ events_of_forms 0 ds
   pub count : length ds ≡ number
 
 -- no fault so far, or what was found
-abbrev pub IsReadOrFaulty : Option HistoryFault → Seen → ℕ → List Datum → List Event → Type 0
-IsReadOrFaulty None seen number ds es = AreRead seen number ds es
-IsReadOrFaulty (Some f) seen number ds es = IsFoundIn ds f
+abbrev pub AreEventsReadOrFaulty : Option HistoryFault → Seen → ℕ → List Datum → List Event → Type 0
+AreEventsReadOrFaulty None seen number ds es = AreEventsRead seen number ds es
+AreEventsReadOrFaulty (Some f) seen number ds es = IsHistoryFaultIn ds f
 
-abbrev pub IsReading : Reading → List Datum → Type 0
-IsReading r ds = IsReadOrFaulty r.fault r.seen r.map ds r.events.items
+abbrev pub IsHistoryReading : Reading → List Datum → Type 0
+IsHistoryReading r ds = AreEventsReadOrFaulty r.fault r.seen r.map ds r.events.items

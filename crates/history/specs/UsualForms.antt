@@ -1,7 +1,7 @@
 -- What the usual reader finds at the front of a text.
 use Rattle.std.specs.Prelude.{◌≡◌, ℕ, List, [], ◌∷◌, ◌++◌, Some, codes}
 use Rattle.std.specs.Str.{IsUtf8}
-use Rattle.edn_reader.specs.Datum.{Atom, Datum, atom, Entries, Lacks, Fits, EntriesFit}
+use Rattle.edn_reader.specs.Datum.{Atom, Datum, atom, Entries, Lacks, DatumFits, EntriesFit}
 use Rattle.edn_reader.specs.Elements.{SpellsFront}
 use Rattle.edn_reader.specs.Sound.{BeginWith}
 use Rattle.edn_reader.specs.Token.{close_map, leaf, tokens_of, entries_tokens}
@@ -39,7 +39,7 @@ type_name Info = codes "info"
 pub record ReadsValue (text : List ℕ) (value : Value) (rest : List ℕ) : Type 0 where
   pub form : Datum
   pub plain : plain_value form ≡ Some value
-  pub fits : Fits 15 form
+  pub fits : DatumFits 15 form
   pub begins : BeginWith (tokens_of form) text rest
 
 -- none of these keys is among the pairs

@@ -4,8 +4,8 @@ ghost use Rattle.std.specs.Prelude.{◌≡◌, ◌≢◌, ◌<◌, ◌++◌, ◌
 ghost use Rattle.std.specs.Prelude.{option_to_list};
 ghost use Rattle.edn_reader.specs.Datum.{Datum};
 ghost use Rattle.edn_fields.specs.FirstFaults.{IsFirstFaultBy};
-ghost use Rattle.history.specs.Denotes.{events_from};
-ghost use Rattle.history.specs.Faults.{IsMapFault, IsFaultlessAtAnyLength, number_of};
+ghost use Rattle.history.specs.Denotes.{events_of_forms};
+ghost use Rattle.history.specs.Faults.{IsMapFault, IsFaultlessAtAnyLength, history_fault_number};
 ghost use Rattle.history.specs.LongReading.{AreReadAtAnyLength, IsOfPlace};
 ghost use Rattle.history.specs.Views.{Says};
 
@@ -44,12 +44,12 @@ impl LongReader {
             AreReadAtAnyLength self.old ds → AreReadAtAnyLength self.new (ds ++ d ∷ [])) }
         ensures event { IfOk result (λ e. (ds : List Datum) (d : Datum) → Says said d →
             AreReadAtAnyLength self.old ds →
-            events_from 0 (ds ++ d ∷ []) ≡ events_from 0 ds ++ option_to_list e) }
+            events_of_forms 0 (ds ++ d ∷ []) ≡ events_of_forms 0 ds ++ option_to_list e) }
         // The first fault of the maps so far with this one.
         ensures fault { IfErr result (λ f. f.kind ≢ HistoryFaultKind.TooMany →
             f.kind ≢ HistoryFaultKind.NoMemory → (ds : List Datum) (d : Datum) → Says said d →
             AreReadAtAnyLength self.old ds →
-            IsFirstFaultBy IsMapFault number_of (ds ++ d ∷ []) f.map f.kind) }
+            IsFirstFaultBy IsMapFault history_fault_number (ds ++ d ∷ []) f.map f.kind) }
         ensures too_many { IfErr result (λ f. f.kind ≡ HistoryFaultKind.TooMany →
             (ds : List Datum) (d : Datum) → Says said d → AreReadAtAnyLength self.old ds →
             length ds ≡ 4294967295) }

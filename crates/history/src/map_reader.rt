@@ -25,12 +25,12 @@ pub(crate) struct MapReader<'a> {
 }
 
 impl<'a> MapReader<'a> {
-    ghost use Rattle.history.specs.MapReading.{left_in, start_in, ReadsNext};
+    ghost use Rattle.history.specs.MapReading.{left_in, start_of_map, ReadsNext};
 
     /// A text that is too long is not looked at; then comes whether it is UTF-8 as a whole. No
     /// memory is taken.
     pub fn new(alloc: Global, text: &'a [u8]) -> Result<MapReader<'a>, EdnFault>
-        ensures text { IfOk result (λ r. (left_in r ≡ text.entry.now) × (start_in r ≡ 0)) }
+        ensures text { IfOk result (λ r. (left_in r ≡ text.entry.now) × (start_of_map r ≡ 0)) }
         ensures short { IfOk result (λ r. IsShort text.entry.now × IsUtf8 text.entry.now) }
         ensures unreadable { IfErr result (IsUnreadable text.entry.now) }
     {
@@ -56,8 +56,8 @@ impl<'a> MapReader<'a> {
     #[inline(always)]
     pub fn advance(&mut self) -> Result<Option<OperationMap>, EdnFault>
         ensures reads { IfOk result (λ r. ReadsNext (left_in self.old) r (left_in self.new)) }
-        ensures moves { start_in self.new + length (left_in self.new)
-            ≡ start_in self.old + length (left_in self.old) }
+        ensures moves { start_of_map self.new + length (left_in self.new)
+            ≡ start_of_map self.old + length (left_in self.old) }
         ensures shorter { IfOk result (λ r. IsSome r →
             length (left_in self.new) < length (left_in self.old)) }
         ensures same { IfErr result (λ _. left_in self.new ≡ left_in self.old) }
@@ -65,7 +65,7 @@ impl<'a> MapReader<'a> {
             → (ds : List Datum) → Spells ds (left_in self.old) → ⊥) }
         // An allocation failed, and nothing was wrong yet.
         ensures memory { IfErr result (λ e. e.kind ≡ FaultKind.NoMemory
-            → IsSoundFrom (start_in self.old) e.place (left_in self.old)) }
+            → IsSoundFrom (start_of_map self.old) e.place (left_in self.old)) }
         ensures short { IfErr result (λ e. e.kind ≢ FaultKind.TooLong) }
     {
         let is_tried = self.attempts.is_due();

@@ -7,7 +7,7 @@ ghost use Rattle.edn_reader.specs.Sound.{IsShort};
 ghost use Rattle.edn_reader.specs.Spells.{Spells};
 ghost use Rattle.events.specs.declared.event.Event.{Event};
 ghost use Rattle.history.specs.Denotes.{Denotes};
-ghost use Rattle.history.specs.Texts.{IsFoundIn, IsTextFault};
+ghost use Rattle.history.specs.Texts.{IsHistoryFaultIn, IsHistoryTextFault};
 ghost use Rattle.history.specs.Views.{Says};
 
 use crate::client_map::OperationMap;
@@ -28,10 +28,10 @@ struct Reading {
 
 impl Reading {
     ghost use Rattle.std.specs.Prelude.{None};
-    ghost use Rattle.history.specs.Texts.{IsReading};
+    ghost use Rattle.history.specs.Texts.{IsHistoryReading};
 
     fn new(alloc: Global) -> Reading
-        ensures { IsReading result [] }
+        ensures { IsHistoryReading result [] }
     {
         Reading {
             seen: Seen::new(alloc),
@@ -45,7 +45,7 @@ impl Reading {
     fn take_said(&mut self, said: OperationMap)
         requires { self.old.fault ≡ None }
         ensures { (ds : List Datum) (d : Datum) → Says said d
-            → IsReading self.old ds → IsReading self.new (ds ++ d ∷ []) }
+            → IsHistoryReading self.old ds → IsHistoryReading self.new (ds ++ d ∷ []) }
     {
         let map = self.map;
         match read_next(&mut self.seen, &mut self.events, map, said) {
@@ -57,7 +57,7 @@ impl Reading {
     /// Reads one more map from what it says, unless an earlier one is faulty.
     fn take(&mut self, said: OperationMap)
         ensures { (ds : List Datum) (d : Datum) → Says said d
-            → IsReading self.old ds → IsReading self.new (ds ++ d ∷ []) }
+            → IsHistoryReading self.old ds → IsHistoryReading self.new (ds ++ d ∷ []) }
     {
         if self.fault.is_none() {
             self.take_said(said);
@@ -66,9 +66,9 @@ impl Reading {
 
     /// The history, or what is wrong with a map.
     fn finish(self) -> Result<History, HistoryFault>
-        requires { (ds : List Datum) × IsReading self ds }
-        ensures { (ds : List Datum) → IsReading self ds →
-            MatchResult result (λ h. Denotes ds h) (IsFoundIn ds) }
+        requires { (ds : List Datum) × IsHistoryReading self ds }
+        ensures { (ds : List Datum) → IsHistoryReading self ds →
+            MatchResult result (λ h. Denotes ds h) (IsHistoryFaultIn ds) }
     {
         let Reading {
             seen: _,
@@ -91,7 +91,7 @@ impl Reading {
 pub fn read_history_text(alloc: Global, text: &[u8]) -> Result<History, TextFault>
     ensures denotes { IfOk result (λ h. (ds : List Datum) × Spells ds text.now × Denotes ds h) }
     ensures short { OnOk result (IsShort text.now) }
-    ensures fault { IfErr result (IsTextFault text.now) }
+    ensures fault { IfErr result (IsHistoryTextFault text.now) }
 {
     let mut maps = match MapReader::new(alloc, text) {
         Ok(maps) => maps,

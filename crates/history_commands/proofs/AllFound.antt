@@ -5,7 +5,7 @@ use Rattle.std.specs.List.{list_all, cons_option, filter_map}
 use Rattle.std.proofs.lemmas.List.{append-nil}
 use Rattle.model.proofs.Lists.{In, all_from_in}
 use Rattle.certificate.specs.declared.Certificate.{Certificate}
-use Rattle.certificate.specs.Lines.{line_of, lines_of}
+use Rattle.certificate.specs.Lines.{certificate_line, certificate_lines}
 use Rattle.history_commands.specs.Outputs.{status_by}
 use Rattle.history_commands.specs.declared.status.Status.TheVariants as status_is
 
@@ -19,18 +19,19 @@ no_of b c e = grind arith
 
 -- ---- all found
 
-pub both : (a b : Bool) → (a && b) ≡ true → (a ≡ true) × (b ≡ true)
-both a b e = grind arith
+pub both_true : (a b : Bool) → (a && b) ≡ true → (a ≡ true) × (b ≡ true)
+both_true a b e = grind arith
 
 -- answers with or without a certificate, and the text that their lines make up
 module _ {A : Type 0} (is_found : A → Bool) (certificate : A → Option Certificate) (line : A → List ℕ)
     (text : List A → List ℕ)
-    (found : (a : A) → is_found a ≡ true → (c : Certificate) × (certificate a ≡ Some c) × (line a ≡ lines_of (c ∷ [])))
+    (found : (a : A) → is_found a ≡ true → (c : Certificate) × (certificate a ≡ Some c)
+    × (line a ≡ certificate_lines (c ∷ [])))
     (nothing : text [] ≡ []) (more : (a : A) (rest : List A) → text (a ∷ rest) ≡ line a ++ text rest) where
   each_in : (answers : List A) → list_all is_found answers ≡ true → (a : A) → In a answers → IsSome (certificate a)
   each_in [] e a i = absurd i
   each_in (b ∷ rest) e a i =
-      let parts = both (is_found b) (list_all is_found rest) e in
+      let parts = both_true (is_found b) (list_all is_found rest) e in
       elim i [
         | inl s ↦ subst (λ (x : A). IsSome (certificate x)) (sym s) (subst IsSome (sym (found b parts.0).1) refl)
         | inr j ↦ each_in rest parts.1 a j
@@ -40,11 +41,11 @@ module _ {A : Type 0} (is_found : A → Bool) (certificate : A → Option Certif
   each_found answers e = all_from_in (λ (a : A). IsSome (certificate a)) answers (each_in answers e)
 
   pub found_text : (answers : List A) → list_all is_found answers ≡ true
-      → text answers ≡ lines_of (filter_map certificate answers)
+      → text answers ≡ certificate_lines (filter_map certificate answers)
   found_text [] e = nothing
   found_text (a ∷ rest) e =
-      let parts = both (is_found a) (list_all is_found rest) e in
+      let parts = both_true (is_found a) (list_all is_found rest) e in
       let one = found a parts.0 in
-      more a rest ∙ ap (λ x. x ++ text rest) (one.2 ∙ append-nil (line_of one.0))
-      ∙ ap (λ x. line_of one.0 ++ x) (found_text rest parts.1)
-      ∙ ap (λ (o : Option Certificate). lines_of (cons_option o (filter_map certificate rest))) (sym one.1)
+      more a rest ∙ ap (λ x. x ++ text rest) (one.2 ∙ append-nil (certificate_line one.0))
+      ∙ ap (λ x. certificate_line one.0 ++ x) (found_text rest parts.1)
+      ∙ ap (λ (o : Option Certificate). certificate_lines (cons_option o (filter_map certificate rest))) (sym one.1)

@@ -4,7 +4,7 @@ use Rattle.checker.specs.declared.refusal.Refusal.{Refusal}
 use Rattle.report.specs.declared.verdict.Verdict.{Verdict}
 use Rattle.report.specs.declared.verdict.Verdict.TheVariants.{Yes, No}
 use Rattle.judging.specs.Texts.{IsLinearizableText}
-use Rattle.judging.specs.Verdicts.{Holds, OnYes}
+use Rattle.judging.specs.Verdicts.{IsJudgement, OnYes}
 use Rattle.history_commands.specs.Checked.{IsCheck}
 use Rattle.history_commands.specs.Outputs.{IsVerdictOutput, status_of}
 use Rattle.history_commands.specs.declared.status.Status.{Status}
@@ -18,7 +18,7 @@ yes_shows P (Yes s) p e = p
 yes_shows P (No r) p e = absurd (refusal_is_no_yes r e)
 yes_shows P v p e = absurd cc
 
-pub is_check : (h c : List ℕ) (status : Status) (out : List ℕ) → IsVerdictOutput (Holds h c) status out
+pub is_check : (h c : List ℕ) (status : Status) (out : List ℕ) → IsVerdictOutput (IsJudgement h c) status out
     → IsCheck h c status out
 is_check h c status out k =
     record { output = k; linearizable = λ e. yes_shows (IsLinearizableText h) k.0 k.1.linearizable (sym k.2 ∙ e) }

@@ -1,5 +1,5 @@
 pub mod CommentLines
-pub mod Stopping
+pub mod UnreadTexts
 pub mod AllFound
 pub mod Answering
 pub mod Refuted

@@ -10,7 +10,7 @@ use Rattle.history_commands.specs.Outputs.{status_of}
 use Rattle.history_commands.specs.declared.status.Status.TheVariants as status_is
 use Rattle.history_commands.specs.declared.status.Status.{Status}
 use Rattle.history_commands.specs.Refuted.{IsRefute, IsRefuteOutput}
-use Rattle.history_commands.specs.Searches.{IsSearch, IsSearchOutput, IsHistoryUnread}
+use Rattle.history_commands.specs.Searches.{IsSearchResult, IsSearchOutput, IsHistoryUnread}
 
 -- ---- a search
 
@@ -23,7 +23,7 @@ unsearched_no_no h v u e = grind arith
 pub is_search : ((text : List ℕ) (es : List Event) (cs : List Certificate) → DenotesHistory text es → AreValid es cs
     → IsLinearizableText text)
     → (h : List ℕ) (limit : ℕ) (status : Status) (out : List ℕ) → IsSearchOutput h limit status out
-    → IsSearch h limit status out
+    → IsSearchResult h limit status out
 is_search suffices h limit status out (inl m) = record {
   output = inl m;
   certified = λ e. let k = m.3.certified e in

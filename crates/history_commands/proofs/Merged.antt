@@ -9,7 +9,7 @@ use Rattle.std.proofs.lemmas.List.Sorted.{Contains-permutation}
 use Rattle.model.specs.Orders.{calls_on}
 use Rattle.model.proofs.Lists.{In, all_at, all_from_in, contains_from_in, in_from_contains, in_left, in_right}
 use Rattle.events.specs.declared.event.Event.{Event}
-use Rattle.events.specs.Events.{kind_at, denoted}
+use Rattle.events.specs.Events.{kind_of_object, denoted}
 use Rattle.checker.specs.Refusals.{AreValid}
 use Rattle.judging.specs.Texts.{IsLinearizableText, IsNotLinearizableText}
 use Rattle.shards.specs.Dividing.{with_numbers}
@@ -19,7 +19,8 @@ use Rattle.verifying.specs.declared.claim.Claim.{Claim}
 use Rattle.verifying.specs.declared.decision.Decision.{Decision}
 use Rattle.verifying.specs.declared.decision.Decision.TheVariants.{Order, Impossible, OutOfSteps, NoMemory, Open}
 use Rattle.verifying.specs.declared.decision.ShownReason.{ShownReason}
-use Rattle.verifying.specs.Decisions.{AreDecisionsOn, IsDecisionOn, IsShownReason, certificate_in, certificates_in}
+use Rattle.verifying.specs.Decisions.{AreDecisionsOn, IsDecisionOn, IsShownReason, certificate_decided}
+use Rattle.verifying.specs.Decisions.{certificates_decided}
 use Rattle.verifying.specs.Decisions.{is_impossible, is_order}
 use Rattle.history_commands.specs.Merged.{Answer, AnswersClaims, AnswersShard, AreInOrder, AreLinesWith, AreMerged}
 use Rattle.history_commands.specs.Merged.{IsExplainedShard, IsMerge, IsMergeOutput, Shard, finding_on, lines_by}
@@ -31,7 +32,7 @@ use Rattle.history_commands.specs.declared.finding.Finding.TheVariants.{Certifie
 use Rattle.history_commands.specs.declared.merging.Merging.{Merging}
 use Rattle.history_commands.specs.declared.status.Status.{Status}
 use Rattle.history_commands.specs.declared.status.Status.TheVariants as ends
-use Rattle.history_commands.proofs.AllFound.{both}
+use Rattle.history_commands.proofs.AllFound.{both_true}
 use Rattle.history_commands.proofs.Findings.{all_certified, no_refuted, own_finding, some_refuted, worst_push}
 use Rattle.history_commands.proofs.Findings.{yes_certified}
 
@@ -83,21 +84,21 @@ all_orders ds e = go (list_any (λ d. is_impossible d.1) ds) (list_all (λ d. is
     go false true q = refl
     go false false q = absurd cc
 
-order_certificate : (d : Decision) → is_order d ≡ true → IsSome (certificate_in d)
+order_certificate : (d : Decision) → is_order d ≡ true → IsSome (certificate_decided d)
 order_certificate d e = grind arith
 
 certificates : (ds : List (ℕ × Decision)) → list_all (λ d. is_order d.1) ds ≡ true → (d : ℕ × Decision) → In d ds
-    → IsSome (certificate_in d.1)
+    → IsSome (certificate_decided d.1)
 certificates [] e d i = absurd i
 certificates (b ∷ ds) e d i =
-    let parts = both (is_order b.1) (list_all (λ c. is_order c.1) ds) e in
+    let parts = both_true (is_order b.1) (list_all (λ c. is_order c.1) ds) e in
     elim i [
-      | inl q ↦ subst (λ (x : ℕ × Decision). IsSome (certificate_in x.1)) (sym q) (order_certificate b.1 parts.0)
+      | inl q ↦ subst (λ (x : ℕ × Decision). IsSome (certificate_decided x.1)) (sym q) (order_certificate b.1 parts.0)
       | inr j ↦ certificates ds parts.1 d j
     ]
 
 pub answers_claims : (name : ℕ → ℕ) (es : List Event) (claims : List Claim) (limit : ℕ) (ds : List (ℕ × Decision))
-    (a : Answer) → AreDecisionsOn es claims limit ds → (AreValid es (certificates_in ds) → DenoteLinearizable es)
+    (a : Answer) → AreDecisionsOn es claims limit ds → (AreValid es (certificates_decided ds) → DenoteLinearizable es)
     → a.finding ≡ finding_on ds → a.note ≡ [] → a.lines ≡ flat_map (λ d. lines_by es (name d.0) d.1) ds
     → a.counts ≡ counted es → AnswersClaims name es claims limit a
 answers_claims name es claims limit ds a decided suffices finding note lines counts = record {
@@ -107,7 +108,7 @@ answers_claims name es claims limit ds a decided suffices finding note lines cou
   note_is = note;
   lines_are = lines;
   counts_are = counts;
-  certified = λ e. suffices (decided.valid (all_from_in (λ (d : ℕ × Decision). IsSome (certificate_in d.1)) ds
+  certified = λ e. suffices (decided.valid (all_from_in (λ (d : ℕ × Decision). IsSome (certificate_decided d.1)) ds
       (certificates ds (all_orders ds (sym finding ∙ e)))));
   refuted = λ e. decided.impossible (Any-from_list_any (λ (d : ℕ × Decision). is_impossible d.1) ds
       (some_impossible ds (sym finding ∙ e)));
@@ -153,7 +154,7 @@ record ShowsNo (s : Shard) (lines : List (ℕ × List ℕ)) : Type 0 where
 record IsImpossibleIn (name : ℕ → ℕ) (es : List Event) (lines : List (ℕ × List ℕ)) : Type 0 where
   object : ℕ
   refuted : ShownReason
-  holds : IsShownReason object (kind_at es object) (calls_on object (denoted es)) refuted
+  holds : IsShownReason object (kind_of_object es object) (calls_on object (denoted es)) refuted
   stands : In (name object, impossible_lines es (name object) (shown_on (name object) refuted)) lines
 
 impossible_in : (name : ℕ → ℕ) (es : List Event) (claims : List Claim) (limit : ℕ) (ds : List (ℕ × Decision))

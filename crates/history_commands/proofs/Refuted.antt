@@ -8,12 +8,12 @@ use Rattle.model.specs.Linearizable.{IsLinearizable}
 use Rattle.model.specs.Orders.{calls_on, events}
 use Rattle.model.proofs.Lists.{all_at, contains_from_in, in_from_contains, in_map}
 use Rattle.events.specs.declared.event.Event.{Event}
-use Rattle.events.specs.Events.{IsNamed, kind_at, denoted}
+use Rattle.events.specs.Events.{IsNamed, kind_of_object, denoted}
 use Rattle.events.specs.Operations.{ObjectCalls, calls_of}
 use Rattle.refutation.specs.declared.reason.Reason.{Reason}
-use Rattle.refutation.specs.declared.refuting.Refutation.{Refutation}
-use Rattle.refutation.specs.declared.refuting.Refutation.TheVariants.{Impossible, NotShown, NoPart, OtherObject}
-use Rattle.refutation.specs.Refutations.{IsAnswer, is_impossible}
+use Rattle.refutation.specs.declared.refuting.ReasonAnswer.{ReasonAnswer}
+use Rattle.refutation.specs.declared.refuting.ReasonAnswer.TheVariants.{Impossible, NotShown, NoPart, OtherObject}
+use Rattle.refutation.specs.Refutations.{IsReasonAnswer, shows_impossible}
 use Rattle.history_commands.specs.Refuted.{refutation_lines, refutations_text, refute_status, AreAnswered}
 use Rattle.history_commands.proofs.AllFound.{no_of}
 
@@ -39,8 +39,8 @@ counted es objects x n calls some =
     some.4.1 ∙ ap length cs ∙ ap (λ y. length (calls_on y (denoted es))) some.4.0
 
 -- how many calls the object has is said only where no order is valid
-pub same_lines : (es : List Event) (n whole limit : ℕ) (reason : Reason) (answer : Refutation)
-    → (is_impossible answer ≡ true → n ≡ whole)
+pub same_lines : (es : List Event) (n whole limit : ℕ) (reason : Reason) (answer : ReasonAnswer)
+    → (shows_impossible answer ≡ true → n ≡ whole)
     → refutation_lines es n limit reason answer ≡ refutation_lines es whole limit reason answer
 same_lines es n whole limit reason (Impossible part) e =
     ap (λ m. refutation_lines es m limit reason (Impossible part)) (e refl)
@@ -49,19 +49,20 @@ same_lines es n whole limit reason NoPart e = refl
 same_lines es n whole limit reason OtherObject e = refl
 
 -- the object of a reason that shows that no order is valid is named
-pub named_by : (es : List Event) (reason : Reason) (answer : Refutation) → IsAnswer es reason answer
-    → is_impossible answer ≡ true → IsNamed es reason.object
+pub named_by : (es : List Event) (reason : Reason) (answer : ReasonAnswer) → IsReasonAnswer es reason answer
+    → shows_impossible answer ≡ true → IsNamed es reason.object
 named_by es reason (Impossible part) a e = a.own_object (λ q. absurd cc)
 named_by es reason answer a e = absurd cc
 
-pub answered : (es : List Event) (reasons : List Reason) (limit : ℕ) (answers : List Refutation)
-    → AllZip (IsAnswer es) reasons answers
-    → (Any (λ r. is_impossible r ≡ true) answers → IsLinearizable (kind_at es) (events (denoted es)) → ⊥)
+pub answered : (es : List Event) (reasons : List Reason) (limit : ℕ) (answers : List ReasonAnswer)
+    → AllZip (IsReasonAnswer es) reasons answers
+    → (Any (λ r. shows_impossible r ≡ true) answers → IsLinearizable (kind_of_object es) (events (denoted es)) → ⊥)
     → AreAnswered es reasons limit (refute_status answers) (refutations_text es limit reasons answers)
 answered es reasons limit answers each impossible = record {
   answers = answers;
   each = each;
   status_is = refl;
   text_is = refl;
-  refuted = λ e. impossible (Any-from_list_any is_impossible answers (no_of (list_any is_impossible answers) false e));
+  refuted = λ e. impossible (Any-from_list_any shows_impossible answers
+      (no_of (list_any shows_impossible answers) false e));
 }

@@ -9,12 +9,12 @@ use Rattle.model.specs.Linearizable.{IsLinearizable}
 use Rattle.model.specs.Orders.{events}
 use Rattle.model.proofs.Lists.{In, all_at}
 use Rattle.events.specs.declared.event.Event.{Event}
-use Rattle.events.specs.Events.{kind_at, denoted}
+use Rattle.events.specs.Events.{kind_of_object, denoted}
 use Rattle.checker.specs.Refusals.{AreValid}
 use Rattle.verifying.specs.declared.claim.Claim.{Claim}
 use Rattle.verifying.specs.declared.decision.Decision.{Decision}
 use Rattle.verifying.specs.declared.decision.Decision.TheVariants.{Order, Impossible, OutOfSteps, NoMemory, Open}
-use Rattle.verifying.specs.Decisions.{AreDecisionsOn, IsDecisionOn, certificates_in, is_impossible, is_order}
+use Rattle.verifying.specs.Decisions.{AreDecisionsOn, IsDecisionOn, certificates_decided, is_impossible, is_order}
 use Rattle.report.specs.declared.verdict.Verdict.{Verdict}
 use Rattle.report.specs.declared.verdict.Verdict.TheVariants as verdict
 use Rattle.judging.specs.Texts.{DenotesHistory, IsLinearizableText}
@@ -22,7 +22,8 @@ use Rattle.report.specs.Verdicts.{IsVerdictOnCheck}
 use Rattle.std.specs.Prelude.{Ok}
 use Rattle.edn_reader.specs.Sound.{IsShort}
 use Rattle.history_commands.specs.Searches.{IsHistoryUnread}
-use Rattle.history_commands.specs.Verified.{decision_lines, impossible_lines, verified_status, AreJudged, AreOpen}
+use Rattle.history_commands.specs.Verified.{decision_lines, impossible_lines, verified_status, IsVerifiedOutput}
+use Rattle.history_commands.specs.Verified.{LacksSomeOrder}
 use Rattle.history_commands.specs.Verified.{DenotesClaims, IsEvidenceFault, IsExplained, IsVerdictBy, IsVerdictText}
 use Rattle.history_commands.specs.Verified.{IsVerification, IsVerificationOutput}
 use Rattle.history_commands.specs.Outputs.{lines_on, status_of}
@@ -81,7 +82,7 @@ pub are_open : (es : List Event) (claims : List Claim) (limit : ℕ) (status : S
     → AreDecisionsOn es claims limit answers
     → list_all (λ a. is_order a.1) answers ≡ false → status ≡ verified_status answers
     → text ≡ lines_on (decision_lines es) answers
-    → AreOpen es claims limit status text
+    → LacksSomeOrder es claims limit status text
 are_open es claims limit status text answers decided some s t = record {
   answers = answers;
   decided = decided;
@@ -101,8 +102,8 @@ are_open es claims limit status text answers decided some s t = record {
 -- the verdict on certificates that are valid
 pub on_valid : (es : List Event) (claims : List Claim) (limit : ℕ) (answers : List (ℕ × Decision))
     → AreDecisionsOn es claims limit answers
-    → list_all (λ a. is_order a.1) answers ≡ true → AreValid es (certificates_in answers)
-    → IsLinearizable (kind_at es) (events (denoted es))
+    → list_all (λ a. is_order a.1) answers ≡ true → AreValid es (certificates_decided answers)
+    → IsLinearizable (kind_of_object es) (events (denoted es))
     → (v : Verdict) → IsVerdictOnCheck es (Ok tt) v → IsVerdictBy es claims limit v
 on_valid es claims limit answers decided all valid linearizable (verdict.Yes s) counts =
     record {
@@ -122,7 +123,7 @@ on_valid es claims limit answers decided all valid linearizable verdict.NoMemory
 -- what is put out of a history that was read
 pub on_text : (h e : List ℕ) (limit : ℕ) (es : List Event) (status : Status) (text : List ℕ) → IsShort h
     → DenotesHistory h es
-    → ((claims : List Claim) × DenotesClaims e claims × AreJudged es claims limit status text)
+    → ((claims : List Claim) × DenotesClaims e claims × IsVerifiedOutput es claims limit status text)
     ⊎ IsEvidenceFault e status text
     → IsVerificationOutput h e limit status text
 on_text h e limit es status text short denotes (inl (claims, claimed, inl k)) =

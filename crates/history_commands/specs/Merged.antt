@@ -5,7 +5,7 @@ use Rattle.std.specs.List.{AllZip, flat_map, list_all, list_any}
 use Rattle.std.specs.List.Sorted.{IsNonDecreasingBy, IsPermutation}
 use Rattle.edn_reader.specs.declared.fault.FaultKind.TheVariants.{TooLong}
 use Rattle.events.specs.declared.event.Event.{Event}
-use Rattle.events.specs.Events.{kind_at, denoted}
+use Rattle.events.specs.Events.{kind_of_object, denoted}
 use Rattle.history.specs.declared.fault.HistoryFaultKind.TheVariants.{TooMany}
 use Rattle.judging.specs.declared.texts.TextFailure.TheVariants.{Faulty}
 use Rattle.judging.specs.Texts.{DenotesHistory, IsHistoryFault, IsLinearizableText}
@@ -27,10 +27,10 @@ use Rattle.verifying.specs.declared.decision.Decision.TheVariants.{NoMemory, Ope
 use Rattle.verifying.specs.declared.decision.ShownReason.{ShownReason}
 use Rattle.verifying.specs.declared.fault.ClaimTextFault.{ClaimTextFault}
 use Rattle.verifying.specs.Decisions.{AreDecisionsOn, IsShownReason, is_impossible, is_order}
-use Rattle.verifying.specs.Texts.{IsTextFault}
+use Rattle.verifying.specs.Texts.{IsClaimTextFault}
 use Rattle.history_commands.specs.ShardCounts.{AreAdded, AreSums, Counted, counted}
 use Rattle.history_commands.specs.ShardCounts.{nothing_counted, seen_counts}
-use Rattle.history_commands.specs.Verified.{DenotesClaims, IsOfText, decision_lines}
+use Rattle.history_commands.specs.Verified.{DenotesClaims, IsOfClaimText, decision_lines}
 use Rattle.history_commands.specs.Verified.{evidence_fault_line, impossible_lines}
 use Rattle.history_commands.specs.declared.finding.Finding.{Finding}
 use Rattle.history_commands.specs.declared.finding.Finding.TheVariants.{Certified, Undecided}
@@ -61,14 +61,14 @@ pub record Answer : Type 0 where
 
 -- ---- the order of findings
 
-abbrev pub rank_of : Finding → ℕ
-rank_of Certified = 0
-rank_of Undecided = 1
-rank_of Refuted = 2
-rank_of Malformed = 3
+abbrev pub finding_rank : Finding → ℕ
+finding_rank Certified = 0
+finding_rank Undecided = 1
+finding_rank Refuted = 2
+finding_rank Malformed = 3
 
 abbrev pub worse : Finding → Finding → Finding
-worse f g = if nat_lt (rank_of f) (rank_of g) then g else f
+worse f g = if nat_lt (finding_rank f) (finding_rank g) then g else f
 
 -- the worst of these: malformed before refuted, before undecided, before certified
 abbrev pub worst : List Finding → Finding
@@ -140,8 +140,8 @@ pub record AnswersClaims (whole_name : ℕ → ℕ) (es : List Event) (claims : 
   pub note_is : a.note ≡ []
   pub lines_are : a.lines ≡ flat_map (λ d. lines_by es (whole_name d.0) d.1) decisions
   pub counts_are : a.counts ≡ counted es
-  pub certified : a.finding ≡ Certified → IsLinearizable (kind_at es) (events (denoted es))
-  pub refuted : a.finding ≡ Refuted → IsLinearizable (kind_at es) (events (denoted es)) → ⊥
+  pub certified : a.finding ≡ Certified → IsLinearizable (kind_of_object es) (events (denoted es))
+  pub refuted : a.finding ≡ Refuted → IsLinearizable (kind_of_object es) (events (denoted es)) → ⊥
 
 -- The answer by evidence on the history that events denote: the evidence denotes claims, or it is
 -- malformed, and a line on the shard says so.
@@ -149,7 +149,7 @@ abbrev pub AnswersEvidence : ℕ → (ℕ → ℕ) → List Event → List ℕ �
 AnswersEvidence number whole_name es evidence limit a =
     ((claims : List Claim) × DenotesClaims evidence claims
     × AnswersClaims whole_name es claims limit a)
-    ⊎ ((f : ClaimTextFault) × IsTextFault evidence f × IsOfText f
+    ⊎ ((f : ClaimTextFault) × IsClaimTextFault evidence f × IsOfClaimText f
     × IsNoted number Undecided (evidence_fault_line f) a)
 
 -- The answer for the events of a shard, whose table gives them the numbers of the whole, or does
@@ -178,8 +178,8 @@ AnswersShard s a =
 abbrev pub seen_lines : List ObjectLines → List (ℕ × List ℕ)
 seen_lines lines = map (λ l. (l.object, l.text.items)) lines
 
-abbrev pub seen : ShardAnswer → Answer
-seen a =
+abbrev pub answer_seen : ShardAnswer → Answer
+answer_seen a =
     record {
       finding = a.finding;
       note = a.note.items;
@@ -226,7 +226,7 @@ pub record IsMergeOutput (shards : List Shard) (status : Status) (out : List ℕ
 pub record IsExplainedBy (whole_name : ℕ → ℕ) (es : List Event) (text : List ℕ) : Type 0 where
   pub object : ℕ
   pub refuted : ShownReason
-  pub holds : IsShownReason object (kind_at es object) (calls_on object (denoted es)) refuted
+  pub holds : IsShownReason object (kind_of_object es object) (calls_on object (denoted es)) refuted
   pub before : List ℕ
   pub after : List ℕ
   pub lines : text ≡ before

@@ -12,15 +12,15 @@ use Rattle.history_commands.specs.declared.status.Status.TheVariants.{Undecided,
 use Rattle.history_commands.specs.declared.status.Status.TheVariants.{NoThread, Failed, Usage}
 
 -- the exit status
-abbrev pub number_of : Status → ℕ
-number_of Yes = 0
-number_of No = 1
-number_of Malformed = 2
-number_of Undecided = 3
-number_of OutOfMemory = 3
-number_of NoThread = 3
-number_of Failed = 4
-number_of Usage = 64
+abbrev pub status_number : Status → ℕ
+status_number Yes = 0
+status_number No = 1
+status_number Malformed = 2
+status_number Undecided = 3
+status_number OutOfMemory = 3
+status_number NoThread = 3
+status_number Failed = 4
+status_number Usage = 64
 
 -- How a command ends with a verdict. `judge` never answers a No with the refusal `NoMemory`, but
 -- the verdict `NoMemory`.

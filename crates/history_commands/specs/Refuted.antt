@@ -9,20 +9,20 @@ use Rattle.edn_reader.specs.declared.fault.FaultKind.TheVariants as edn_kind
 use Rattle.model.specs.Linearizable.{IsLinearizable}
 use Rattle.model.specs.Orders.{calls_on, events}
 use Rattle.events.specs.declared.event.Event.{Event}
-use Rattle.events.specs.Events.{kind_at, denoted}
+use Rattle.events.specs.Events.{kind_of_object, denoted}
 use Rattle.events.specs.Operations.{ObjectCalls, calls_of}
 use Rattle.refutation.specs.declared.reason.Reason.{Reason}
-use Rattle.refutation.specs.declared.refuting.Doubt.{Doubt}
-use Rattle.refutation.specs.declared.refuting.Doubt.TheVariants.{Possible, NotExceeded, OutOfSteps}
-use Rattle.refutation.specs.declared.refuting.Doubt.TheVariants as doubt
-use Rattle.refutation.specs.declared.refuting.Refutation.{Refutation}
-use Rattle.refutation.specs.declared.refuting.Refutation.TheVariants.{Impossible, NotShown, NoPart}
-use Rattle.refutation.specs.declared.refuting.Refutation.TheVariants.{OtherObject}
-use Rattle.refutation.specs.Refutations.{IsAnswer, is_impossible, steps_of}
+use Rattle.refutation.specs.declared.refuting.WhyNotShown.{WhyNotShown}
+use Rattle.refutation.specs.declared.refuting.WhyNotShown.TheVariants.{Possible, NotExceeded, OutOfSteps}
+use Rattle.refutation.specs.declared.refuting.WhyNotShown.TheVariants as why_not
+use Rattle.refutation.specs.declared.refuting.ReasonAnswer.{ReasonAnswer}
+use Rattle.refutation.specs.declared.refuting.ReasonAnswer.TheVariants.{Impossible, NotShown, NoPart}
+use Rattle.refutation.specs.declared.refuting.ReasonAnswer.TheVariants.{OtherObject}
+use Rattle.refutation.specs.Refutations.{IsReasonAnswer, shows_impossible, steps_of}
 use Rattle.reason_report.specs.Operations.{operations_text}
 use Rattle.refutation.specs.Denotes.{Denotes}
-use Rattle.refutation.specs.Faults.{number_of}
-use Rattle.refutation.specs.Texts.{IsTextFault}
+use Rattle.refutation.specs.Faults.{reason_fault_number}
+use Rattle.refutation.specs.Texts.{IsReasonTextFault}
 use Rattle.refutation.specs.declared.fault.ReasonFaultKind.TheVariants as form_kind
 use Rattle.refutation.specs.declared.fault.ReasonTextFault.{ReasonTextFault}
 use Rattle.refutation.specs.declared.fault.ReasonTextFault.TheVariants.{Text, Forms}
@@ -41,24 +41,25 @@ reasons_fault_line (Text e) =
     ++ (decimal (edn.number_of e.kind) ++ (codes " at byte " ++ (decimal e.place ++ codes "\n")))
 reasons_fault_line (Forms f) =
     codes "malformed reasons: N"
-    ++ (decimal (number_of f.kind) ++ (codes " at form " ++ (decimal f.form ++ codes "\n")))
+    ++ (decimal (reason_fault_number f.kind) ++
+    (codes " at form " ++ (decimal f.form ++ codes "\n")))
 
 -- a fault that is not an allocation failure
-abbrev pub IsOfText : ReasonTextFault → Type 0
-IsOfText (Text e) = e.kind ≢ edn_kind.NoMemory
-IsOfText (Forms f) = f.kind ≢ form_kind.NoMemory
+abbrev pub IsOfReasonText : ReasonTextFault → Type 0
+IsOfReasonText (Text e) = e.kind ≢ edn_kind.NoMemory
+IsOfReasonText (Forms f) = f.kind ≢ form_kind.NoMemory
 
 -- the text of reasons has this fault, and its line says so
 abbrev pub IsReasonsFault : List ℕ → Status → List ℕ → Type 0
 IsReasonsFault r status text =
-    (f : ReasonTextFault) × IsTextFault r f × IsOfText f
+    (f : ReasonTextFault) × IsReasonTextFault r f × IsOfReasonText f
     × IsExactly ends.Malformed (reasons_fault_line f) status text
 
 -- ---- the answers to reasons
 
 -- the object of a reason, at the beginning of a line
-abbrev pub object_text : Reason → List ℕ
-object_text reason = codes "object " ++ decimal reason.object
+abbrev pub reason_object_text : Reason → List ℕ
+reason_object_text reason = codes "object " ++ decimal reason.object
 
 -- as 3 of 80: how many calls the part has, of this many
 abbrev pub counts_text : ℕ → ObjectCalls → List ℕ
@@ -69,52 +70,52 @@ counts_text whole part =
 abbrev pub shown_line : ℕ → Reason → ObjectCalls → List ℕ
 shown_line whole reason part =
     codes "not linearizable: "
-    ++ (object_text reason
+    ++ (reason_object_text reason
     ++ (codes ": " ++ (counts_text whole part ++ codes " operations have no valid order\n")))
 
 -- why it is not shown that no order is valid
-abbrev pub doubt_text : ℕ → Doubt → List ℕ
-doubt_text limit (Possible order) = codes ": not shown: the part has a valid order\n"
-doubt_text limit NotExceeded = codes ": not shown: the count is not exceeded\n"
-doubt_text limit OutOfSteps =
+abbrev pub why_not_text : ℕ → WhyNotShown → List ℕ
+why_not_text limit (Possible order) = codes ": not shown: the part has a valid order\n"
+why_not_text limit NotExceeded = codes ": not shown: the count is not exceeded\n"
+why_not_text limit OutOfSteps =
     codes ": not shown: out of steps after " ++ (decimal limit ++ codes "\n")
-doubt_text limit doubt.NoMemory = codes ": not shown: out of memory\n"
+why_not_text limit why_not.NoMemory = codes ": not shown: out of memory\n"
 
 -- the lines of an answer on an object of this many calls: if no order is valid, with the
 -- operations of the part
-abbrev pub refutation_lines : List Event → ℕ → ℕ → Reason → Refutation → List ℕ
+abbrev pub refutation_lines : List Event → ℕ → ℕ → Reason → ReasonAnswer → List ℕ
 refutation_lines es whole limit reason (Impossible part) =
     shown_line whole reason part ++ operations_text false es part.ops
 refutation_lines es whole limit reason (NotShown part why) =
-    object_text reason ++ doubt_text (steps_of reason.basis limit) why
+    reason_object_text reason ++ why_not_text (steps_of reason.basis limit) why
 refutation_lines es whole limit reason NoPart =
-    object_text reason ++ codes ": not shown: the cuts name no part\n"
+    reason_object_text reason ++ codes ": not shown: the cuts name no part\n"
 refutation_lines es whole limit reason OtherObject =
-    object_text reason ++ codes ": not shown: it is not in the history\n"
+    reason_object_text reason ++ codes ": not shown: it is not in the history\n"
 
 -- how many calls the object of a reason has
 abbrev pub call_count_on : List Event → Reason → ℕ
 call_count_on es reason = length (calls_on reason.object (denoted es))
 
-abbrev pub refutations_text : List Event → ℕ → List Reason → List Refutation → List ℕ
+abbrev pub refutations_text : List Event → ℕ → List Reason → List ReasonAnswer → List ℕ
 refutations_text es limit [] answers = []
 refutations_text es limit (r ∷ rs) [] = []
 refutations_text es limit (r ∷ rs) (a ∷ answers) =
     refutation_lines es (call_count_on es r) limit r a ++ refutations_text es limit rs answers
 
 -- no, if one reason shows it, else open
-abbrev pub refute_status : List Refutation → Status
-refute_status answers = status_by (list_any is_impossible answers) false
+abbrev pub refute_status : List ReasonAnswer → Status
+refute_status answers = status_by (list_any shows_impossible answers) false
 
 -- The answers to the reasons, one by one, and what they show.
 pub record AreAnswered (es : List Event) (reasons : List Reason) (limit : ℕ)
     (status : Status) (text : List ℕ) : Type 0 where
-  pub answers : List Refutation
-  pub each : AllZip (IsAnswer es) reasons answers
+  pub answers : List ReasonAnswer
+  pub each : AllZip (IsReasonAnswer es) reasons answers
   pub status_is : status ≡ refute_status answers
   pub text_is : text ≡ refutations_text es limit reasons answers
   -- if it is a no the history is not linearizable
-  pub refuted : status ≡ ends.No → IsLinearizable (kind_at es) (events (denoted es)) → ⊥
+  pub refuted : status ≡ ends.No → IsLinearizable (kind_of_object es) (events (denoted es)) → ⊥
 
 -- The answers to the reasons that a text denotes, one by one, and what they show. The text is not
 -- too long to be read.

@@ -5,17 +5,17 @@ use Rattle.edn_reader.specs.Sound.{IsShort}
 use Rattle.model.specs.Linearizable.{IsLinearizable}
 use Rattle.model.specs.Orders.{events}
 use Rattle.events.specs.declared.event.Event.{Event}
-use Rattle.events.specs.Events.{IsNamed, kind_at, denoted}
+use Rattle.events.specs.Events.{IsNamed, kind_of_object, denoted}
 use Rattle.certificate.specs.declared.Certificate.{Certificate}
 use Rattle.certificate.specs.Denotes.{AreDistinct}
-use Rattle.certificate.specs.Lines.{lines_of}
+use Rattle.certificate.specs.Lines.{certificate_lines}
 use Rattle.checker.specs.Refusals.{AreValid}
 use Rattle.search.specs.declared.found.Search.{Search}
-use Rattle.search.specs.declared.found.SearchOutcome.{SearchOutcome}
-use Rattle.search.specs.declared.found.SearchOutcome.TheVariants as found
-use Rattle.search.specs.declared.found.SearchOutcome.TheVariants.{Impossible, OutOfSteps, TooLarge}
-use Rattle.search.specs.declared.found.SearchOutcome.TheVariants.{NoMemory}
-use Rattle.search.specs.Answers.{IsAnswerOn}
+use Rattle.search.specs.declared.found.CertificateOutcome.{CertificateOutcome}
+use Rattle.search.specs.declared.found.CertificateOutcome.TheVariants as found
+use Rattle.search.specs.declared.found.CertificateOutcome.TheVariants.{Impossible, OutOfSteps, TooLarge}
+use Rattle.search.specs.declared.found.CertificateOutcome.TheVariants.{NoMemory}
+use Rattle.search.specs.Answers.{IsSearchAnswerOn}
 use Rattle.report.specs.declared.verdict.Verdict.{Verdict}
 use Rattle.report.specs.declared.verdict.Verdict.TheVariants as verdict
 use Rattle.judging.specs.declared.texts.TextFailure.TheVariants.{Faulty}
@@ -26,8 +26,8 @@ use Rattle.history_commands.specs.declared.status.Status.{Status}
 use Rattle.history_commands.specs.declared.status.Status.TheVariants as ends
 
 -- the line of an answer on an object: its certificate, or why it has none
-abbrev pub outcome_line : ℕ → ℕ → SearchOutcome → List ℕ
-outcome_line x n (found.Found c) = lines_of (c ∷ [])
+abbrev pub outcome_line : ℕ → ℕ → CertificateOutcome → List ℕ
+outcome_line x n (found.Found c) = certificate_lines (c ∷ [])
 outcome_line x n Impossible = (codes "; object " ++ decimal x) ++ codes ": impossible\n"
 outcome_line x n OutOfSteps =
     (codes "; object " ++ decimal x) ++ (codes ": out of steps after " ++ (decimal n ++ codes "\n"))
@@ -37,14 +37,14 @@ outcome_line x n NoMemory = (codes "; object " ++ decimal x) ++ codes ": out of 
 abbrev pub answer_line : ℕ → Search → List ℕ
 answer_line x s = outcome_line x s.steps s.found
 
-abbrev pub is_impossible : SearchOutcome → Bool
-is_impossible (found.Found c) = false
-is_impossible Impossible = true
-is_impossible OutOfSteps = false
-is_impossible TooLarge = false
-is_impossible NoMemory = false
+abbrev pub finds_impossible : CertificateOutcome → Bool
+finds_impossible (found.Found c) = false
+finds_impossible Impossible = true
+finds_impossible OutOfSteps = false
+finds_impossible TooLarge = false
+finds_impossible NoMemory = false
 
-abbrev pub is_found : SearchOutcome → Bool
+abbrev pub is_found : CertificateOutcome → Bool
 is_found (found.Found c) = true
 is_found Impossible = false
 is_found OutOfSteps = false
@@ -54,7 +54,7 @@ is_found NoMemory = false
 -- no, if some object is impossible; yes, if each has a certificate
 abbrev pub search_status : List (ℕ × Search) → Status
 search_status answers =
-    status_on (λ s. is_impossible s.found) (λ s. is_found s.found) answers
+    status_on (λ s. finds_impossible s.found) (λ s. is_found s.found) answers
 
 -- The answers on the objects of a history, in rising number, and what they show.
 pub record AreSearched (es : List Event) (limit : ℕ) (status : Status) (text : List ℕ)
@@ -62,14 +62,14 @@ pub record AreSearched (es : List Event) (limit : ℕ) (status : Status) (text :
   pub answers : List (ℕ × Search)
   pub rising : AllPairs (λ a b. a.0 < b.0) answers
   pub named : (x : ℕ) → Contains (map (λ a. a.0) answers) x ↔ IsNamed es x
-  pub each : All (λ a. IsAnswerOn es limit a.0 a.1) answers
+  pub each : All (λ a. IsSearchAnswerOn es limit a.0 a.1) answers
   pub status_is : status ≡ search_status answers
   pub text_is : text ≡ lines_on answer_line answers
   -- a yes comes with valid certificates, one for each object, and if it is a no the history is
   -- not linearizable
   pub certified : status ≡ ends.Yes
-      → (cs : List Certificate) × AreValid es cs × AreDistinct cs × (text ≡ lines_of cs)
-  pub refuted : status ≡ ends.No → IsLinearizable (kind_at es) (events (denoted es)) → ⊥
+      → (cs : List Certificate) × AreValid es cs × AreDistinct cs × (text ≡ certificate_lines cs)
+  pub refuted : status ≡ ends.No → IsLinearizable (kind_of_object es) (events (denoted es)) → ⊥
 
 -- The answers on the objects of the history that a text denotes, and what they show. The text is
 -- not too long to be read.
@@ -96,11 +96,11 @@ pub record AreCertificatesFor (h text : List ℕ) : Type 0 where
   pub certificates : List Certificate
   pub valid : AreValid client_events certificates
   pub distinct : AreDistinct certificates
-  pub text_is : text ≡ lines_of certificates
+  pub text_is : text ≡ certificate_lines certificates
 
 -- The result of a search: a yes comes with valid certificates, and the history is linearizable; if
 -- it is a no the history is not.
-pub record IsSearch (h : List ℕ) (limit : ℕ) (status : Status) (out : List ℕ) : Type 0 where
+pub record IsSearchResult (h : List ℕ) (limit : ℕ) (status : Status) (out : List ℕ) : Type 0 where
   pub output : IsSearchOutput h limit status out
   pub certified : status ≡ ends.Yes → AreCertificatesFor h out
   pub linearizable : status ≡ ends.Yes → IsLinearizableText h

@@ -18,15 +18,15 @@ use Rattle.history_commands.specs.declared.shard_counts.KindFrom.{KindFrom}
 
 -- ---- one shard
 
-abbrev pub invokes : Kind → Action → Bool
-invokes k (Invoke op) = same_kind k (kind_of op)
-invokes k (Ok r) = false
-invokes k Fail = false
-invokes k Info = false
+abbrev pub invokes_kind : Kind → Action → Bool
+invokes_kind k (Invoke op) = same_kind k (kind_of op)
+invokes_kind k (Ok r) = false
+invokes_kind k Fail = false
+invokes_kind k Info = false
 
 -- the number of the first event that invokes an operation of this kind
 abbrev pub first_number : List Event → Kind → ℕ
-first_number es k = option_map_or (λ e. e.number) (find (λ e. invokes k e.action) es) 0
+first_number es k = option_map_or (λ e. e.number) (find (λ e. invokes_kind k e.action) es) 0
 
 -- how many operations and objects there are; and how many of each kind, with the number of the
 -- first invocation of the kind
@@ -36,15 +36,15 @@ pub record Counted : Type 0 where
   pub kinds : List KindFrom
 
 -- what the events of a shard have of one kind
-abbrev pub kind_in : List Event → Kind → KindFrom
-kind_in es k = record { count = count_of es k; first = first_number es k }
+abbrev pub kind_in_shard : List Event → Kind → KindFrom
+kind_in_shard es k = record { count = count_of es k; first = first_number es k }
 
 abbrev pub counted : List Event → Counted
 counted es =
     record {
       operations = length (operations_in es);
       objects = length (objects_in (uses es));
-      kinds = map (kind_in es) (kinds_in (uses es));
+      kinds = map (kind_in_shard es) (kinds_in (uses es));
     }
 
 abbrev pub nothing_counted : Counted

@@ -11,9 +11,9 @@ use Rattle.edn_reader.specs.declared.fault.FaultKind.TheVariants as edn_kind
 use Rattle.model.specs.Linearizable.{IsLinearizable}
 use Rattle.model.specs.Orders.{calls_on, events}
 use Rattle.events.specs.declared.event.Event.{Event}
-use Rattle.events.specs.Events.{kind_at, denoted}
+use Rattle.events.specs.Events.{kind_of_object, denoted}
 use Rattle.checker.specs.Refusals.{AreValid}
-use Rattle.refutation.specs.Lines.{line_of}
+use Rattle.refutation.specs.Lines.{reason_line}
 use Rattle.reason_report.specs.Operations.{operations_text}
 use Rattle.verifying.specs.declared.claim.Claim.{Claim}
 use Rattle.verifying.specs.declared.fault.ClaimFaultKind.{ClaimFaultKind}
@@ -22,12 +22,12 @@ use Rattle.verifying.specs.declared.fault.ClaimFaultKind.TheVariants as form_kin
 use Rattle.verifying.specs.declared.fault.ClaimTextFault.{ClaimTextFault}
 use Rattle.verifying.specs.declared.fault.ClaimTextFault.TheVariants.{Text, Forms}
 use Rattle.verifying.specs.Denotes.{Denotes}
-use Rattle.verifying.specs.Texts.{IsTextFault}
+use Rattle.verifying.specs.Texts.{IsClaimTextFault}
 use Rattle.verifying.specs.declared.decision.ShownReason.{ShownReason}
 use Rattle.verifying.specs.declared.decision.Decision.{Decision}
 use Rattle.verifying.specs.declared.decision.Decision.TheVariants.{Order, Impossible, OutOfSteps}
 use Rattle.verifying.specs.declared.decision.Decision.TheVariants.{NoMemory, Open}
-use Rattle.verifying.specs.Decisions.{AreDecisionsOn, IsShownReason, certificates_in}
+use Rattle.verifying.specs.Decisions.{AreDecisionsOn, IsShownReason, certificates_decided}
 use Rattle.verifying.specs.Decisions.{is_impossible, is_order}
 use Rattle.report.specs.declared.verdict.Summary.{Summary}
 use Rattle.report.specs.declared.verdict.Verdict.{Verdict}
@@ -58,14 +58,14 @@ evidence_fault_line (Forms f) =
     ++ (code_of f.kind ++ (codes " at form " ++ (decimal f.form ++ codes "\n")))
 
 -- a fault that is not an allocation failure
-abbrev pub IsOfText : ClaimTextFault → Type 0
-IsOfText (Text e) = e.kind ≢ edn_kind.NoMemory
-IsOfText (Forms f) = f.kind ≢ form_kind.NoMemory
+abbrev pub IsOfClaimText : ClaimTextFault → Type 0
+IsOfClaimText (Text e) = e.kind ≢ edn_kind.NoMemory
+IsOfClaimText (Forms f) = f.kind ≢ form_kind.NoMemory
 
 -- The text of claims has this fault, and its line says so. Nothing is decided.
 abbrev pub IsEvidenceFault : List ℕ → Status → List ℕ → Type 0
 IsEvidenceFault e status text =
-    (f : ClaimTextFault) × IsTextFault e f × IsOfText f
+    (f : ClaimTextFault) × IsClaimTextFault e f × IsOfClaimText f
     × IsExactly ends.Undecided (evidence_fault_line f) status text
 
 -- the text, which is not too long to be read, denotes these claims
@@ -85,7 +85,7 @@ abbrev pub impossible_lines : List Event → ℕ → ShownReason → List ℕ
 impossible_lines es x f =
     ((codes "; object " ++ decimal x) ++ codes ": impossible\n")
     ++ (note_line f.note
-    ++ (operations_text true es f.part.ops ++ (codes "; " ++ line_of f.reason)))
+    ++ (operations_text true es f.part.ops ++ (codes "; " ++ reason_line f.reason)))
 
 -- the lines on an object without an order, and nothing on one that has an order
 abbrev pub decision_lines : List Event → ℕ → Decision → List ℕ
@@ -107,14 +107,14 @@ verified_status answers = status_on is_impossible is_order answers
 pub record IsExplained (es : List Event) (text : List ℕ) : Type 0 where
   pub object : ℕ
   pub refuted : ShownReason
-  pub holds : IsShownReason object (kind_at es object) (calls_on object (denoted es)) refuted
+  pub holds : IsShownReason object (kind_of_object es object) (calls_on object (denoted es)) refuted
   pub before : List ℕ
   pub after : List ℕ
   pub lines : text ≡ before ++ (impossible_lines es object refuted ++ after)
 
 -- Some object of the history has no order: the decisions on all objects by these claims, and what
 -- they show.
-pub record AreOpen (es : List Event) (claims : List Claim) (limit : ℕ) (status : Status)
+pub record LacksSomeOrder (es : List Event) (claims : List Claim) (limit : ℕ) (status : Status)
     (text : List ℕ)
     : Type 0 where
   pub answers : List (ℕ × Decision)
@@ -123,7 +123,7 @@ pub record AreOpen (es : List Event) (claims : List Claim) (limit : ℕ) (status
   pub status_is : status ≡ verified_status answers
   pub text_is : text ≡ lines_on (decision_lines es) answers
   -- if it is a no the history is not linearizable, and the text says why
-  pub refuted : status ≡ ends.No → IsLinearizable (kind_at es) (events (denoted es)) → ⊥
+  pub refuted : status ≡ ends.No → IsLinearizable (kind_of_object es) (events (denoted es)) → ⊥
   pub explained : status ≡ ends.No → IsExplained es text
 
 -- Each object of the history, which has these counts, has an order that these claims give.
@@ -132,8 +132,8 @@ pub record IsCertified (es : List Event) (claims : List Claim) (limit : ℕ) (s 
   pub answers : List (ℕ × Decision)
   pub decided : AreDecisionsOn es claims limit answers
   pub all : list_all (λ a. is_order a.1) answers ≡ true
-  pub valid : AreValid es (certificates_in answers)
-  pub linearizable : IsLinearizable (kind_at es) (events (denoted es))
+  pub valid : AreValid es (certificates_decided answers)
+  pub linearizable : IsLinearizable (kind_of_object es) (events (denoted es))
   pub counts : AreCountsOf es s
 
 -- The verdict if each object has an order, or an allocation failed.
@@ -144,18 +144,18 @@ IsVerdictBy es claims limit (verdict.Malformed f) = ⊥
 IsVerdictBy es claims limit verdict.NoMemory = ⊤
 
 -- The output of the decisions: some object has no order, or the verdict.
-abbrev pub AreJudged : List Event → List Claim → ℕ → Status → List ℕ → Type 0
-AreJudged es claims limit status text =
-    IsOutput (AreOpen es claims limit) (IsVerdictBy es claims limit) status text
+abbrev pub IsVerifiedOutput : List Event → List Claim → ℕ → Status → List ℕ → Type 0
+IsVerifiedOutput es claims limit status text =
+    IsOutput (LacksSomeOrder es claims limit) (IsVerdictBy es claims limit) status text
 
 -- ---- the outputs for texts
 
 -- The output for a history that is denoted: some object has no order, or the evidence denotes no
 -- claims.
-abbrev pub IsOpenText : List ℕ → List ℕ → ℕ → Status → List ℕ → Type 0
-IsOpenText h e limit status text =
+abbrev pub LacksSomeOrderText : List ℕ → List ℕ → ℕ → Status → List ℕ → Type 0
+LacksSomeOrderText h e limit status text =
     IsShort h × (es : List Event) × DenotesHistory h es
-    × (((claims : List Claim) × DenotesClaims e claims × AreOpen es claims limit status text)
+    × (((claims : List Claim) × DenotesClaims e claims × LacksSomeOrder es claims limit status text)
     ⊎ IsEvidenceFault e status text)
 
 -- the verdict on the history, or the fault of its text
@@ -169,7 +169,7 @@ IsVerdictText h e limit verdict.NoMemory = ⊤
 
 abbrev pub IsVerificationOutput : List ℕ → List ℕ → ℕ → Status → List ℕ → Type 0
 IsVerificationOutput h e limit status text =
-    IsOutput (IsOpenText h e limit) (IsVerdictText h e limit) status text
+    IsOutput (LacksSomeOrderText h e limit) (IsVerdictText h e limit) status text
 
 -- the lines show that an object of the history that the text denotes has no valid order
 abbrev pub IsExplainedText : List ℕ → List ℕ → Type 0

@@ -2,7 +2,7 @@
 
 ghost use Rattle.std.specs.Prelude.{◌≡◌, ◌++◌, false, true, codes, OnOk, IfOk};
 ghost use Rattle.std.specs.Io.KnownBytes.{Appends};
-ghost use Rattle.certificate.specs.Lines.{line_of, lines_of};
+ghost use Rattle.certificate.specs.Lines.{certificate_line, certificate_lines};
 ghost use Rattle.history_commands.specs.Comments.{comment_lines};
 
 use certificate::{Certificate, write_certificates};
@@ -14,7 +14,7 @@ pub(crate) fn certificates_text(
     alloc: Global,
     certificates: &[Certificate],
 ) -> Result<Vec<u8>, AllocError>
-    ensures { IfOk result (λ v. v.items ≡ lines_of certificates.now) }
+    ensures { IfOk result (λ v. v.items ≡ certificate_lines certificates.now) }
 {
     let mut sink = Out::new(Vec::new(alloc));
     match write_certificates(certificates, &mut sink) {
@@ -27,7 +27,7 @@ pub(crate) fn certificates_text(
 fn write_comment<S: Sink>(certificate: &Certificate, sink: &mut S) -> Result<(), Failed>
     requires { S.broken sink.old ≡ false }
     ensures ok { OnOk result (Appends (S.sent sink.old) (S.sent sink.new) (codes "; "
-        ++ line_of certificate.now)) }
+        ++ certificate_line certificate.now)) }
     ensures usable { OnOk result (S.broken sink.new ≡ false) }
 {
     write_bytes(b"; ", sink)?;

@@ -21,7 +21,7 @@ pub enum Finding {
 impl Finding {
     /// From 0, the greater the worse.
     fn rank(self) -> u8
-        ensures { result ≡ spec.rank_of self }
+        ensures { result ≡ spec.finding_rank self }
     {
         match self {
             Finding::Certified => 0,

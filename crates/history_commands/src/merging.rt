@@ -2,7 +2,7 @@
 //! and the full history is judged by all of it. Nothing that comes from a worker is trusted.
 
 ghost use Rattle.std.specs.Prelude.{◌++◌, ◌∷◌, [], List, IfOk, OnOk};
-ghost use Rattle.history_commands.specs.Merged.{AnswersShard, AreMerged, IsMerge, Shard, seen};
+ghost use Rattle.history_commands.specs.Merged.{AnswersShard, AreMerged, IsMerge, Shard, answer_seen};
 
 use crate::finding::Finding;
 use crate::object_lines::{ObjectLines, with_lines};
@@ -37,7 +37,7 @@ impl Merging {
     /// Adds the answer for one more shard.
     fn add(&mut self, answer: ShardAnswer) -> Result<(), AllocError>
         ensures { OnOk result ((shards : List Shard) (shard : Shard) → AreMerged self.old shards
-            → AnswersShard shard (seen answer) → AreMerged self.new (shards ++ shard ∷ [])) }
+            → AnswersShard shard (answer_seen answer) → AreMerged self.new (shards ++ shard ∷ [])) }
     {
         let ShardAnswer {
             finding,

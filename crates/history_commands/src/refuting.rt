@@ -6,13 +6,13 @@ ghost use Rattle.std.specs.List.{AllZip, list_any};
 ghost use Rattle.model.specs.Orders.{calls_on};
 ghost use Rattle.events.specs.Events.{IsNamed, denoted};
 ghost use Rattle.events.specs.Operations.{calls_of};
-ghost use Rattle.refutation.specs.Refutations.{is_impossible, IsAnswer};
+ghost use Rattle.refutation.specs.Refutations.{shows_impossible, IsReasonAnswer};
 ghost use Rattle.history_commands.specs.Outputs.{IsExactly};
 ghost use Rattle.history_commands.specs.Refuted as spec;
-ghost use Rattle.history_commands.specs.Refuted.{counts_text, doubt_text, refutation_lines};
+ghost use Rattle.history_commands.specs.Refuted.{counts_text, why_not_text, refutation_lines};
 ghost use Rattle.history_commands.specs.Refuted.{call_count_on, refutations_text, shown_line};
 ghost use Rattle.history_commands.specs.Refuted.{AreAnswered, AreAnsweredIn};
-ghost use Rattle.history_commands.specs.Refuted.{IsOfText, IsReasonsFault, IsRefute};
+ghost use Rattle.history_commands.specs.Refuted.{IsOfReasonText, IsReasonsFault, IsRefute};
 
 use crate::lines::line_with_place;
 use crate::output::{Output, verdict_output};
@@ -23,7 +23,8 @@ use events::{ObjectHistory, split};
 use history::History;
 use reason_report::push_operations;
 use refutation::{
-    Doubt, Reason, ReasonFaultKind, ReasonTextFault, Refutation, read_reasons_text, refute_all,
+    Reason, ReasonAnswer, ReasonFaultKind, ReasonTextFault, WhyNotShown, read_reasons_text,
+    refute_all,
 };
 use search::call_count;
 use std::alloc::{AllocError, Global};
@@ -52,7 +53,7 @@ fn fault_line(alloc: Global, fault: ReasonTextFault) -> Result<Vec<u8>, AllocErr
 
 /// Whether an allocation failed.
 fn lacks_memory(fault: ReasonTextFault) -> bool
-    ensures { result ≡ false → IsOfText fault }
+    ensures { result ≡ false → IsOfReasonText fault }
 {
     match fault {
         ReasonTextFault::Text(e) => matches!(e.kind, FaultKind::NoMemory),
@@ -62,7 +63,7 @@ fn lacks_memory(fault: ReasonTextFault) -> bool
 
 /// The output for a text that denotes no reasons.
 fn refuse(alloc: Global, fault: ReasonTextFault) -> Result<Output, AllocError>
-    ensures { IfOk result (λ o. IsOfText fault
+    ensures { IfOk result (λ o. IsOfReasonText fault
         × IsExactly Status.Malformed (spec.reasons_fault_line fault) o.status o.text.items) }
 {
     if lacks_memory(fault) {
@@ -89,7 +90,7 @@ fn call_count_of(objects: &[ObjectHistory], number: u32) -> usize
 
 /// Appends `object X`, the beginning of a line on the object of a reason.
 fn push_reason_object(text: &mut Vec<u8>, reason: &Reason) -> Result<(), AllocError>
-    ensures { OnOk result (text.new.items ≡ text.old.items ++ spec.object_text reason.now) }
+    ensures { OnOk result (text.new.items ≡ text.old.items ++ spec.reason_object_text reason.now) }
 {
     text.extend_from_slice(b"object ")?;
     push_natural(text, u64::from(reason.object))
@@ -122,25 +123,29 @@ fn push_shown(
 }
 
 /// Why it is not shown that no order is valid.
-fn push_doubt(text: &mut Vec<u8>, steps: u64, doubt: &Doubt) -> Result<(), AllocError>
-    ensures { OnOk result (text.new.items ≡ text.old.items ++ doubt_text steps doubt.now) }
+fn push_why_not(text: &mut Vec<u8>, steps: u64, why_not: &WhyNotShown) -> Result<(), AllocError>
+    ensures { OnOk result (text.new.items ≡ text.old.items ++ why_not_text steps why_not.now) }
 {
-    match doubt {
-        Doubt::Possible(_) => text.extend_from_slice(b": not shown: the part has a valid order\n"),
-        Doubt::NotExceeded => text.extend_from_slice(b": not shown: the count is not exceeded\n"),
-        Doubt::OutOfSteps => {
+    match why_not {
+        WhyNotShown::Possible(_) => text.extend_from_slice(
+            b": not shown: the part has a valid order\n",
+        ),
+        WhyNotShown::NotExceeded => text.extend_from_slice(
+            b": not shown: the count is not exceeded\n",
+        ),
+        WhyNotShown::OutOfSteps => {
             text.extend_from_slice(b": not shown: out of steps after ")?;
             push_natural(text, steps)?;
             text.extend_from_slice(b"\n")
         }
-        Doubt::NoMemory => text.extend_from_slice(b": not shown: out of memory\n"),
+        WhyNotShown::NoMemory => text.extend_from_slice(b": not shown: out of memory\n"),
     }
 }
 
 /// The line on a reason that names no part of an object of the history.
 fn push_unfit(text: &mut Vec<u8>, reason: &Reason, why: &[u8]) -> Result<(), AllocError>
     ensures { OnOk result (text.new.items ≡ text.old.items
-        ++ (spec.object_text reason.now ++ why.now)) }
+        ++ (spec.reason_object_text reason.now ++ why.now)) }
 {
     push_reason_object(text, reason)?;
     text.extend_from_slice(why)
@@ -153,22 +158,22 @@ fn push_answer_on(
     whole: usize,
     steps: u32,
     reason: &Reason,
-    answer: &Refutation,
+    answer: &ReasonAnswer,
 ) -> Result<(), AllocError>
     ensures { OnOk result (text.new.items ≡ text.old.items
         ++ refutation_lines history.now whole steps reason.now answer.now) }
 {
     match answer {
-        Refutation::Impossible(part) => {
+        ReasonAnswer::Impossible(part) => {
             push_shown(text, whole, reason, part)?;
             push_operations(text, false, history, part)
         }
-        Refutation::NotShown { part: _, doubt } => {
+        ReasonAnswer::NotShown { part: _, why_not } => {
             push_reason_object(text, reason)?;
-            push_doubt(text, reason.basis.steps(u64::from(steps)), doubt)
+            push_why_not(text, reason.basis.steps(u64::from(steps)), why_not)
         }
-        Refutation::NoPart => push_unfit(text, reason, b": not shown: the cuts name no part\n"),
-        Refutation::OtherObject => {
+        ReasonAnswer::NoPart => push_unfit(text, reason, b": not shown: the cuts name no part\n"),
+        ReasonAnswer::OtherObject => {
             push_unfit(text, reason, b": not shown: it is not in the history\n")
         }
     }
@@ -181,13 +186,13 @@ fn push_answer(
     objects: &[ObjectHistory],
     steps: u32,
     reason: &Reason,
-    answer: &Refutation,
+    answer: &ReasonAnswer,
 ) -> Result<(), AllocError>
     requires calls { All (λ o. calls_of o.ops ≡ calls_on o.object (denoted history.now))
         objects.now }
     requires named { (x : ℕ) → IsNamed history.now x
         → Contains (map (λ o. o.object) objects.now) x }
-    requires answer { IsAnswer history.now reason.now answer.now }
+    requires answer { IsReasonAnswer history.now reason.now answer.now }
     ensures { OnOk result (text.new.items ≡ text.old.items
         ++ refutation_lines history.now (call_count_on history.now reason.now) steps
         reason.now answer.now) }
@@ -202,9 +207,9 @@ fn text_of(
     history: &History,
     steps: u32,
     reasons: &[Reason],
-    answers: &[Refutation],
+    answers: &[ReasonAnswer],
 ) -> Result<Vec<u8>, AllocError>
-    requires answers { AllZip (IsAnswer history.now) reasons.now answers.now }
+    requires answers { AllZip (IsReasonAnswer history.now) reasons.now answers.now }
     ensures { IfOk result (λ t. t.items
         ≡ refutations_text history.now steps reasons.now answers.now) }
 {
@@ -223,15 +228,15 @@ fn text_of(
     Ok(text)
 }
 
-fn is_impossible(answer: &Refutation) -> bool
-    ensures { result ≡ is_impossible answer.now }
+fn is_impossible(answer: &ReasonAnswer) -> bool
+    ensures { result ≡ shows_impossible answer.now }
 {
-    matches!(answer, Refutation::Impossible(_))
+    matches!(answer, ReasonAnswer::Impossible(_))
 }
 
 /// Whether some reason shows that the history is not linearizable.
-fn is_any_impossible(answers: &[Refutation]) -> bool
-    ensures { result ≡ list_any (λ r. is_impossible r) answers.now }
+fn is_any_impossible(answers: &[ReasonAnswer]) -> bool
+    ensures { result ≡ list_any (λ r. shows_impossible r) answers.now }
 {
     answers.iter().any(|answer| is_impossible(answer))
 }

@@ -1,7 +1,7 @@
 //! A search for certificates of a history.
 
 ghost use Rattle.std.specs.Prelude.{IfOk};
-ghost use Rattle.history_commands.specs.Searches.{AreSearched, IsSearch};
+ghost use Rattle.history_commands.specs.Searches.{AreSearched, IsSearchResult};
 
 use crate::answers::{Answer, output_of};
 use crate::comments::certificates_text;
@@ -10,24 +10,24 @@ use crate::output::{Output, verdict_output};
 use crate::texts::history_or_verdict;
 use history::History;
 use judging::valid_certificates_suffice;
-use search::{Search, SearchOutcome, TryFirst, search_all_by};
+use search::{CertificateOutcome, Search, TryFirst, search_all_by};
 use std::alloc::{AllocError, Global};
 
 impl Answer for Search {
-    ghost use Rattle.history_commands.specs.Searches.{answer_line, is_impossible, is_found};
+    ghost use Rattle.history_commands.specs.Searches.{answer_line, finds_impossible, is_found};
 
-    ghost impossible = { λ s. is_impossible s.found };
+    ghost impossible = { λ s. finds_impossible s.found };
 
     ghost found = { λ s. is_found s.found };
 
     ghost lines = { λ _ x s. answer_line x s };
 
     fn is_impossible(&self) -> bool {
-        matches!(self.found, SearchOutcome::Impossible)
+        matches!(self.found, CertificateOutcome::Impossible)
     }
 
     fn is_found(&self) -> bool {
-        matches!(self.found, SearchOutcome::Found(_))
+        matches!(self.found, CertificateOutcome::Found(_))
     }
 
     fn push_lines(
@@ -38,14 +38,14 @@ impl Answer for Search {
         object: u32,
     ) -> Result<(), AllocError> {
         match &self.found {
-            SearchOutcome::Found(certificate) => {
+            CertificateOutcome::Found(certificate) => {
                 let line = certificates_text(alloc, std::slice::from_ref(certificate))?;
                 text.extend_from_slice(&line)
             }
-            SearchOutcome::Impossible => push_object_line(text, object, b": impossible\n"),
-            SearchOutcome::OutOfSteps => push_steps(text, object, self.steps),
-            SearchOutcome::TooLarge => push_object_line(text, object, b": too large\n"),
-            SearchOutcome::NoMemory => push_object_line(text, object, b": out of memory\n"),
+            CertificateOutcome::Impossible => push_object_line(text, object, b": impossible\n"),
+            CertificateOutcome::OutOfSteps => push_steps(text, object, self.steps),
+            CertificateOutcome::TooLarge => push_object_line(text, object, b": too large\n"),
+            CertificateOutcome::NoMemory => push_object_line(text, object, b": out of memory\n"),
         }
     }
 }
@@ -66,7 +66,7 @@ fn search_history(
 /// Searches for certificates of the history in the text, with a limit of `steps` steps for each
 /// object.
 pub fn search(alloc: Global, text: &[u8], steps: u32, first: TryFirst) -> Result<Output, AllocError>
-    ensures { IfOk result (λ o. IsSearch text.now steps o.status o.text.items) }
+    ensures { IfOk result (λ o. IsSearchResult text.now steps o.status o.text.items) }
 {
     // This does nothing: it is locality.
     valid_certificates_suffice();

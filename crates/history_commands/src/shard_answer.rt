@@ -5,7 +5,7 @@ ghost use Rattle.std.specs.Prelude.{◌≡◌, IfOk, MatchBool};
 ghost use Rattle.history_commands.specs.Merged as spec;
 ghost use Rattle.history_commands.specs.Merged.{AnswersClaims, AnswersEvidence, AnswersFault};
 ghost use Rattle.history_commands.specs.Merged.{AnswersShard, AnswersTable, IsNoted, IsTooLarge};
-ghost use Rattle.history_commands.specs.Merged.{finding_on, seen};
+ghost use Rattle.history_commands.specs.Merged.{finding_on, answer_seen};
 ghost use Rattle.shards.specs.Dividing.{object_named};
 
 use crate::answers::{are_all_found, is_any_impossible};
@@ -59,7 +59,7 @@ fn noted(
     finding: Finding,
     said: &[u8],
 ) -> Result<ShardAnswer, AllocError>
-    ensures { IfOk result (λ a. IsNoted shard finding said.now (seen a)) }
+    ensures { IfOk result (λ a. IsNoted shard finding said.now (answer_seen a)) }
 {
     Ok(ShardAnswer {
         finding,
@@ -82,7 +82,7 @@ fn is_too_large(fault: &Fault) -> bool
 
 /// The answer for a shard whose text has this fault.
 fn answer_fault(alloc: Global, shard: u16, fault: Fault) -> Result<ShardAnswer, AllocError>
-    ensures { IfOk result (λ a. AnswersFault shard fault (seen a)) }
+    ensures { IfOk result (λ a. AnswersFault shard fault (answer_seen a)) }
 {
     if is_too_large(&fault) {
         return noted(alloc, shard, Finding::Undecided, b"too large\n");
@@ -113,7 +113,7 @@ fn answer_claims(
     steps: u32,
 ) -> Result<ShardAnswer, AllocError>
     ensures { IfOk result (λ a. AnswersClaims (object_named shard.count shard.number) history.now
-        claims.items steps (seen a)) }
+        claims.items steps (answer_seen a)) }
 {
     // These two do nothing: they say that valid certificates suffice.
     history.events();
@@ -136,7 +136,7 @@ fn answer_evidence(
     steps: u32,
 ) -> Result<ShardAnswer, AllocError>
     ensures { IfOk result (λ a. AnswersEvidence shard.number
-        (object_named shard.count shard.number) history.now evidence.now steps (seen a)) }
+        (object_named shard.count shard.number) history.now evidence.now steps (answer_seen a)) }
 {
     match read_claims_text(alloc, evidence) {
         Ok(claims) => answer_claims(alloc, shard, history, claims, steps),
@@ -158,7 +158,7 @@ fn answer_history(
 ) -> Result<ShardAnswer, AllocError>
     ensures { IfOk result (λ a.
         AnswersTable shard.number (object_named shard.count shard.number) history table.now
-        evidence.now steps (seen a)) }
+        evidence.now steps (answer_seen a)) }
 {
     match with_table(alloc, history, table) {
         Ok(history) => answer_evidence(alloc, shard, &history, evidence, steps),
@@ -190,7 +190,7 @@ pub(crate) fn answer_shard(
       table = table.now;
       evidence = evidence.now;
       limit = steps;
-    }) (seen a)) }
+    }) (answer_seen a)) }
 {
     match history_of_text(alloc, text) {
         Ok(history) => answer_history(alloc, shard, history, table, evidence, steps),

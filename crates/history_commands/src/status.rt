@@ -30,7 +30,7 @@ pub enum Status {
 impl Status {
     /// The exit status.
     pub fn number(self) -> u8
-        ensures { result ≡ spec.number_of self }
+        ensures { result ≡ spec.status_number self }
     {
         match self {
             Status::Yes => 0,

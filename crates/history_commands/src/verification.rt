@@ -7,12 +7,12 @@ ghost use Rattle.std.specs.List.{list_all};
 ghost use Rattle.checker.specs.Refusals.{AreValid};
 ghost use Rattle.judging.specs.Texts.{IsHistoryRead};
 ghost use Rattle.verifying.specs.declared.claim.Claim.{Claim};
-ghost use Rattle.verifying.specs.Decisions.{AreDecisionsOn, certificate_in, certificates_in};
+ghost use Rattle.verifying.specs.Decisions.{AreDecisionsOn, certificate_decided, certificates_decided};
 ghost use Rattle.verifying.specs.Decisions.{is_order};
 ghost use Rattle.history_commands.specs.Outputs.{IsExactly};
 ghost use Rattle.history_commands.specs.Verified as spec;
-ghost use Rattle.history_commands.specs.Verified.{AreJudged, DenotesClaims, IsEvidenceFault};
-ghost use Rattle.history_commands.specs.Verified.{IsOfText, IsVerdictBy, IsVerification};
+ghost use Rattle.history_commands.specs.Verified.{IsVerifiedOutput, DenotesClaims, IsEvidenceFault};
+ghost use Rattle.history_commands.specs.Verified.{IsOfClaimText, IsVerdictBy, IsVerification};
 ghost use Rattle.history_commands.specs.Verified.{impossible_lines, note_line};
 
 use crate::answers::{Answer, are_all_found, output_of};
@@ -74,7 +74,7 @@ fn fault_line(alloc: Global, fault: ClaimTextFault) -> Result<Vec<u8>, AllocErro
 
 /// Whether an allocation failed.
 fn lacks_memory(fault: ClaimTextFault) -> bool
-    ensures { result ≡ false → IsOfText fault }
+    ensures { result ≡ false → IsOfClaimText fault }
 {
     match fault {
         ClaimTextFault::Text(e) => matches!(e.kind, FaultKind::NoMemory),
@@ -84,7 +84,7 @@ fn lacks_memory(fault: ClaimTextFault) -> bool
 
 /// The output for evidence that denotes no claims.
 pub(crate) fn refuse_evidence(alloc: Global, fault: ClaimTextFault) -> Result<Output, AllocError>
-    ensures { IfOk result (λ o. IsOfText fault
+    ensures { IfOk result (λ o. IsOfClaimText fault
         × IsExactly Status.Undecided (spec.evidence_fault_line fault) o.status o.text.items) }
 {
     if lacks_memory(fault) {
@@ -167,7 +167,7 @@ impl Answer for Decision {
 /// The verdict if each object has an order.
 fn verdict_of(alloc: Global, history: &History, answers: &[(u32, Decision)]) -> Verdict
     requires all { list_all (λ a. is_order a.1) answers.now ≡ true }
-    requires valid { AreValid history.now (certificates_in answers.now) }
+    requires valid { AreValid history.now (certificates_decided answers.now) }
     ensures { (claims : List Claim) (limit : ℕ) →
         AreDecisionsOn history.now claims limit answers.now →
         IsVerdictBy history.now claims limit result }
@@ -186,11 +186,11 @@ fn judge_decisions(
     history: &History,
     answers: &[(u32, Decision)],
 ) -> Result<Output, AllocError>
-    requires valid { All (λ a. IsSome (certificate_in a.1)) answers.now
-        → AreValid history.now (certificates_in answers.now) }
+    requires valid { All (λ a. IsSome (certificate_decided a.1)) answers.now
+        → AreValid history.now (certificates_decided answers.now) }
     ensures { (claims : List Claim) (limit : ℕ) →
         AreDecisionsOn history.now claims limit answers.now →
-        IfOk result (λ o. AreJudged history.now claims limit o.status o.text.items) }
+        IfOk result (λ o. IsVerifiedOutput history.now claims limit o.status o.text.items) }
 {
     if are_all_found(answers) {
         return verdict_output(alloc, &verdict_of(alloc, history, answers));
@@ -206,7 +206,7 @@ fn verify_claims(
     steps: u32,
 ) -> Result<Output, AllocError>
     ensures { IfOk result (λ o.
-        AreJudged history.now claims.items steps o.status o.text.items) }
+        IsVerifiedOutput history.now claims.items steps o.status o.text.items) }
 {
     let answers = decide_by_claims(alloc, history, claims, u64::from(steps))?;
     judge_decisions(alloc, history, &answers)
@@ -220,7 +220,7 @@ fn verify_by_text(
     steps: u32,
 ) -> Result<Output, AllocError>
     ensures { IfOk result (λ o. ((claims : List Claim) × DenotesClaims evidence.now claims
-        × AreJudged history.now claims steps o.status o.text.items)
+        × IsVerifiedOutput history.now claims steps o.status o.text.items)
         ⊎ IsEvidenceFault evidence.now o.status o.text.items) }
 {
     match read_claims_text(alloc, evidence) {

@@ -3,7 +3,7 @@
 ghost use Rattle.std.specs.Prelude.{◌≡◌, ⊤, None, false};
 
 use edn::{Failed, MAX_LENGTH, Out};
-use judging::{In, Source, Text, ToolFault, Verdict, check_over, read_text};
+use judging::{In, Source, ToolFault, Verdict, WhichText, check_over, read_text};
 use std::io;
 use std::io::{ErrorKind, Read};
 use std::test::Fail;
@@ -148,13 +148,13 @@ fn readers_that_fail_in_mid_stream(rt: HostRuntime) -> Result<(), Fail> {
     let kind = ErrorKind::ConnectionReset;
     let (mut history, mut order) = (In::new(Broken { text, kind }), In::new(ORDER));
     let fault = fault_of(&rt, &mut history, &mut order);
-    assert!(rt; fault == Some(ToolFault::Read(Text::History)));
+    assert!(rt; fault == Some(ToolFault::Read(WhichText::History)));
     assert!(rt; history.has_failed() && !history.lacks_memory() && !order.has_failed());
     let (text, _) = ORDER.split_at(ORDER.len() / 2);
     let kind = ErrorKind::OutOfMemory;
     let (mut history, mut order) = (In::new(HISTORY), In::new(Broken { text, kind }));
     let fault = fault_of(&rt, &mut history, &mut order);
-    assert!(rt; fault == Some(ToolFault::Read(Text::Certificates)));
+    assert!(rt; fault == Some(ToolFault::Read(WhichText::Certificates)));
     assert!(rt; order.has_failed() && order.lacks_memory() && !history.has_failed());
     Ok(())
 }
@@ -164,10 +164,10 @@ fn readers_that_fail_in_mid_stream(rt: HostRuntime) -> Result<(), Fail> {
 fn a_source_that_fails_is_named(rt: HostRuntime) -> Result<(), Fail> {
     let (mut history, mut order) = (in_pieces(HISTORY, 9, true), in_pieces(ORDER, 9, true));
     let fault = fault_of(&rt, &mut history, &mut order);
-    assert!(rt; fault == Some(ToolFault::Read(Text::History)) && order.asked == 0);
+    assert!(rt; fault == Some(ToolFault::Read(WhichText::History)) && order.asked == 0);
     let (mut history, mut order) = (in_pieces(HISTORY, 9, false), in_pieces(ORDER, 9, true));
     let fault = fault_of(&rt, &mut history, &mut order);
-    assert!(rt; fault == Some(ToolFault::Read(Text::Certificates)));
+    assert!(rt; fault == Some(ToolFault::Read(WhichText::Certificates)));
     Ok(())
 }
 

@@ -2,7 +2,7 @@
 
 ghost use Rattle.std.specs.Prelude.{All, IfOk, IsTrue};
 ghost use Rattle.certificate.specs.Denotes.{AreDistinct};
-ghost use Rattle.edn_reader.specs.Datum.{Fits, max_open};
+ghost use Rattle.edn_reader.specs.Datum.{DatumFits, max_open};
 ghost use Rattle.edn_reader.specs.View.{view};
 
 use certificate::{Certificate, read_certificates_text};
@@ -14,7 +14,7 @@ use std::test::Fail;
 
 /// Whether each form fits, which is what the readers of forms ask.
 pub fn all_fit(forms: &[Form]) -> bool
-    ensures { IsTrue result → All (λ f. Fits max_open (view f)) forms.now }
+    ensures { IsTrue result → All (λ f. DatumFits max_open (view f)) forms.now }
 {
     forms.iter().all(|f| fits(f))
 }

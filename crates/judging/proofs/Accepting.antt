@@ -3,7 +3,7 @@ use Rattle.std.proofs.Common.{◌≡◌, ◌∙◌, ℕ, List, [], ◌∷◌, So
 use Rattle.edn_reader.specs.Datum.{Datum}
 use Rattle.edn_reader.specs.Spells.{Spells}
 use Rattle.events.specs.declared.event.Event.{Event}
-use Rattle.events.specs.Events.{IsNamed, kind_at, denoted}
+use Rattle.events.specs.Events.{IsNamed, kind_of_object, denoted}
 use Rattle.history.specs.Denotes as history_meaning
 use Rattle.certificate.specs.declared.Certificate.{Certificate}
 use Rattle.certificate.specs.Denotes.{Reading, certificate_of, reading_of}
@@ -15,7 +15,7 @@ use Rattle.judging.specs.Texts.{DenotesHistory, DenotesCertificates}
 
 pub one_history : (text : List ℕ) (ds : List Datum) (es fs : List Event)
     → ((d : List Datum) → Spells d text → d ≡ ds) → history_meaning.Denotes ds es → DenotesHistory text fs → fs ≡ es
-one_history text ds es fs only d h = h.denoted.events ∙ ap (history_meaning.events_from 0) (only h.forms h.spelled)
+one_history text ds es fs only d h = h.denoted.events ∙ ap (history_meaning.events_of_forms 0) (only h.forms h.spelled)
     ∙ sym d.events
 
 same_readings : (xs ys : List Certificate) → map (λ c. Some (reading_of c)) xs ≡ map (λ c. Some (reading_of c)) ys
@@ -67,7 +67,7 @@ same_valid es cs bs e v = record {
           for_object = sym
               (ap (λ (r : Reading). r.object) b.2) ∙ own.0.for_object;
         },
-        subst (IsValidOrder (kind_at es x) (calls_on x (denoted es))) (ap (λ (r : Reading). r.order) b.2) own.1,
+        subst (IsValidOrder (kind_of_object es x) (calls_on x (denoted es))) (ap (λ (r : Reading). r.order) b.2) own.1,
       );
   none_besides = all_from_in (λ c. IsNamed es c.object) bs (λ b i.
       let c = same_in bs cs (sym e) b i in

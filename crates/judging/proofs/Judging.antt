@@ -18,13 +18,13 @@ use Rattle.judging.specs.declared.texts.TextFailure.TheVariants.{Faulty}
 use Rattle.judging.specs.Texts.{AreValidTexts, DenoteOnly, DenotesHistory, DenotesCertificates, HasHistory}
 use Rattle.judging.specs.Texts.{IsCertificatesFault, IsHistoryFault}
 use Rattle.judging.specs.Texts.{IsHistoryRead, IsLinearizableText, verdict_of}
-use Rattle.judging.specs.Verdicts.{AreBothRead, Holds, IsYesUnlessMemory, Judges, JudgesBy, OnYes}
+use Rattle.judging.specs.Verdicts.{AreBothRead, IsJudgement, IsYesUnlessMemory, SaysOfTexts, SaysOfCertificates, OnYes}
 use Rattle.judging.proofs.Accepting.{same_valid}
 use Rattle.judging.proofs.Naming.{where_ok}
 use Rattle.judging.proofs.Verdicts.{judges_by, on_yes, yes_unless_memory}
 
 module _ (h c : List ℕ) (es : List Event) (cs : List Certificate) (t : DenoteOnly h c es cs) where
-  pub judged : (v : Verdict) → JudgesBy es cs v → Judges h c v
+  pub judged : (v : Verdict) → SaysOfCertificates es cs v → SaysOfTexts h c v
   judged (Yes s) k = (
     record {
       client_events = es;
@@ -67,7 +67,7 @@ ValidSuffice = (text : List ℕ) (es : List Event) (cs : List Certificate) → D
 -- the certificates were checked
 pub holds_checked : (h c : List ℕ) (es : List Event) (cs : List Certificate) (checked : Result (Unit {0}) Refusal)
     (v : Verdict) → ValidSuffice
-    → DenoteOnly h c es cs → IsCheckAnswer es cs checked → IsVerdictOnCheck es checked v → Holds h c v
+    → DenoteOnly h c es cs → IsCheckAnswer es cs checked → IsVerdictOnCheck es checked v → IsJudgement h c v
 holds_checked h c es cs checked v suffice t answer is = record {
   linearizable = on_yes es (IsLinearizableText h) checked v is
       (where_ok checked answer.valid (suffice h es cs t.history_text));
@@ -76,8 +76,8 @@ holds_checked h c es cs checked v suffice t answer is = record {
 }
 
 -- a text could not be read
-pub holds_stopped : (h c : List ℕ) (s : TextFailure) → Judges h c (verdict_of s)
-    → (AreValidTexts h c → s ≡ stop.NoMemory) → Holds h c (verdict_of s)
+pub holds_stopped : (h c : List ℕ) (s : TextFailure) → SaysOfTexts h c (verdict_of s)
+    → (AreValidTexts h c → s ≡ stop.NoMemory) → IsJudgement h c (verdict_of s)
 holds_stopped h c s judges accepts = record {
   linearizable = no_yes s;
   judges = judges;
@@ -95,7 +95,7 @@ pub stopped_history : {V : Type 0} (items : V → List Certificate) (h c : List 
 stopped_history items h c s r = record
     { texts = tt; stop = judges s r.stop; accepts = λ v. r.accepts v.client_events v.history_text v.history_short }
   where
-    judges : (t : TextFailure) → IsHistoryFault h t → Judges h c (verdict_of t)
+    judges : (t : TextFailure) → IsHistoryFault h t → SaysOfTexts h c (verdict_of t)
     judges (Faulty (HistoryText e)) f = f
     judges (Faulty (HistoryMaps e)) f = f
     judges (Faulty (CertificateText e)) f = absurd f
@@ -115,7 +115,7 @@ stopped_certificates items h c es s r fault accepts = record {
     has : HasHistory h
     has = (r.short, (es, r.denotes))
 
-    judges : (t : TextFailure) → IsCertificatesFault c t → Judges h c (verdict_of t)
+    judges : (t : TextFailure) → IsCertificatesFault c t → SaysOfTexts h c (verdict_of t)
     judges (Faulty (HistoryText e)) f = absurd f
     judges (Faulty (HistoryMaps e)) f = absurd f
     judges (Faulty (CertificateText e)) f = (has, f)

@@ -1,6 +1,6 @@
-pub mod Stopping
+pub mod ReadFaults
 pub mod Naming
 pub mod Accepting
 pub mod Verdicts
 pub mod Judging
-pub mod Consuming
+pub mod ReadSoFar

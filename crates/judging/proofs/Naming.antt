@@ -6,7 +6,7 @@ use Rattle.model.proofs.Lists.{In, all_from_in, contains_from_in}
 use Rattle.events.specs.declared.event.Action.{Action}
 use Rattle.events.specs.declared.event.Action.TheVariants.{Invoke, Ok as Returned, Fail, Info}
 use Rattle.events.specs.declared.event.Event.{Event}
-use Rattle.events.specs.Events.{IsNamed, kind_at, next_event, fails, denoted_by, denoted}
+use Rattle.events.specs.Events.{IsNamed, kind_of_object, next_event, fails, denoted_by, denoted}
 use Rattle.certificate.specs.declared.Certificate.{Certificate}
 use Rattle.checker.specs.declared.refusal.Refusal.{Refusal}
 use Rattle.checker.specs.Refusals.{AreValid}
@@ -39,8 +39,8 @@ call_named (e ∷ later) c i = one_named e later c (call_named later c) e.action
     (fails (next_event e.process later)) i
 
 pub orders : (es : List Event) (certificates : List Certificate) → AreValid es certificates
-    → All (λ call. HasValidOrder (kind_at es) (denoted es) call.object) (calls_in (denoted es))
-orders es certificates v = all_from_in (λ (c : ProcessCall). HasValidOrder (kind_at es) (denoted es) c.object)
+    → All (λ call. HasValidOrder (kind_of_object es) (denoted es) call.object) (calls_in (denoted es))
+orders es certificates v = all_from_in (λ (c : ProcessCall). HasValidOrder (kind_of_object es) (denoted es) c.object)
     (calls_in (denoted es))
     (λ c i. let own = v.each c.object (call_named es c i) in (own.0.certificate.order.items, own.1))
 

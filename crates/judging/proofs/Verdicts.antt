@@ -10,7 +10,7 @@ use Rattle.checker.specs.declared.refusal.Refusal.TheVariants as refusal
 use Rattle.report.specs.Verdicts.{IsVerdictOnCheck}
 use Rattle.report.specs.declared.verdict.Verdict.{Verdict}
 use Rattle.report.specs.declared.verdict.Verdict.TheVariants.{Yes, No, Malformed, NoMemory}
-use Rattle.judging.specs.Verdicts.{IsYesUnlessMemory, JudgesBy, OnYes}
+use Rattle.judging.specs.Verdicts.{IsYesUnlessMemory, SaysOfCertificates, OnYes}
 
 module _ (es : List Event) where
   pub on_yes : (P : Type 0) (r : Result (Unit {0}) Refusal) (v : Verdict) → IsVerdictOnCheck es r v → OnOk r P
@@ -25,7 +25,7 @@ module _ (es : List Event) where
   on_yes P (Err e) NoMemory k p = tt
 
   pub judges_by : (cs : List Certificate) (r : Result (Unit {0}) Refusal) (v : Verdict) → IsVerdictOnCheck es r v
-      → OnOk r (AreValid es cs) → IfErr r (IsFirstRefusal es cs) → JudgesBy es cs v
+      → OnOk r (AreValid es cs) → IfErr r (IsFirstRefusal es cs) → SaysOfCertificates es cs v
   judges_by cs (Ok u) (Yes s) k valid first = (valid, k)
   judges_by cs (Ok u) (No q) k valid first = absurd k
   judges_by cs (Ok u) (Malformed f) k valid first = absurd k

@@ -4,7 +4,7 @@ use Rattle.std.specs.Io.KnownBytes.{Appends}
 use Rattle.edn.specs.Given.{WasRead}
 use Rattle.edn.specs.Sent.{WritesPrefix}
 use Rattle.judging.specs.Texts.{IsLinearizableText, IsNotLinearizableText}
-use Rattle.judging.specs.Verdicts.{Holds}
+use Rattle.judging.specs.Verdicts.{IsJudgement}
 use Rattle.report.specs.Lines.{verdict_text}
 use Rattle.report.specs.declared.verdict.Verdict.{Verdict}
 use Rattle.judging.specs.Reads.{read_limit}
@@ -17,7 +17,7 @@ pub record IsVerdictOnRead (history history_left certificates certificates_left 
   pub second : List ℕ
   pub first_read : WasRead read_limit history history_left first
   pub second_read : WasRead read_limit certificates certificates_left second
-  pub holds : Holds first second v
+  pub holds : IsJudgement first second v
 
 -- The verdict is on what was read of both sources, and its lines were written. What the sink was
 -- sent is given as it was before and after.

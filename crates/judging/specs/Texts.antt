@@ -16,7 +16,7 @@ use Rattle.certificate.specs.Denotes as certificate_meaning
 use Rattle.certificate.specs.Faults as certificate_fault
 use Rattle.model.specs.Linearizable.{IsLinearizable}
 use Rattle.model.specs.Orders.{events}
-use Rattle.events.specs.Events.{kind_at, denoted}
+use Rattle.events.specs.Events.{kind_of_object, denoted}
 use Rattle.checker.specs.Refusals.{AreValid, IsFirstRefusal}
 use Rattle.checker.specs.declared.refusal.Refusal.{Refusal}
 use Rattle.checker.specs.declared.refusal.Refusal.TheVariants as refusal
@@ -69,9 +69,9 @@ IsNoMemory (CertificateText e) = e.kind ≡ edn_kind.NoMemory
 IsNoMemory (CertificateForms f) = f.kind ≡ certificate_kind.NoMemory
 
 -- Reading stops by an allocation failure if that is the fault, and not otherwise.
-abbrev pub IsFailureOf : Fault → TextFailure → Type 0
-IsFailureOf fault (Faulty f) = (f ≡ fault) × ¬ (IsNoMemory fault)
-IsFailureOf fault NoMemory = IsNoMemory fault
+abbrev pub IsTextFailureOf : Fault → TextFailure → Type 0
+IsTextFailureOf fault (Faulty f) = (f ≡ fault) × ¬ (IsNoMemory fault)
+IsTextFailureOf fault NoMemory = IsNoMemory fault
 
 -- The text is not too long, and spells forms of which this is the first fault.
 abbrev pub SpellsWithFault : {F : Type 0} → (List Datum → F → Type 0) → List ℕ → F → Type 0
@@ -84,7 +84,8 @@ abbrev pub AreCertificatesSound : List ℕ → Type 0
 AreCertificatesSound c =
     IsShort c
     × (((place : ℕ) × IsSoundAt place c)
-    ⊎ ((ds : List Datum) × Spells ds c × (form : ℕ) × certificate_fault.IsSoundAt ds form))
+    ⊎ ((ds : List Datum) × Spells ds c × (form : ℕ)
+    × certificate_fault.IsCertificateSoundAt ds form))
 
 -- what stops the reading of a history's text, or of a certificates' text
 abbrev pub IsHistoryFault : List ℕ → TextFailure → Type 0
@@ -142,14 +143,15 @@ pub record AreValidTexts (h c : List ℕ) : Type 0 where
 pub record IsLinearizableText (h : List ℕ) : Type 0 where
   pub client_events : List Event
   pub history_text : DenotesHistory h client_events
-  pub linearizable : IsLinearizable (kind_at client_events) (events (denoted client_events))
+  pub linearizable : IsLinearizable (kind_of_object client_events) (events (denoted client_events))
 
 -- The history that the text denotes is not linearizable. A text denotes one history at most
 -- (`one_history`), so this and `IsLinearizableText` exclude each other.
 pub record IsNotLinearizableText (h : List ℕ) : Type 0 where
   pub client_events : List Event
   pub history_text : DenotesHistory h client_events
-  pub not_linearizable : IsLinearizable (kind_at client_events) (events (denoted client_events)) → ⊥
+  pub not_linearizable : IsLinearizable (kind_of_object client_events)
+      (events (denoted client_events)) → ⊥
 
 -- The texts denote a history and certificates, of which this is the first refusal. Neither is too
 -- long to be read.

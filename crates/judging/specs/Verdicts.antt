@@ -14,21 +14,21 @@ use Rattle.report.specs.declared.verdict.Verdict.TheVariants.{Yes, No, Malformed
 
 -- What a verdict says about the certificates of a history. Yes: they are valid, and the counts are
 -- those of the history. No: this is their first refusal. `NoMemory` says nothing.
-abbrev pub JudgesBy : List Event → List Certificate → Verdict → Type 0
-JudgesBy es cs (Yes s) = AreValid es cs × AreCountsOf es s
-JudgesBy es cs (No r) = IsFirstRefusal es cs r × (r ≢ refusal.NoMemory)
-JudgesBy es cs (Malformed f) = ⊥
-JudgesBy es cs NoMemory = ⊤
+abbrev pub SaysOfCertificates : List Event → List Certificate → Verdict → Type 0
+SaysOfCertificates es cs (Yes s) = AreValid es cs × AreCountsOf es s
+SaysOfCertificates es cs (No r) = IsFirstRefusal es cs r × (r ≢ refusal.NoMemory)
+SaysOfCertificates es cs (Malformed f) = ⊥
+SaysOfCertificates es cs NoMemory = ⊤
 
 -- What a verdict says about the text of a history and that of certificates. Yes: they denote a
 -- history and valid certificates, and the counts are those of that history. No: they denote a
 -- history and certificates, of which this is the first refusal. Malformed: this is the fault of the
 -- first text that has one. NoMemory: nothing was wrong yet.
-abbrev pub Judges : List ℕ → List ℕ → Verdict → Type 0
-Judges h c (Yes s) = (texts : AreValidTexts h c) × AreCountsOf texts.client_events s
-Judges h c (No r) = IsFirstRefusalText h c r
-Judges h c (Malformed f) = IsFirstFault h c f
-Judges h c NoMemory = AreSoundSoFar h c
+abbrev pub SaysOfTexts : List ℕ → List ℕ → Verdict → Type 0
+SaysOfTexts h c (Yes s) = (texts : AreValidTexts h c) × AreCountsOf texts.client_events s
+SaysOfTexts h c (No r) = IsFirstRefusalText h c r
+SaysOfTexts h c (Malformed f) = IsFirstFault h c f
+SaysOfTexts h c NoMemory = AreSoundSoFar h c
 
 -- if it is Yes
 abbrev pub OnYes : Verdict → Type 0 → Type 0
@@ -45,9 +45,9 @@ IsYesUnlessMemory (Malformed f) = ⊥
 IsYesUnlessMemory NoMemory = ⊤
 
 -- all that `judge` promises of its answer
-pub record Holds (h c : List ℕ) (v : Verdict) : Type 0 where
+pub record IsJudgement (h c : List ℕ) (v : Verdict) : Type 0 where
   pub linearizable : OnYes v (IsLinearizableText h)
-  pub judges : Judges h c v
+  pub judges : SaysOfTexts h c v
   pub accepts : AreValidTexts h c → IsYesUnlessMemory v
 
 -- What was read of both texts: the history and the certificates that they denote, or what
@@ -55,5 +55,5 @@ pub record Holds (h c : List ℕ) (v : Verdict) : Type 0 where
 pub record AreBothRead {V : Type 0} (items : V → List Certificate) (h c : List ℕ)
     (r : Result (List Event × V) TextFailure) : Type 0 where
   pub texts : IfOk r (λ both. DenoteOnly h c both.0 (items both.1))
-  pub stop : IfErr r (λ s. Judges h c (verdict_of s))
+  pub stop : IfErr r (λ s. SaysOfTexts h c (verdict_of s))
   pub accepts : IfErr r (λ s. AreValidTexts h c → s ≡ stopped.NoMemory)

@@ -3,7 +3,7 @@
 ghost use Rattle.std.specs.Prelude.{◌≡◌, ◌≢◌, ℕ, List, false, true, IfOk, IfErr, OnErr};
 ghost use Rattle.std.specs.Io.KnownBytes.{Appends};
 ghost use Rattle.edn.specs.Sent.{WritesPrefix};
-ghost use Rattle.judging.specs.Verdicts.{Holds, OnYes};
+ghost use Rattle.judging.specs.Verdicts.{IsJudgement, OnYes};
 ghost use Rattle.report.specs.Lines.{verdict_text};
 ghost use Rattle.report.specs.declared.verdict.Verdict.{Verdict as ReportVerdict};
 ghost use Rattle.judging.specs.Checks.{IsCutOff, IsJudged, IsLinearizableRead};
@@ -23,7 +23,7 @@ use thiserror::Error;
 
 /// One of the two texts.
 #[derive(Clone, Copy, Debug, PartialEq, Eq)]
-pub enum Text {
+pub enum WhichText {
     History,
     Certificates,
 }
@@ -33,7 +33,7 @@ pub enum Text {
 pub enum ToolFault {
     /// X1: the text's source failed. Nothing was written.
     #[error("a text could not be read")]
-    Read(Text),
+    Read(WhichText),
     /// X2: the sink failed. A beginning of the verdict's lines was written.
     #[error("the output failed")]
     Write,
@@ -43,7 +43,7 @@ pub enum ToolFault {
 }
 
 /// The fault if this text could not be read.
-fn fault_of_reading(text: Text, fault: ReadFault) -> ToolFault
+fn fault_of_reading(text: WhichText, fault: ReadFault) -> ToolFault
     ensures failed { fault ≡ ReadFault.Failed → result ≡ ToolFault.Read text }
     ensures memory { fault ≡ ReadFault.NoMemory → result ≡ ToolFault.NoMemory }
 {
@@ -65,12 +65,12 @@ fn judge_and_write<R: Threads + Sync, W: Sink>(
 ) -> Result<Verdict, Failed>
     requires { W.broken sink.old ≡ false }
     ensures judged { (h : List ℕ) → IsHistoryRead h history → IfOk result (λ v.
-        Holds h certificates.now v
+        IsJudgement h certificates.now v
         × Appends (W.sent sink.old) (W.sent sink.new) (verdict_text false v)) }
     ensures usable { IfOk result (λ _. W.broken sink.new ≡ false) }
     ensures failed { OnErr result (W.broken sink.new ≡ true) }
     ensures front { (h : List ℕ) → IsHistoryRead h history → OnErr result
-        ((v : ReportVerdict) × Holds h certificates.now v
+        ((v : ReportVerdict) × IsJudgement h certificates.now v
         × WritesPrefix (W.sent sink.old) (W.sent sink.new) (verdict_text false v)) }
 {
     let verdict = judge_read(rt, alloc, history, certificates, workers);
@@ -105,14 +105,14 @@ pub fn check_over<R: Threads + Sync, H: Source, C: Source, W: Sink>(
         (C.remaining certificates.new) (W.sent sink.old) (W.sent sink.new)) }
     ensures usable { IfOk result (λ _. W.broken sink.new ≡ false) }
     // X1
-    ensures unread_history { IfErr result (λ e. e ≡ ToolFault.Read Text.History →
+    ensures unread_history { IfErr result (λ e. e ≡ ToolFault.Read WhichText.History →
         (H.broken history.new ≡ true) × (certificates.new ≡ certificates.old)) }
-    ensures unread_certificates { IfErr result (λ e. e ≡ ToolFault.Read Text.Certificates →
+    ensures unread_certificates { IfErr result (λ e. e ≡ ToolFault.Read WhichText.Certificates →
         (H.broken history.new ≡ false) × (C.broken certificates.new ≡ true)) }
     // `check_over` returns it only if that source refused a call.
-    ensures history_refused { IfErr result (λ e. e ≡ ToolFault.Read Text.History →
+    ensures history_refused { IfErr result (λ e. e ≡ ToolFault.Read WhichText.History →
         WasRefused H.remaining H.refuses history.old history.new) }
-    ensures certificates_refused { IfErr result (λ e. e ≡ ToolFault.Read Text.Certificates →
+    ensures certificates_refused { IfErr result (λ e. e ≡ ToolFault.Read WhichText.Certificates →
         WasRefused C.remaining C.refuses certificates.old certificates.new) }
     // X2
     ensures unwritten { IfErr result (λ e. e ≡ ToolFault.Write → (W.broken sink.new ≡ true)
@@ -126,13 +126,13 @@ pub fn check_over<R: Threads + Sync, H: Source, C: Source, W: Sink>(
 {
     let first = match read_text(alloc, history) {
         Ok(bytes) => bytes,
-        Err(fault) => return Err(fault_of_reading(Text::History, fault)),
+        Err(fault) => return Err(fault_of_reading(WhichText::History, fault)),
     };
     let read = history_of_text_by_workers(rt, alloc, &first, workers);
     drop(first);
     let second = match read_text(alloc, certificates) {
         Ok(bytes) => bytes,
-        Err(fault) => return Err(fault_of_reading(Text::Certificates, fault)),
+        Err(fault) => return Err(fault_of_reading(WhichText::Certificates, fault)),
     };
     match judge_and_write(rt, alloc, read, &second, workers, sink) {
         Ok(verdict) => Ok(verdict),

@@ -4,7 +4,7 @@ ghost use Rattle.std.specs.Prelude.{ℕ, List};
 ghost use Rattle.certificate.specs.Denotes.{AreDistinct};
 ghost use Rattle.checker.specs.Refusals.{IsCheckAnswer};
 ghost use Rattle.judging.specs.Texts.{IsLinearizableText, IsHistoryRead};
-ghost use Rattle.judging.specs.Verdicts.{Holds, OnYes};
+ghost use Rattle.judging.specs.Verdicts.{IsJudgement, OnYes};
 
 use crate::laws::valid_certificates_suffice;
 use crate::pieces::{MAX_WORKERS, history_of_text_by_workers};
@@ -46,7 +46,7 @@ pub(crate) fn judge_read<R: Threads + Sync>(
     certificates: &[u8],
     workers: u32,
 ) -> Verdict
-    ensures { (h : List ℕ) → IsHistoryRead h history → Holds h certificates.now result }
+    ensures { (h : List ℕ) → IsHistoryRead h history → IsJudgement h certificates.now result }
 {
     // This does nothing: it is locality.
     valid_certificates_suffice();
@@ -79,7 +79,7 @@ pub fn judge<R: Threads + Sync>(
     workers: u32,
 ) -> Verdict
     ensures linearizable { OnYes result (IsLinearizableText history.now) }
-    ensures holds { Holds history.now certificates.now result }
+    ensures holds { IsJudgement history.now certificates.now result }
 {
     let read = history_of_text_by_workers(rt, alloc, history, workers);
     judge_read(rt, alloc, read, certificates, workers)
@@ -88,7 +88,7 @@ pub fn judge<R: Threads + Sync>(
 /// Judges two texts as `judge` does. It starts no thread.
 pub fn judge_alone(alloc: Global, history: &[u8], certificates: &[u8]) -> Verdict
     ensures linearizable { OnYes result (IsLinearizableText history.now) }
-    ensures holds { Holds history.now certificates.now result }
+    ensures holds { IsJudgement history.now certificates.now result }
 {
     // This does nothing: it is locality.
     valid_certificates_suffice();

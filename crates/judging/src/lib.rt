@@ -10,7 +10,7 @@ mod pieces;
 mod reading;
 mod texts;
 
-pub use check::{Text, ToolFault, check_over};
+pub use check::{ToolFault, WhichText, check_over};
 pub use decision::{judge, judge_alone};
 pub use edn::{In, Source};
 pub use file::NamedFile;

@@ -6,7 +6,7 @@ ghost use Rattle.certificate.specs.declared.Certificate.{Certificate};
 ghost use Rattle.certificate.specs.Denotes.{AreDistinct, reading_of};
 ghost use Rattle.edn_reader.specs.Sound.{IsShort};
 ghost use Rattle.judging.specs.Texts.{DenotesHistory, DenotesCertificates, IsNoMemory};
-ghost use Rattle.judging.specs.Texts.{IsFailureOf, IsHistoryFault, IsCertificatesFault};
+ghost use Rattle.judging.specs.Texts.{IsTextFailureOf, IsHistoryFault, IsCertificatesFault};
 ghost use Rattle.judging.specs.Texts.{IsHistoryRead};
 ghost use Rattle.judging.specs.Verdicts.{AreBothRead};
 
@@ -52,7 +52,7 @@ fn is_no_memory(fault: &Fault) -> bool
 
 /// What stops the reading if this fault was found.
 fn failure_of_fault(fault: Fault) -> TextFailure
-    ensures { IsFailureOf fault result }
+    ensures { IsTextFailureOf fault result }
 {
     if is_no_memory(&fault) {
         TextFailure::NoMemory

@@ -5,7 +5,7 @@ use Rattle.std.proofs.Common.{◌<◌, length, map, set, get_or, sym, ◌∙◌,
 use Rattle.std.specs.declared.vec.Vec.{Vec}
 use Rattle.std.proofs.lemmas.List.{map-set, get_or-map, map-append, set-get_or}
 use Rattle.std.proofs.Math.ListN as ListN
-use Rattle.recorder.specs.Records.{items_of}
+use Rattle.recorder.specs.Records.{items_of_each}
 use Rattle.desk_model.specs.declared.JournalEvent.TheVariants.{Returned}
 use Rattle.desk_model.specs.World.{AnyRequest, AnyAnswer, AnyDone, invoked, journal_of}
 use Rattle.machine.specs.Machines.{done_in}
@@ -29,26 +29,27 @@ journal_returned (d ∷ ds) q a u =
 
 -- a list in a list of lists is written
 pub items_of-set : {A Z : Type 0} (vs : List (Vec A Z)) (c : ℕ) (v : Vec A Z)
-    → items_of (set vs c v) ≡ set (items_of vs) c v.items
+    → items_of_each (set vs c v) ≡ set (items_of_each vs) c v.items
 items_of-set vs c v = map-set (λ w. w.items) vs c v
 
 pub items_at : {A Z : Type 0} (vs : List (Vec A Z)) (c : ℕ) (v : Vec A Z) → c < length vs → v ≡ get_or vs c v
-    → get_or (items_of vs) c [] ≡ v.items
+    → get_or (items_of_each vs) c [] ≡ v.items
 items_at vs c v low read = get_or-map (λ w. w.items) vs c v [] low ∙ ap (λ w. w.items) (sym read)
 
 -- one of the lists grew, or is as it was
 pub grown : {A Z : Type 0} (vs : List (Vec A Z)) (c : ℕ) (old new : Vec A Z) (e : A) → c < length vs
     → old ≡ get_or vs c old
     → new.items ≡ old.items ++ e ∷ []
-    → items_of (set vs c new) ≡ set (items_of vs) c (get_or (items_of vs) c [] ++ e ∷ [])
+    → items_of_each (set vs c new) ≡ set (items_of_each vs) c (get_or (items_of_each vs) c [] ++ e ∷ [])
 grown vs c old new e low read is =
-    items_of-set vs c new ∙ ap (set (items_of vs) c) (is ∙ ap (λ es. es ++ e ∷ []) (sym (items_at vs c old low read)))
+    items_of-set vs c new ∙ ap (set (items_of_each vs) c)
+    (is ∙ ap (λ es. es ++ e ∷ []) (sym (items_at vs c old low read)))
 
 pub ungrown : {A Z : Type 0} (vs : List (Vec A Z)) (c : ℕ) (old new : Vec A Z) → c < length vs → old ≡ get_or vs c old
-    → new.items ≡ old.items → items_of (set vs c new) ≡ items_of vs
+    → new.items ≡ old.items → items_of_each (set vs c new) ≡ items_of_each vs
 ungrown vs c old new low read is =
-    items_of-set vs c new ∙ ap (set (items_of vs) c) (is ∙ sym (items_at vs c old low read))
-    ∙ set-get_or (items_of vs) c []
+    items_of-set vs c new ∙ ap (set (items_of_each vs) c) (is ∙ sym (items_at vs c old low read))
+    ∙ set-get_or (items_of_each vs) c []
 
 -- the same, with each element seen through f
 pub seen_grown : {A B : Type 0} (f : A → B) (xs : List (List A)) (c : ℕ) (e : A)

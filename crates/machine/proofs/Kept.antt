@@ -20,7 +20,7 @@ use Rattle.desk_model.proofs.Changed.{changed_here, changed_else, changed_all}
 use Rattle.machine.specs.declared.step.Stage.TheVariants.{Idle, Drawn, Answered}
 use Rattle.machine.specs.Machines.{State, AnyStage, HasRun, IsMachine, clients_of, world_of, stage_of, done_in}
 use Rattle.machine.specs.Runs.{Leads, IsWorldOfRun, IsImpossible}
-use Rattle.machine.specs.Steps.{IsGoing, IsTaken}
+use Rattle.machine.specs.Steps.{IsGoing, IsStepTaken}
 use Rattle.desk_model.proofs.Entries.{replays_more}
 use Rattle.machine.proofs.Lists.{get_or-set, slice_get-set_same, slice_get-set_other, map-set_same_at}
 use Rattle.machine.proofs.States.{world-staged, world-ticked, world-held, world-handed, world-served, world-ended}
@@ -35,8 +35,8 @@ leads_more kinds quota w [] m between after l h = (after, subst (λ z. Transitio
 leads_more kinds quota w (n ∷ ns) m between after l h = (l.0, l.1, leads_more kinds quota l.0 ns m between after l.2 h)
 
 -- what holds of one state holds of the same state under another name
-pub taken_of : (s t s' : State) (c : ℕ) (w : Step) → s ≡ t → IsTaken s c w s' → IsTaken t c w s'
-taken_of s t s' c w e h = subst (λ (z : State). IsTaken z c w s') e h
+pub taken_of : (s t s' : State) (c : ℕ) (w : Step) → s ≡ t → IsStepTaken s c w s' → IsStepTaken t c w s'
+taken_of s t s' c w e h = subst (λ (z : State). IsStepTaken z c w s') e h
 
 pub not_of : (s t : State) (c : ℕ) (w : Step) → s ≡ t → IsImpossible s.kinds s.quota (world_of s) (c, w)
     → IsImpossible t.kinds t.quota (world_of t) (c, w)
@@ -52,7 +52,7 @@ run_more kinds n quota step w after c r h =
     (r.0 ++ (c, step) ∷ [], leads_more kinds quota _ r.0 (c, step) w after r.1 h)
 
 -- a step of a machine is one
-pub run_taken : (s s' : State) (c : ℕ) (w : Step) → HasRun s → IsTaken s c w s' → HasRun s'
+pub run_taken : (s s' : State) (c : ℕ) (w : Step) → HasRun s → IsStepTaken s c w s' → HasRun s'
 run_taken s s' c w run t = rw (t.kinds, t.clients, t.quota)
     (run_more s.kinds (clients_of s) s.quota w (world_of s) (world_of s') c run t.moves)
 
@@ -94,7 +94,7 @@ module _ (contents : List Content) (s : State) (m : IsMachine contents s) (c : �
 
   pub kept : (contents' : List Content) (s' : State) (w : Step) → IsLike s s'
       → Takes s.kinds s.quota w (world_of s) c (world_of s') → Keeps contents' s'
-      → IsMachine contents' s' × IsTaken s c w s'
+      → IsMachine contents' s' × IsStepTaken s c w s'
   kept contents' s' w like takes keeps =
       let moved : Transition s.kinds s.quota w (world_of s) c (world_of s') = moves_on w (world_of s') takes in
       let ek = like.kinds in let eq = like.quota in let el = like.logs in let eh = like.holders in
@@ -137,7 +137,7 @@ module _ (contents : List Content) (s : State) (m : IsMachine contents s) (c : �
       → Takes s.kinds s.quota w (world_of s) c (staged (world_of s) c (stage_of t))
       → request_of (stage_of t) ≡ request_of ((world_of s).stage c)
       → IsMachine contents (record s { stages = set s.stages c t })
-      × IsTaken s c w (record s { stages = set s.stages c t })
+      × IsStepTaken s c w (record s { stages = set s.stages c t })
   staged_now t w takes same =
       let s' : State = record s { stages = set s.stages c t } in
       let is : world_of s' ≡ staged (world_of s) c (stage_of t) = world-staged s c t go.0 in
@@ -159,7 +159,7 @@ module _ (contents : List Content) (s : State) (m : IsMachine contents s) (c : �
       → ((d y z : ℕ) → changed (λ k. get_or s.holders k None) x h y ≡ Some d
       → changed (λ k. get_or s.holders k None) x h z ≡ Some d → y ≡ z)
       → IsMachine contents (record s { holders = set s.holders x h })
-      × IsTaken s c w (record s { holders = set s.holders x h })
+      × IsStepTaken s c w (record s { holders = set s.holders x h })
   held_now x h w low takes single =
       let s' : State = record s { holders = set s.holders x h } in
       let is : world_of s' ≡ held_by (world_of s) x h = world-held s x h low in
@@ -176,7 +176,7 @@ module _ (contents : List Content) (s : State) (m : IsMachine contents s) (c : �
 
   pub win_now : (x : ℕ) → x < length s.kinds → (world_of s).holder x ≡ None → HoldsNothing (world_of s) c
       → IsMachine contents (record s { holders = set s.holders x (Some c) })
-      × IsTaken s c (win x) (record s { holders = set s.holders x (Some c) })
+      × IsStepTaken s c (win x) (record s { holders = set s.holders x (Some c) })
   win_now x low free nothing = let e = m.holders in held_now x (Some c) (win x) (omega arith)
       (record { on_object = low; free = free; holds_nothing = nothing; after = refl }) single
     where
@@ -196,7 +196,7 @@ module _ (contents : List Content) (s : State) (m : IsMachine contents s) (c : �
 
   pub release_now : (x : ℕ) → x < length s.kinds → (world_of s).holder x ≡ Some c → (world_of s).hand x ≡ None
       → IsMachine contents (record s { holders = set s.holders x None })
-      × IsTaken s c release (record s { holders = set s.holders x None })
+      × IsStepTaken s c release (record s { holders = set s.holders x None })
   release_now x low held hand = let e = m.holders in held_now x None release (omega arith)
       (record { object = x; held = held; free = hand; after = refl }) single
     where
@@ -209,7 +209,7 @@ module _ (contents : List Content) (s : State) (m : IsMachine contents s) (c : �
 
   pub end_now : MayEnd ((world_of s).stage c) → HoldsNothing (world_of s) c
       → IsMachine contents (record s { ended = set s.ended c true })
-      × IsTaken s c end (record s { ended = set s.ended c true })
+      × IsStepTaken s c end (record s { ended = set s.ended c true })
   end_now may nothing =
       let s' : State = record s { ended = set s.ended c true } in
       let low = go.0 in let long = m.ended in let within : c < length s.ended = omega arith in
@@ -227,7 +227,7 @@ module _ (contents : List Content) (s : State) (m : IsMachine contents s) (c : �
       → Takes s.kinds s.quota w (world_of s) c (ticked (world_of s) c (stage_of t) (done_in js))
       → js ≡ journal_of (done_in js) (request_of (stage_of t))
       → IsMachine contents (record s { clock = s.clock + 1; stages = set s.stages c t; journals = set s.journals c js })
-      × IsTaken s c w (record s { clock = s.clock + 1; stages = set s.stages c t; journals = set s.journals c js })
+      × IsStepTaken s c w (record s { clock = s.clock + 1; stages = set s.stages c t; journals = set s.journals c js })
   ticked_now t js w takes here =
       let s' : State = record s { clock = s.clock + 1; stages = set s.stages c t; journals = set s.journals c js } in
       let low = go.0 in let long = m.journals in let within : c < length s.journals = omega arith in
@@ -259,7 +259,7 @@ module _ (contents : List Content) (s : State) (m : IsMachine contents s) (c : �
         stages = set s.stages c (Drawn q);
         journals = set s.journals c (get_or s.journals c [] ++ invoked q ∷ []);
       } in
-      IsMachine contents s' × IsTaken s c (draw_call x op) s'
+      IsMachine contents s' × IsStepTaken s c (draw_call x op) s'
   call_now x op idle few low kind =
       let q : AnyRequest = record { object = x; ticket = s.clock; op = op } in
       let ds : List AnyDone = (world_of s).done c in
@@ -283,7 +283,7 @@ module _ (contents : List Content) (s : State) (m : IsMachine contents s) (c : �
         stages = set s.stages c Idle;
         journals = set s.journals c (get_or s.journals c [] ++ Returned s.clock a ∷ []);
       } in
-      IsMachine contents s' × IsTaken s c draw_return s'
+      IsMachine contents s' × IsStepTaken s c draw_return s'
   return_now q a taken =
       let ds : List AnyDone = (world_of s).done c in
       let es : List AnyDone = ds ++ record { request = q; answer = a; returned = s.clock } ∷ [] in
@@ -303,7 +303,7 @@ module _ (contents : List Content) (s : State) (m : IsMachine contents s) (c : �
       → Takes s.kinds s.quota w (world_of s) c (handed (world_of s) x h r (stage_of t))
       → request_of (stage_of t) ≡ request_of ((world_of s).stage r)
       → IsMachine contents (record s { hands = set s.hands x h; stages = set s.stages r t })
-      × IsTaken s c w (record s { hands = set s.hands x h; stages = set s.stages r t })
+      × IsStepTaken s c w (record s { hands = set s.hands x h; stages = set s.stages r t })
   handed_now x h r t w low within takes same =
       let s' : State = record s { hands = set s.hands x h; stages = set s.stages r t } in
       let long = m.hands in
@@ -331,7 +331,7 @@ module _ (contents : List Content) (s : State) (m : IsMachine contents s) (c : �
         hands = set s.hands x None;
         stages = set s.stages r (Answered q a);
       } in
-      IsMachine (set contents x after) s' × IsTaken s c answer s'
+      IsMachine (set contents x after) s' × IsStepTaken s c answer s'
   served_now x r q before after a at low within kind same held hand stage can serves =
       let s' : State = record s {
         logs = set s.logs x (get_or s.logs x [] ++ logged r q a);

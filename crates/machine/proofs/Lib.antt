@@ -7,6 +7,6 @@ pub mod WorldRuns
 pub mod Looks
 pub mod Hands
 pub mod Trying
-pub mod Turns
+pub mod StepsInARow
 pub mod Recording
 pub mod Starting

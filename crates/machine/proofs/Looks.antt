@@ -7,7 +7,7 @@ use Rattle.std.proofs.lemmas.List.{length-map, get_or-map, get_or_past}
 use Rattle.model.specs.declared.Kind.{Kind}
 use Rattle.model.specs.declared.AnyOp.{AnyOp}
 use Rattle.model.specs.Objects.{Content, empty, next, kind_with}
-use Rattle.recorder.specs.Records.{items_of}
+use Rattle.recorder.specs.Records.{items_of_each}
 use Rattle.desk_model.specs.World as world
 use Rattle.desk_model.specs.World.{AnyDone, journal_of, kind_at, calls_made, request_of, Replays}
 use Rattle.desk_model.proofs.SameKind.{replays_once}
@@ -17,9 +17,9 @@ use Rattle.machine.proofs.WorldRuns.{run_sound}
 
 -- a list in a list of lists, of which each element is seen through f
 pub length_seen : {A B Z : Type 0} (f : A → B) (vs : List (Vec A Z)) (c : ℕ) (v : Vec A Z) → c < length vs
-    → v ≡ get_or vs c v → length (get_or (map (map f) (items_of vs)) c []) ≡ length v.items
+    → v ≡ get_or vs c v → length (get_or (map (map f) (items_of_each vs)) c []) ≡ length v.items
 length_seen f vs c v low read =
-    ap length (get_or-map (map f) (items_of vs) c v.items [] (simp length-map low)
+    ap length (get_or-map (map f) (items_of_each vs) c v.items [] (simp length-map low)
     ∙ ap (map f) (get_or-map (λ w. w.items) vs c v v.items low ∙ ap (λ w. w.items) (sym read))) ∙ simp length-map
 
 pub length-journal_of : (ds : List AnyDone) → length (journal_of ds None) ≡ 2 * length ds

@@ -9,7 +9,7 @@ use Rattle.model.specs.declared.AnyOp.{AnyOp}
 use Rattle.model.specs.declared.AnyReply.{AnyReply}
 use Rattle.model.specs.declared.Kind.TheVariants.{Queue}
 use Rattle.model.specs.Objects.{Content, kind_of, kind_with, next}
-use Rattle.recorder.specs.Records.{items_of}
+use Rattle.recorder.specs.Records.{items_of_each}
 use Rattle.desk_model.specs.World as world
 use Rattle.desk_model.specs.World.{AnyRequest, AnyAnswer, kind_at, calls_made, logged, Serves, request_of}
 use Rattle.desk_model.specs.Transitions.{Step, Takes, MayEnd, HoldsNothing, staged, draw_call, draw_return, post, take}
@@ -26,7 +26,7 @@ use Rattle.machine.specs.declared.step.Stage.{Stage}
 use Rattle.machine.specs.declared.step.Stage.TheVariants.{Idle, Drawn, Posted, Picked, Answered, Taken}
 use Rattle.machine.specs.Machines.{State, IsMachine, clients_of, world_of, state_of, stage_in, stage_of}
 use Rattle.machine.specs.Runs.{IsImpossible}
-use Rattle.machine.specs.Steps.{CanDo, HasContent, IsInHand, IsGoing, IsTaken}
+use Rattle.machine.specs.Steps.{CanDo, HasContent, IsInHand, IsGoing, IsStepTaken}
 use Rattle.machine.proofs.Kept.{staged_now, call_now, return_now, win_now, release_now, end_now, handed_now, served_now}
 use Rattle.machine.proofs.Lists.{map-set_same_at}
 use Rattle.machine.proofs.Journals.{items_of-set, items_at, seen_grown}
@@ -40,8 +40,8 @@ none_of (Some v) never = absurd (never refl)
 module _ {S O R : Type 0} (content : S → Content) (op_in : O → AnyOp) (reply_in : R → AnyReply) where
   abbrev pub state_in : Inside S O R → State
   state_in m = state_of content op_in reply_in m.objects.items
-      (items_of m.logs.items) m.holders.items m.hands.items m.stages.items
-      (items_of m.journals.items) m.ended.items m.clock m.quota
+      (items_of_each m.logs.items) m.holders.items m.hands.items m.stages.items
+      (items_of_each m.journals.items) m.ended.items m.clock m.quota
 
   pub journal_there : (m : Inside S O R) → IsMachine (map content m.objects.items) (state_in m) → (c : ℕ)
       → c < clients_of (state_in m) → c < length m.journals.items
@@ -66,15 +66,15 @@ module _ {S O R : Type 0} (content : S → Content) (op_in : O → AnyOp) (reply
   -- with another stage of the client c
   abbrev pub state_staged : Inside S O R → ℕ → Stage O R → State
   state_staged m c t = state_of content op_in reply_in m.objects.items
-      (items_of m.logs.items) m.holders.items m.hands.items (set m.stages.items c t)
-      (items_of m.journals.items) m.ended.items m.clock m.quota
+      (items_of_each m.logs.items) m.holders.items m.hands.items (set m.stages.items c t)
+      (items_of_each m.journals.items) m.ended.items m.clock m.quota
 
   pub staged_inside : (m : Inside S O R) → IsMachine (map content m.objects.items) (state_in m) → (c : ℕ)
       → IsGoing (state_in m) c → (t : Stage O R) (w : Step)
       → Takes (state_in m).kinds (state_in m).quota w (world_of (state_in m)) c
       (staged (world_of (state_in m)) c (stage_of (stage_in op_in reply_in t)))
       → request_of (stage_of (stage_in op_in reply_in t)) ≡ request_of ((world_of (state_in m)).stage c)
-      → IsMachine (map content m.objects.items) (state_staged m c t) × IsTaken (state_in m) c w (state_staged m c t)
+      → IsMachine (map content m.objects.items) (state_staged m c t) × IsStepTaken (state_in m) c w (state_staged m c t)
   staged_inside m is c go t w takes same = rw (map-set (stage_in op_in reply_in) m.stages.items c t)
       (staged_now (map content m.objects.items) (state_in m) is c go (stage_in op_in reply_in t) w takes same)
 
@@ -108,7 +108,7 @@ module _ {S O R : Type 0} (content : S → Content) (op_in : O → AnyOp) (reply
       (same : state_in m ≡ now) (c : ℕ) where
     -- a step to s' is taken
     abbrev pub Took : Step → State → Type 0
-    Took w s' = IsMachine (map content m.objects.items) s' × IsTaken now c w s'
+    Took w s' = IsMachine (map content m.objects.items) s' × IsStepTaken now c w s'
 
     pub win_done : (x : ℕ) → IsGoing now c → x < length now.kinds → (world_of now).holder x ≡ None
         → HoldsNothing (world_of now) c
@@ -175,13 +175,13 @@ module _ {S O R : Type 0} (content : S → Content) (op_in : O → AnyOp) (reply
     }
 
     -- the journals are as they were
-    pub unticked : (js : List (List (JournalEvent O R))) → js ≡ items_of m.journals.items
+    pub unticked : (js : List (List (JournalEvent O R))) → js ≡ items_of_each m.journals.items
         → record (state_in m) { journals = map (map (event_in op_in reply_in)) js } ≡ now
     unticked js e = (λ i. record (state_in m) { journals = map (map (event_in op_in reply_in)) (e i) }) ∙ same
 
     pub call_done : (x : ℕ) (op : O) (js : List (List (JournalEvent O R))) (n : ℕ)
-        → js ≡ set (items_of m.journals.items) c
-        (get_or (items_of m.journals.items) c [] ++ Invoked m.clock x op ∷ []) → n ≡ m.clock + 1
+        → js ≡ set (items_of_each m.journals.items) c
+        (get_or (items_of_each m.journals.items) c [] ++ Invoked m.clock x op ∷ []) → n ≡ m.clock + 1
         → IsGoing now c → (world_of now).stage c ≡ world.idle → calls_made ((world_of now).done c) None < now.quota
         → x < length now.kinds → kind_of (op_in op) ≡ kind_at now.kinds x
         → Took (draw_call x (op_in op)) (state_ticked js (Drawn (record { object = x; ticket = m.clock; op = op })) n)
@@ -190,12 +190,13 @@ module _ {S O R : Type 0} (content : S → Content) (op_in : O → AnyOp) (reply
           grew,
           one,
           map-set (stage_in op_in reply_in) m.stages.items c t,
-          seen_grown (event_in op_in reply_in) (items_of m.journals.items) c (Invoked m.clock x op),
+          seen_grown (event_in op_in reply_in) (items_of_each m.journals.items) c (Invoked m.clock x op),
         )
         (call_now (map content m.objects.items) (state_in m) is c go x (op_in op) idle few low kind))
 
     pub return_done : (q : Request O) (a : Answer R) (js : List (List (JournalEvent O R))) (n : ℕ)
-        → js ≡ set (items_of m.journals.items) c (get_or (items_of m.journals.items) c [] ++ Returned m.clock a ∷ [])
+        → js ≡ set (items_of_each m.journals.items) c (get_or (items_of_each m.journals.items) c []
+        ++ Returned m.clock a ∷ [])
         → n ≡ m.clock + 1
         → IsGoing now c → (world_of now).stage c ≡ world.taken (request_in op_in q) (answer_in reply_in a)
         → Took draw_return (state_ticked js Idle n)
@@ -204,7 +205,7 @@ module _ {S O R : Type 0} (content : S → Content) (op_in : O → AnyOp) (reply
           grew,
           one,
           map-set (stage_in op_in reply_in) m.stages.items c Idle,
-          seen_grown (event_in op_in reply_in) (items_of m.journals.items) c (Returned m.clock a),
+          seen_grown (event_in op_in reply_in) (items_of_each m.journals.items) c (Returned m.clock a),
         )
         (return_now (map content m.objects.items) (state_in m) is c go (request_in op_in q)
         (answer_in reply_in a) taken))
@@ -214,8 +215,9 @@ module _ {S O R : Type 0} (content : S → Content) (op_in : O → AnyOp) (reply
     -- the fields once the request in hand is answered
     abbrev pub state_answered : ℕ → ℕ → S → Vec (LogEntry O R) Global → Stage O R → State
     state_answered x r o l t =
-        state_of content op_in reply_in (set m.objects.items x o) (items_of (set m.logs.items x l)) m.holders.items
-        (set m.hands.items x None) (set m.stages.items r t) (items_of m.journals.items) m.ended.items m.clock m.quota
+        state_of content op_in reply_in (set m.objects.items x o) (items_of_each (set m.logs.items x l)) m.holders.items
+        (set m.hands.items x None) (set m.stages.items r t) (items_of_each m.journals.items) m.ended.items m.clock
+        m.quota
 
     answered_alike : (x r : ℕ) (old o : S) (was l : Vec (LogEntry O R) Global) (q : Request O) (a : Answer R)
         → x < length m.objects.items
@@ -224,8 +226,8 @@ module _ {S O R : Type 0} (content : S → Content) (op_in : O → AnyOp) (reply
         → map (entry_in op_in reply_in) l.items
         ≡ map (entry_in op_in reply_in) was.items ++ logged r (request_in op_in q) (answer_in reply_in a)
         → record (state_in m) {
-          logs = set (map (map (entry_in op_in reply_in)) (items_of m.logs.items)) x
-              (get_or (map (map (entry_in op_in reply_in)) (items_of m.logs.items)) x []
+          logs = set (map (map (entry_in op_in reply_in)) (items_of_each m.logs.items)) x
+              (get_or (map (map (entry_in op_in reply_in)) (items_of_each m.logs.items)) x []
               ++ logged r (request_in op_in q) (answer_in reply_in a));
           hands =
               set m.hands.items x None;
@@ -235,10 +237,10 @@ module _ {S O R : Type 0} (content : S → Content) (op_in : O → AnyOp) (reply
       kinds = sym (map-set_same_at (λ z. kind_with (content z)) m.objects.items x o old
           (slice_get_read m.objects.items x old low read) kind) i;
       logs = sym (ap (map (map (entry_in op_in reply_in))) (items_of-set m.logs.items x l)
-          ∙ map-set (map (entry_in op_in reply_in)) (items_of m.logs.items) x l.items
-          ∙ ap (set (map (map (entry_in op_in reply_in)) (items_of m.logs.items)) x)
+          ∙ map-set (map (entry_in op_in reply_in)) (items_of_each m.logs.items) x l.items
+          ∙ ap (set (map (map (entry_in op_in reply_in)) (items_of_each m.logs.items)) x)
           (grew ∙ ap (λ es. es ++ logged r (request_in op_in q) (answer_in reply_in a))
-          (sym (ListN.get_or-map (map (entry_in op_in reply_in)) (items_of m.logs.items) x []
+          (sym (ListN.get_or-map (map (entry_in op_in reply_in)) (items_of_each m.logs.items) x []
           ∙ ap (map (entry_in op_in reply_in)) (items_at m.logs.items x was there looked))))) i;
       hands = set m.hands.items x None;
       stages = sym (map-set (stage_in op_in reply_in) m.stages.items r (Answered q a)) i;
@@ -253,17 +255,17 @@ module _ {S O R : Type 0} (content : S → Content) (op_in : O → AnyOp) (reply
         → kind_with (content o) ≡ kind_with (content old) → IsSome (next (content old) (op_in q.op))
         → IsGoing now c → IsInHand now c x r (request_in op_in q)
         → IsMachine (map content (set m.objects.items x o)) (state_answered x r o l (Answered q a))
-        × IsTaken now c answer (state_answered x r o l (Answered q a))
+        × IsStepTaken now c answer (state_answered x r o l (Answered q a))
     answer_done x r q old o was l a read looked grew serves kind can =
         rw (← same) (λ go h.
         let low : x < length m.objects.items = simp length-map at h.object in
         let logs_long : length m.logs.items ≡ length m.objects.items = simp length-map at is.logs in
         let at = object_there m x old h.object read in
         subst (λ (z : List Content). IsMachine z (state_answered x r o l (Answered q a))
-        × IsTaken (state_in m) c answer (state_answered x r o l (Answered q a)))
+        × IsStepTaken (state_in m) c answer (state_answered x r o l (Answered q a)))
         (sym (map-set content m.objects.items x o))
         (subst (λ (z : State). IsMachine (set (map content m.objects.items) x (content o)) z
-        × IsTaken (state_in m) c answer z)
+        × IsStepTaken (state_in m) c answer z)
         (answered_alike x r old o was l q a low read kind (omega arith) looked grew)
         (served_now (map content m.objects.items) (state_in m) is c go x r (request_in op_in q) (content old)
         (content o) (answer_in reply_in a) at.0
@@ -276,7 +278,7 @@ module _ {S O R : Type 0} (content : S → Content) (op_in : O → AnyOp) (reply
       → IsGoing (state_in m) c → (found : Stage O R)
       → found ≡ get_or m.stages.items c found → (q : Request O) → found ≡ Drawn q
       → IsMachine (map content m.objects.items) (state_staged m c (Posted q))
-      × IsTaken (state_in m) c post (state_staged m c (Posted q))
+      × IsStepTaken (state_in m) c post (state_staged m c (Posted q))
   post_taken m is c go found read q e =
       let at = stage_found m c found (Drawn q) go.0 read e in
       staged_inside m is c go (Posted q) post (record { request = request_in op_in q; was = at; after = refl })
@@ -294,7 +296,7 @@ module _ {S O R : Type 0} (content : S → Content) (op_in : O → AnyOp) (reply
       → IsGoing (state_in m) c → (found : Stage O R)
       → found ≡ get_or m.stages.items c found → (q : Request O) (a : Answer R) → found ≡ Answered q a
       → IsMachine (map content m.objects.items) (state_staged m c (Taken q a))
-      × IsTaken (state_in m) c take (state_staged m c (Taken q a))
+      × IsStepTaken (state_in m) c take (state_staged m c (Taken q a))
   take_taken m is c go found read q a e = let at = stage_found m c found (Answered q a) go.0 read e in
       staged_inside m is c go (Taken q a) take
       (record { request = request_in op_in q; given = answer_in reply_in a; was = at; after = refl })

@@ -8,7 +8,7 @@ use Rattle.std.proofs.lemmas.List.{replicate-append-replicate}
 use Rattle.std.proofs.lemmas.Option.{same_Some}
 use Rattle.std.proofs.lemmas.Bool.Decides.{nat_tests}
 use Rattle.std.specs.declared.vec.Vec.{Vec}
-use Rattle.recorder.specs.Records.{items_of}
+use Rattle.recorder.specs.Records.{items_of_each}
 use Rattle.desk_model.specs.declared.LogEntry.{LogEntry}
 use Rattle.desk_model.specs.declared.JournalEvent.{JournalEvent}
 use Rattle.desk_model.specs.Images.{entry_in, event_in}
@@ -21,7 +21,7 @@ use Rattle.desk_model.specs.World as world
 use Rattle.desk_model.specs.World.{AnyEntry, World, request_of, journal_of, journal_in, Replays}
 use Rattle.machine.specs.declared.step.Stage.TheVariants.{Idle}
 use Rattle.machine.specs.Machines.{State, IsMachine, world_of, state_of, stage_in, stage_of, done_in}
-use Rattle.machine.specs.Runs.{start_of, IsWorldOfRun}
+use Rattle.machine.specs.Runs.{start_world, IsWorldOfRun}
 
 pub get_or-copies : {A : Type 0} (n : ℕ) (v : A) (i : ℕ) → get_or (replicate n v) i v ≡ v
 get_or-copies zero v i = refl
@@ -55,8 +55,8 @@ start_state kinds n m quota = record {
   quota = quota;
 }
 
-pub world-start : (kinds : List Kind) (n m quota : ℕ) → world_of (start_state kinds n m quota) ≡ start_of m
-world-start kinds n m quota = λ i. record (start_of m) {
+pub world-start : (kinds : List Kind) (n m quota : ℕ) → world_of (start_state kinds n m quota) ≡ start_world m
+world-start kinds n m quota = λ i. record (start_world m) {
   holder = λ x. get_or-copies n None x i;
   hand = λ x. get_or-copies n None x i;
   log = λ x. get_or-copies n [] x i;
@@ -79,7 +79,7 @@ pub machine_start : (contents : List Content) (m quota : ℕ) → length content
 machine_start contents m quota few_objects few_clients few_calls empties =
     let n = length contents in
     let s = start_state (map kind_with contents) n m quota in
-    let is : world_of s ≡ start_of m = world-start (map kind_with contents) n m quota in
+    let is : world_of s ≡ start_world m = world-start (map kind_with contents) n m quota in
     let kinds_long : length (map kind_with contents) ≡ n = simp length-map in
     record {
       kinds = refl;
@@ -102,7 +102,7 @@ machine_start contents m quota few_objects few_clients few_calls empties =
     }
 
 pub items_of-more : {A Z : Type 0} (vs : List (Vec A Z)) (v : Vec A Z)
-    → items_of (vs ++ v ∷ []) ≡ items_of vs ++ v.items ∷ []
+    → items_of_each (vs ++ v ∷ []) ≡ items_of_each vs ++ v.items ∷ []
 items_of-more vs v = map-append (λ w. w.items) vs (v ∷ [])
 
 kinds_twice : {S : Type 0} (content : S → Content) (objects : List S)

@@ -12,7 +12,7 @@ use Rattle.desk_model.specs.Sound.{Sound, IsAmong, IsInTime}
 use Rattle.desk_model.proofs.Transitions.{transition_keeps_soundness}
 use Rattle.desk_model.proofs.Effects.{clock_few}
 use Rattle.desk_model.proofs.Totals.{total_le}
-use Rattle.machine.specs.Runs.{start_of, Leads, IsWorldOfRun}
+use Rattle.machine.specs.Runs.{start_world, Leads, IsWorldOfRun}
 
 -- a client is idle or has not come
 begun : Bool → Stage
@@ -27,7 +27,7 @@ nothing_served x c b = grind arith
 not_picked : (b : Bool) (q : AnyRequest) → (if b then idle else absent) ≢ picked q
 not_picked b q e = grind arith
 
-pub start_sound : (kinds : List Kind) (quota n : ℕ) → Sound kinds quota (start_of n)
+pub start_sound : (kinds : List Kind) (quota n : ℕ) → Sound kinds quota (start_world n)
 start_sound kinds quota n = record {
   legal = λ x. (empty (kind_at kinds x), refl);
   counted = λ c x. sym (nothing_served x c (nat_lt c n));
@@ -37,7 +37,7 @@ start_sound kinds quota n = record {
   fitting = λ c q e. let f : None ≡ Some q = sym (no_request (nat_lt c n)) ∙ e in absurd (cc);
   early = λ x. All-nil (λ (e : AnyEntry). e.ticket < 0);
   drawn =
-      let none = total_le (λ c. tickets_drawn [] (request_of ((start_of n).stage c))) 32 0
+      let none = total_le (λ c. tickets_drawn [] (request_of ((start_world n).stage c))) 32 0
       (λ c l. let e = ap (tickets_drawn []) (no_request (nat_lt c n)) in omega arith) in omega arith;
   within = λ c. let e = ap (calls_made []) (no_request (nat_lt c n)) in omega arith;
   journals = record {
@@ -48,7 +48,7 @@ start_sound kinds quota n = record {
       each = λ t l. absurd (omega arith);
     };
     on_objects = λ c. rw (no_request (nat_lt c n)) (All-nil (IsAmong kinds));
-    in_time = λ c. All-nil (IsInTime (start_of n) c);
+    in_time = λ c. All-nil (IsInTime (start_world n) c);
     not_come = λ c e. refl;
   };
 }
@@ -60,7 +60,7 @@ leads_sound kinds quota w (m ∷ ms) after l k =
     leads_sound kinds quota l.0 ms after l.2 (transition_keeps_soundness kinds quota m.1 w l.0 m.0 l.1 k)
 
 pub run_sound : (kinds : List Kind) (n quota : ℕ) (w : World) → IsWorldOfRun kinds n quota w → Sound kinds quota w
-run_sound kinds n quota w r = leads_sound kinds quota (start_of n) r.0 w r.1 (start_sound kinds quota n)
+run_sound kinds n quota w r = leads_sound kinds quota (start_world n) r.0 w r.1 (start_sound kinds quota n)
 
 pub run_few : (kinds : List Kind) (n quota : ℕ) (w : World) → IsWorldOfRun kinds n quota w → w.clock ≤ 64 * quota
 run_few kinds n quota w r = clock_few kinds quota w (run_sound kinds n quota w r)

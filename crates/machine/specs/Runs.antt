@@ -6,8 +6,11 @@ use Rattle.desk_model.specs.Transitions.{Step, Transition}
 
 -- The world once the first clients have come, and nothing else has happened: no ticket was drawn,
 -- and no object is held.
-abbrev pub start_of : ℕ → World
-start_of clients = record initial_world { stage = λ c. if nat_lt c clients then idle else absent }
+abbrev pub start_world : ℕ → World
+start_world clients = record initial_world {
+  stage = λ c. if nat_lt c clients then idle else
+      absent;
+}
 
 module _ (kinds : List Kind) (quota : ℕ) where
   -- these transitions, each of one client, lead from one world to another
@@ -31,7 +34,7 @@ module _ (kinds : List Kind) (quota : ℕ) where
 
 -- a run: these transitions lead from the start to the world w
 abbrev pub IsRun : List Kind → ℕ → ℕ → List (ℕ × Step) → World → Type 0
-IsRun kinds clients quota moves w = Leads kinds quota (start_of clients) moves w
+IsRun kinds clients quota moves w = Leads kinds quota (start_world clients) moves w
 
 -- the world after some run
 abbrev pub IsWorldOfRun : List Kind → ℕ → ℕ → World → Type 0

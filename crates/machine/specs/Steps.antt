@@ -65,7 +65,7 @@ pub record IsLike (s s' : State) : Type 0 where
   pub quota : s'.quota ≡ s.quota
 
 -- the client c took the step, and objects, clients and quota are the same
-pub record IsTaken (s : State) (c : ℕ) (w : world.Step) (s' : State) : Type 0 where
+pub record IsStepTaken (s : State) (c : ℕ) (w : world.Step) (s' : State) : Type 0 where
   pub moves : Transition s.kinds s.quota w (world_of s) c (world_of s')
   pub kinds : s'.kinds ≡ s.kinds
   pub clients : clients_of s' ≡ clients_of s
@@ -115,6 +115,6 @@ module _ {R : Type 0} (reply_in : R → AnyReply) where
   -- The step was taken; or it is possible in no way; or an allocation failed at a draw that is
   -- possible. If it was not taken nothing has changed.
   abbrev pub Tries : State → ℕ → world.Step → Result (Outcome R) StepFault → State → Type 0
-  Tries s c w (Ok o) s' = IsTaken s c w s' × IsOutcome s c w s' o
+  Tries s c w (Ok o) s' = IsStepTaken s c w s' × IsOutcome s c w s' o
   Tries s c w (Err fault.NotNow) s' = (s' ≡ s) × IsImpossible s.kinds s.quota (world_of s) (c, w)
   Tries s c w (Err fault.NoMemory) s' = (s' ≡ s) × IsDraw w × IsPossible s c w

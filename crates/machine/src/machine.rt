@@ -26,31 +26,31 @@ pub struct Machine<S: SeqObject> {
 
 impl<S: SeqObject> Model for Machine<S> {
     ghost use Rattle.std.specs.Prelude.{map};
-    ghost use Rattle.recorder.specs.Records.{items_of};
+    ghost use Rattle.recorder.specs.Records.{items_of_each};
     ghost use Rattle.machine.specs.Machines.{State, IsMachine, state_of};
 
     ghost Value = { State };
 
     ghost view = { λ m. state_of S.content S.op_in S.reply_in m.objects.items
-        (items_of m.logs.items) m.holders.items m.hands.items m.stages.items
-        (items_of m.journals.items) m.ended.items m.clock m.quota };
+        (items_of_each m.logs.items) m.holders.items m.hands.items m.stages.items
+        (items_of_each m.journals.items) m.ended.items m.clock m.quota };
 
     ghost invariant = { λ m. IsMachine (map S.content m.objects.items) (state_of S.content S.op_in
-        S.reply_in m.objects.items (items_of m.logs.items) m.holders.items m.hands.items
-        m.stages.items (items_of m.journals.items) m.ended.items m.clock m.quota) };
+        S.reply_in m.objects.items (items_of_each m.logs.items) m.holders.items m.hands.items
+        m.stages.items (items_of_each m.journals.items) m.ended.items m.clock m.quota) };
 }
 
 impl<S: SeqObject> Machine<S> {
     ghost use Rattle.std.specs.Prelude.{OnOk};
     ghost use Rattle.machine.specs.Machines.{HasRun, world_of};
     ghost use Rattle.machine.specs.Runs.{IsImpossible};
-    ghost use Rattle.machine.specs.Steps.{IsTaken, IsOutcome, IsDraw, IsPossible, step_in};
+    ghost use Rattle.machine.specs.Steps.{IsStepTaken, IsOutcome, IsDraw, IsPossible, step_in};
 
     /// Takes one step of a client. A step is not possible now too if there is no such client,
     /// object or row, or the operation is of another kind than the object. If it is not taken
     /// nothing changes.
     pub fn step(&mut self, client: u32, step: Step<S::Op>) -> Result<Outcome<S::Reply>, StepFault>
-        ensures taken { OnOk result (IsTaken self.old client (step_in S.op_in step) self.new) }
+        ensures taken { OnOk result (IsStepTaken self.old client (step_in S.op_in step) self.new) }
         ensures outcome { IfOk result
             (IsOutcome S.reply_in self.old client (step_in S.op_in step) self.new) }
         // With `taken` and `memory`: it is refused as not possible now exactly if it is possible

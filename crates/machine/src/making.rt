@@ -2,9 +2,9 @@
 
 ghost use Rattle.std.specs.Prelude.{◌≡◌, ◌<◌, [], length, map, replicate, All, IfOk, ◌+◌};
 ghost use Rattle.model.specs.Objects.{empty, kind_with};
-ghost use Rattle.recorder.specs.Records.{items_of};
+ghost use Rattle.recorder.specs.Records.{items_of_each};
 ghost use Rattle.machine.specs.Machines.{clients_of, world_of};
-ghost use Rattle.machine.specs.Runs.{start_of};
+ghost use Rattle.machine.specs.Runs.{start_world};
 ghost use Rattle.desk_model.specs.Limits.{max_objects, max_clients, max_calls};
 
 use crate::machine::Machine;
@@ -25,7 +25,7 @@ fn copies<T: Copy + Drop>(alloc: Global, count: usize, value: T) -> Result<Vec<T
 
 /// This many empty lists.
 fn lists<T: Drop>(alloc: Global, count: usize) -> Result<Vec<Vec<T>>, AllocError>
-    ensures { IfOk result (λ v. items_of v.items ≡ replicate count []) }
+    ensures { IfOk result (λ v. items_of_each v.items ≡ replicate count []) }
 {
     let mut lists = Vec::new(alloc);
     'listing: while lists.len() < count {
@@ -50,7 +50,7 @@ impl<S: SeqObject> Machine<S> {
         ensures kinds { IfOk result (λ m. m.kinds
             ≡ map (λ o. kind_with (S.content o)) objects.items) }
         ensures counts { IfOk result (λ m. (clients_of m ≡ clients) × (m.quota ≡ quota)) }
-        ensures start { IfOk result (λ m. world_of m ≡ start_of clients) }
+        ensures start { IfOk result (λ m. world_of m ≡ start_world clients) }
     {
         let count = objects.len();
         let rows = clients as usize;

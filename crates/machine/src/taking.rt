@@ -2,7 +2,7 @@
 
 ghost use Rattle.std.specs.Prelude.{◌≡◌, ◌<◌, [], ◌∷◌, ◌++◌, length, slice_set, slice_index_or};
 ghost use Rattle.std.specs.Prelude.{OnOk, IfErr};
-ghost use Rattle.recorder.specs.Records.{items_of};
+ghost use Rattle.recorder.specs.Records.{items_of_each};
 ghost use Rattle.desk_model.specs.Transitions.{post, take, end, draw_call, draw_return};
 ghost use Rattle.machine.specs.declared.step.Step.TheVariants.{Draw};
 ghost use Rattle.machine.specs.Steps.{IsGoing, Tries, step_in};
@@ -115,11 +115,11 @@ fn note<O: Drop, R: Drop>(
     event: JournalEvent<O, R>,
 ) -> Result<(), StepFault>
     requires { client < length journals.old.items }
-    ensures ok { OnOk result (items_of journals.new.items
-        ≡ slice_set (items_of journals.old.items) client
-        (slice_index_or (items_of journals.old.items) client [] ++ event ∷ [])) }
+    ensures ok { OnOk result (items_of_each journals.new.items
+        ≡ slice_set (items_of_each journals.old.items) client
+        (slice_index_or (items_of_each journals.old.items) client [] ++ event ∷ [])) }
     ensures err { IfErr result (λ e. (e ≡ StepFault.NoMemory)
-        × (items_of journals.new.items ≡ items_of journals.old.items)) }
+        × (items_of_each journals.new.items ≡ items_of_each journals.old.items)) }
 {
     journals[client].push(event)?;
     Ok(())

@@ -1,6 +1,6 @@
 pub mod Laying
 pub mod Linking
 pub mod Bags
-pub mod Heaping
+pub mod InsertAndExtract
 pub mod Counting
 pub mod Merging

@@ -2,13 +2,13 @@
 ghost use Rattle.std.specs.Prelude.{◌≡◌, ◌↔◌, IsTrue};
 ghost use Rattle.std.specs.List.{list_all};
 ghost use Rattle.pairing_heap.specs.Bag.{bag_of};
-ghost use Rattle.pairing_heap.specs.Counts.{has_value, uses, is_used_alike};
+ghost use Rattle.pairing_heap.specs.Counts.{holds_value, times_used, is_used_alike};
 ghost use Rattle.pairing_heap.specs.Forest.{values_in_use};
 
 use crate::node::Node;
 
 fn has_value(node: &Node, value: i64) -> bool
-    ensures { result ≡ has_value value node.now }
+    ensures { result ≡ holds_value value node.now }
 {
     match node {
         Node::Used(tree) => tree.value == value,
@@ -17,7 +17,7 @@ fn has_value(node: &Node, value: i64) -> bool
 }
 
 fn count_uses(nodes: &[Node], value: i64) -> usize
-    ensures { result ≡ uses nodes.now value }
+    ensures { result ≡ times_used nodes.now value }
 {
     nodes.iter().filter(|node| has_value(node, value)).count()
 }

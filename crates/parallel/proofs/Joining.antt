@@ -22,9 +22,9 @@ use Rattle.model.proofs.Lists.{In, Pairs, in_append, in_left, in_middle, in_map,
 use Rattle.model.proofs.Lists.{pairs_weaker, pairs_from_map}
 use Rattle.model.proofs.Lists.{in_from_contains, contains_from_in, all_at, all_from_in, all_from_pairs}
 use Rattle.events.specs.declared.event.Event.{Event}
-use Rattle.events.specs.Events.{IsNamed, kind_at, denoted}
+use Rattle.events.specs.Events.{IsNamed, kind_of_object, denoted}
 use Rattle.events.specs.Operations.{ObjectCalls, operations_on, calls_of}
-use Rattle.parallel.specs.Gathered.{IsGathered, AreGathered, IsPutIn, IsObjectOf, IsWhole, AreAll}
+use Rattle.parallel.specs.Gathered.{IsGatheredPart, AreGathered, IsPutIn, IsHistoryOfObject, IsWhole, AreAll}
 
 -- ---- the keys of a map
 
@@ -114,7 +114,7 @@ all_put all rest given old new is over h x =
 
 -- the objects of the first parts have their histories
 pub record IsWholeTo (es : List Event) (met parts : ℕ) (m : BTreeMap ℕ ObjectCalls) : Type 0 where
-  pub right : (x : ℕ) (o : ObjectCalls) → get nat_cmp m x ≡ Some o → IsObjectOf es x o
+  pub right : (x : ℕ) (o : ObjectCalls) → get nat_cmp m x ≡ Some o → IsHistoryOfObject es x o
   pub whole : (x : ℕ) → IsNamed es x → x % parts < met → (o : ObjectCalls) × (get nat_cmp m x ≡ Some o)
 
 -- those joined so far
@@ -136,28 +136,28 @@ nothing_joined {V} {E} items all m empty = record {
 }
 
 -- an object of a part
-of_part : (es : List Event) (n parts : ℕ) (os : List ObjectCalls) (o : ObjectCalls) → IsGathered es n parts os
-    → In o os → IsObjectOf es o.object o
+of_part : (es : List Event) (n parts : ℕ) (os : List ObjectCalls) (o : ObjectCalls) → IsGatheredPart es n parts os
+    → In o os → IsHistoryOfObject es o.object o
 of_part es n parts os o h i = record {
   object = refl;
   named = ((h.named o.object).0
       (contains_from_in (map (λ (o : ObjectCalls). o.object) os) o.object
       (in_map_from (λ (o : ObjectCalls). o.object) o os i))).0;
-  kind = all_at (λ (o : ObjectCalls). o.kind ≡ kind_at es o.object) os h.kinds o i;
+  kind = all_at (λ (o : ObjectCalls). o.kind ≡ kind_of_object es o.object) os h.kinds o i;
   operations = all_at (λ (o : ObjectCalls). o.ops ≡ operations_on o.object es) os h.operations o i;
   calls = all_at (λ (o : ObjectCalls). calls_of o.ops ≡ calls_on o.object (denoted es)) os h.calls o i;
 }
 
 whole_more : (es : List Event) (n parts : ℕ) (os : List ObjectCalls) (m next : BTreeMap ℕ ObjectCalls)
-    → IsGathered es n parts os
+    → IsGatheredPart es n parts os
     → ((x : ℕ) → IsPutIn os x (get nat_cmp m x) (get nat_cmp next x)) → IsWholeTo es n parts m
     → IsWholeTo es (n + 1) parts next
 whole_more es n parts os m next part put h = record {
   right = λ x o is. elim (put x) [
     | inl p ↦
         let same : p.0 ≡ o = some_is p.0 o (sym p.3 ∙ is) in
-        subst (IsObjectOf es x) same
-        (subst (λ y. IsObjectOf es y p.0) p.2 (of_part es n parts os p.0 part (in_from_contains os p.0 p.1)))
+        subst (IsHistoryOfObject es x) same
+        (subst (λ y. IsHistoryOfObject es y p.0) p.2 (of_part es n parts os p.0 part (in_from_contains os p.0 p.1)))
     | inr p ↦ h.right x o (sym p.1 ∙ is)
   ];
   whole = λ x named l. elim (put x) [
@@ -198,7 +198,7 @@ join_more {V} {E} items all rest later m next r v h is ok put = record {
       let at = parts (length h.met) r (subst (λ xs. length h.met < length xs) (sym whole) (inside h.met later r)) in
       let here : get_or all (length h.met) r ≡ Ok v =
       ap (λ xs. get_or xs (length h.met) r) whole ∙ (at_end h.met later r r ∙ ok) in
-      let part = subst (λ q. IfOk q (λ v. IsGathered es (length h.met) (length all) (items v))) here at in
+      let part = subst (λ q. IfOk q (λ v. IsGatheredPart es (length h.met) (length all) (items v))) here at in
       subst (λ n. IsWholeTo es n (length all) next) (sym (one_longer h.met r))
       (whole_more es (length h.met) (length all) (items v) m next part put (h.kept es parts));
 }
@@ -224,7 +224,7 @@ all_joined items all rest given m is over some h es parts =
 pub all_split : {V E : Type 0} (items : V → List ObjectCalls) (es : List Event) (r : Result V E)
     → IfOk r (λ v. AllPairs (λ a b. a.object < b.object) (items v))
     → IfOk r (λ v. (x : ℕ) → Contains (map (λ o. o.object) (items v)) x ↔ IsNamed es x)
-    → IfOk r (λ v. All (λ o. o.kind ≡ kind_at es o.object) (items v))
+    → IfOk r (λ v. All (λ o. o.kind ≡ kind_of_object es o.object) (items v))
     → IfOk r (λ v. All (λ o. o.ops ≡ operations_on o.object es) (items v))
     → IfOk r (λ v. All (λ o. calls_of o.ops ≡ calls_on o.object (denoted es)) (items v))
     → IfOk r (λ v. AreAll es (items v))
@@ -268,7 +268,7 @@ all_listed es m all rest os sorted h from over listed = record {
         (in_map_from (λ (o : ObjectCalls). o.object) o.0 os
         (subst (In o.0) (sym is) (in_map_from (λ (e : ℕ × ObjectCalls). e.1) (x, o.0) m.entries i)))),
   );
-  kinds = all_from_in (λ o. o.kind ≡ kind_at es o.object) os (λ o i. (good o i).kind);
+  kinds = all_from_in (λ o. o.kind ≡ kind_of_object es o.object) os (λ o i. (good o i).kind);
   operations = all_from_in (λ o. o.ops ≡ operations_on o.object es) os (λ o i. (good o i).operations);
   calls = all_from_in (λ o. calls_of o.ops ≡ calls_on o.object (denoted es)) os (λ o i. (good o i).calls);
 }
@@ -278,13 +278,14 @@ all_listed es m all rest os sorted h from over listed = record {
         ∙ (ap (λ (r : List (ℕ × ObjectCalls)). os ++ map (λ (e : ℕ × ObjectCalls). e.1) r) (sym over) ∙ sym listed
         ∙ ap (map (λ (e : ℕ × ObjectCalls). e.1)) from)
 
-    entry : (e : ℕ × ObjectCalls) → In e m.entries → IsObjectOf es e.0 e.1
+    entry : (e : ℕ × ObjectCalls) → In e m.entries → IsHistoryOfObject es e.0 e.1
     entry e i = h.right e.0 e.1
         (all_at (λ (e : ℕ × ObjectCalls). get nat_cmp m e.0 ≡ Some e.1) m.entries
         (All-found nat_cmp_total m sorted) e i)
 
-    good : (o : ObjectCalls) → In o os → IsObjectOf es o.object o
+    good : (o : ObjectCalls) → In o os → IsHistoryOfObject es o.object o
     good o i =
         let e = in_map (λ (e : ℕ × ObjectCalls). e.1) o m.entries (subst (In o) is i) in
         let g = entry e.0 e.1 in
-        subst (λ p. IsObjectOf es p.object p) (sym e.2) (subst (λ y. IsObjectOf es y e.0.1) (sym g.object) g)
+        subst (λ p. IsHistoryOfObject es p.object p) (sym e.2)
+        (subst (λ y. IsHistoryOfObject es y e.0.1) (sym g.object) g)

@@ -4,7 +4,7 @@ ghost use Rattle.std.specs.Prelude.{◌<◌, ℕ, List, length, OnOk, IfOk, ◌^
 ghost use Rattle.std.specs.Ordering.{nat_cmp};
 ghost use Rattle.std.specs.BTreeMap.{get};
 ghost use Rattle.events.specs.declared.event.Event.{Event};
-ghost use Rattle.parallel.specs.Gathered.{IsGathered, AreGathered, IsPutIn, IsWhole, AreAll};
+ghost use Rattle.parallel.specs.Gathered.{IsGatheredPart, AreGathered, IsPutIn, IsWhole, AreAll};
 
 use events::{History, ObjectHistory, split, split_share};
 use std::alloc::{AllocError, Global};
@@ -83,7 +83,7 @@ pub(crate) fn split_by_workers<R: Threads + Sync>(
         workers as usize,
         &|worker: usize| -> Result<Vec<ObjectHistory>, AllocError>
             requires { (worker < workers) × (workers < 2 ^ 32) }
-            ensures { IfOk result (λ v. IsGathered history.entry.now worker workers v.items) }
+            ensures { IfOk result (λ v. IsGatheredPart history.entry.now worker workers v.items) }
         { split_share(alloc, history, worker as u32, workers) },
     )?;
     objects_of_shares(alloc, found)

@@ -1,7 +1,7 @@
 -- The operations that did not fail are a part with the same calls, since a failed operation is no call.
 use Rattle.std.proofs.Common.{arith, ◌≡◌, Bool, not, cond, List, [], ◌∷◌, Some, filter, refl, subst}
 use Rattle.std.specs.List.{cons_option}
-use Rattle.search.specs.Outcomes.{IsNoneValid}
+use Rattle.search.specs.Outcomes.{HasNoValidOrder}
 use Rattle.events.specs.declared.operations.End.{End}
 use Rattle.events.specs.declared.operations.End.TheVariants.{Failed}
 use Rattle.events.specs.declared.operations.Invocation.{Invocation}
@@ -37,5 +37,5 @@ pub alone_shows : (h : ObjectCalls)
 alone_shows h = record {
   object = refl;
   none_failed = subst NoneFailed (as_filter lives h.ops) (cut_lives (own lives) h.ops operation_lives);
-  shows = λ none. subst (IsNoneValid h.kind) (alone_calls h.ops) none;
+  shows = λ none. subst (HasNoValidOrder h.kind) (alone_calls h.ops) none;
 }

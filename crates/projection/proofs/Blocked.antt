@@ -17,7 +17,7 @@ use Rattle.projection.specs.Kinds.Containers.{puts_in}
 use Rattle.events.specs.declared.operations.End.{End}
 use Rattle.events.specs.declared.operations.Invocation.{Invocation}
 use Rattle.events.specs.Operations.{call_with, call_of, calls_of, return_of, ObjectCalls, IsObjectHistory}
-use Rattle.search.specs.Outcomes.{IsNoneValid}
+use Rattle.search.specs.Outcomes.{HasNoValidOrder}
 use Rattle.projection.specs.CutOperations.{is_put, is_over, found_end, first_put_end, ahead_before_end}
 use Rattle.projection.specs.CutOperations.{is_settled_end, are_settled, is_put_ahead_end, may_take_end}
 use Rattle.projection.specs.CutOperations.{may_precede_end, IsRemoval}
@@ -211,7 +211,7 @@ ahead_decided h number from op at found ahead takes is t e f = go (are_settled f
 
 -- an object's history in which a removal is blocked has no valid order
 pub blocked_shows : (h : ObjectCalls) (number from : ℕ) → IsObjectHistory h
-    → IsBlocked number from (calls_of h.ops) → IsNoneValid h.kind (calls_of h.ops)
+    → IsBlocked number from (calls_of h.ops) → HasNoValidOrder h.kind (calls_of h.ops)
 blocked_shows h number from is b order v =
     let of_kind : All (λ e. kind_of e.op ≡ h.kind) (calls_of h.ops) = all_from_in
     (λ e. kind_of e.op ≡ h.kind) (calls_of h.ops) (λ e i.

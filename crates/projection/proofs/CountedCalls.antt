@@ -11,7 +11,7 @@ use Rattle.events.specs.declared.operations.End.{End}
 use Rattle.events.specs.declared.operations.End.TheVariants.{Returned, Pending, Failed}
 use Rattle.events.specs.declared.operations.Invocation.{Invocation}
 use Rattle.events.specs.Operations.{call_with, call_of, calls_of, ObjectCalls, IsObjectHistory}
-use Rattle.search.specs.Outcomes.{IsNoneValid}
+use Rattle.search.specs.Outcomes.{HasNoValidOrder}
 use Rattle.projection.specs.declared.counting.Count.{Count}
 use Rattle.projection.specs.declared.counting.Counted.{Counted}
 use Rattle.projection.specs.Counts.{IsOverdrawn, most_before, set_since, taken_since}
@@ -65,7 +65,7 @@ gone_count what from ops =
 
 -- an object's history of which a content is overdrawn has no valid order
 overdrawn_shows : (h : ObjectCalls) (count : Count) → IsObjectHistory h → IsOverdrawn h.kind count (calls_of h.ops)
-    → IsNoneValid h.kind (calls_of h.ops)
+    → HasNoValidOrder h.kind (calls_of h.ops)
 overdrawn_shows h count is o order v =
     over _ _ o.more (count_bounded h.kind (calls_of h.ops) count.counted count.from o.most order
     (rising_calls h.ops is.rising) (calls_end h.object h.kind h.ops is) o.before v)
@@ -108,12 +108,12 @@ decided h count most set taken left before e f g = go (nat_lt most left) refl
         (e ∙ set_count count.counted count.from h.ops) (f ∙ gone_count count.counted count.from h.ops)
         (same_Some o.most most (sym o.before ∙ sym before)) q o.more
 
-pub shown : (h : ObjectCalls) (count : Count) (most set taken left : ℕ) → IsObjectHistory h
+pub count_exceeded : (h : ObjectCalls) (count : Count) (most set taken left : ℕ) → IsObjectHistory h
     → Some most ≡ most_before h.kind count.counted count.from
     → set ≡ count_by (λ o. is_set count.counted count.from o.op o.«end») h.ops
     → taken ≡ count_by (λ o. is_gone count.counted count.from o.number o.op o.«end») h.ops → left ≡ taken - set
-    → nat_lt most left ≡ true → IsNoneValid h.kind (calls_of h.ops)
-shown h count most set taken left is before e f g q =
+    → nat_lt most left ≡ true → HasNoValidOrder h.kind (calls_of h.ops)
+count_exceeded h count most set taken left is before e f g q =
     overdrawn_shows h count is
     (overdrawn_from h.kind count (calls_of h.ops) most set taken left before
     (e ∙ set_count count.counted count.from h.ops)

@@ -27,7 +27,7 @@ use Rattle.projection.specs.Recasts.{recast}
 use Rattle.projection.specs.declared.kinds.Place.{Place}
 use Rattle.projection.specs.declared.kinds.Place.TheVariants.{OfRegister, OfKey}
 use Rattle.projection.specs.Kinds.{kind_of_part}
-use Rattle.projection.specs.Cells.{done_at, open_at, call_at, calls_at}
+use Rattle.projection.specs.Cells.{done_at, opened_at, call_at, calls_at}
 use Rattle.projection.specs.Absent.{is_put_before, is_taken_before}
 use Rattle.projection.specs.Cuts.{keeps_value, keeps_number, IsSuffix, Names, NamesPart, kind_cut, part_kind}
 use Rattle.projection.specs.Listed.{has_number, listed}
@@ -94,7 +94,7 @@ kinds_at : (place : Place) (keeps : ℤ → Bool) (other : ℤ) (kept : ℕ → 
 kinds_at place keeps other kept kind calls part are h x i =
     let y = in_filter_map (call_at place keeps other kept) x calls (subst (In x) h i) in
     let into = into_part place keeps other in
-    recast_kind (done_at place keeps other (kept y.0.number)) (open_at place keeps other)
+    recast_kind (done_at place keeps other (kept y.0.number)) (opened_at place keeps other)
     (kind_of_part place (kind_of y.0.op)) y.0 x (into.returned (kept y.0.number) y.0.op) (into.unfinished y.0.op) y.2
     ∙ ap (kind_of_part place) (are.kinds y.0 y.1)
 
@@ -298,7 +298,8 @@ step_at place keeps other chosen kind calls part kept order h v =
     let found = part_valid place kind (kept_calls kept calls) keeps other chosen order v in
     let same : calls_at place keeps other chosen (kept_calls kept calls) ≡ kept_calls kept part =
     sym (commutes kept (call_at place keeps other chosen) calls
-    (λ y x i e. (recast_timed (done_at place keeps other (chosen y.number)) (open_at place keeps other) y x e).number))
+    (λ y x i e. (recast_timed (done_at place keeps other (chosen y.number)) (opened_at place keeps other) y x
+    e).number))
     ∙ ap (kept_calls kept) (sym h) in
     (found.0, subst (λ cs. IsValidOrder (kind_of_part place kind) cs found.0) same found.1)
 

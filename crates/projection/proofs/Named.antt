@@ -14,7 +14,7 @@ use Rattle.projection.specs.declared.cutting.Cut.{Cut}
 use Rattle.projection.specs.declared.cutting.Cut.TheVariants.{From, Until, Without, Keep, Cell, Entry}
 use Rattle.projection.specs.declared.kinds.Place.{Place}
 use Rattle.projection.specs.declared.kinds.Place.TheVariants.{OfRegister, OfKey}
-use Rattle.projection.specs.Cells.{done_at, open_at, call_at, calls_at}
+use Rattle.projection.specs.Cells.{done_at, opened_at, call_at, calls_at}
 use Rattle.projection.specs.Parts.{return_before, call_before, calls_before, ended_before, call_later, returned_call}
 use Rattle.projection.specs.Parts.{call_from}
 use Rattle.projection.specs.Cuts.{keeps_value, keeps_number, IsSuffix, Names, NamesPart}
@@ -110,7 +110,7 @@ timed_at : (place : Place) (keeps : ℤ → Bool) (other : ℤ) (kept : ℕ → 
 timed_at place keeps other kept calls part h = record {
   becomes = call_at place keeps other kept;
   named = h;
-  timed = λ y x i e. recast_timed (done_at place keeps other (kept y.number)) (open_at place keeps other) y x e;
+  timed = λ y x i e. recast_timed (done_at place keeps other (kept y.number)) (opened_at place keeps other) y x e;
 }
 
 pub timed_named : (cut : Cut) (calls part : List Call) → AreRising calls → Names cut calls part → AreTimed calls part

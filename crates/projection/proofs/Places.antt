@@ -22,10 +22,10 @@ use Rattle.projection.specs.declared.kinds.Place.TheVariants.{OfRegister, OfKey}
 use Rattle.projection.specs.declared.touches.Need.{Need}
 use Rattle.projection.specs.declared.touches.Leave.{Leave}
 use Rattle.projection.specs.declared.touches.Touch.{Touch}
-use Rattle.projection.specs.Kinds.{keeps_none, kind_at, kind_of_part, own_call, touch_at}
+use Rattle.projection.specs.Kinds.{keeps_none, kind_of_place, kind_of_part, own_call, touch_at}
 use Rattle.projection.specs.Kinds.Register.{setting, replacing}
 use Rattle.projection.specs.Cells.{keeps_content, change, cut_touch, touched_call, touched_op}
-use Rattle.projection.specs.Cells.{done_at, open_at, call_at, calls_at}
+use Rattle.projection.specs.Cells.{done_at, opened_at, call_at, calls_at}
 use Rattle.projection.specs.Cuts.{IsPart}
 use Rattle.projection.specs.CutOperations.{operation_at}
 use Rattle.projection.proofs.CutOperations.{IsCutOperationOf, cut_into, cut_calls, cut_lives}
@@ -44,7 +44,7 @@ abbrev content_at : Place → Content → Option ℤ
 content_at OfRegister c = in_register c
 content_at (OfKey key) c = in_map key c
 
-touches_at : (place : Place) (c : Content) (op : AnyOp) → kind_with c ≡ kind_at place
+touches_at : (place : Place) (c : Content) (op : AnyOp) → kind_with c ≡ kind_of_place place
     → IfSome (next c op) (λ p. Did (touch_at place op (Some p.1)) (content_at place c) (content_at place p.0)
     × OwnDid (own_call place op p.1) (touch_at place op (Some p.1)) (content_at place c)
     × MayDo (touch_at place op None) (content_at place c) (content_at place p.0))
@@ -53,16 +53,16 @@ touches_at (OfKey key) (table m) op e = map_touches key m op
 touches_at place c op e = absurd (cc e)
 
 touch_kind : (place : Place) (op : AnyOp) (reply : Option AnyReply)
-    → IfSome (touch_at place op reply) (λ t. kind_of op ≡ kind_at place)
+    → IfSome (touch_at place op reply) (λ t. kind_of op ≡ kind_of_place place)
 touch_kind OfRegister op reply = register_touch_kind op reply
 touch_kind (OfKey key) op reply = map_touch_kind key op reply
 
 -- a part of an object that has the cell is a register
-part_of_kind : (place : Place) (k : Kind) → k ≡ kind_at place → kind_of_part place k ≡ kind.Register
+part_of_kind : (place : Place) (k : Kind) → k ≡ kind_of_place place → kind_of_part place k ≡ kind.Register
 part_of_kind OfRegister k e = e
 part_of_kind (OfKey key) k e = refl
 
-no_content : (place : Place) → content_at place (empty (kind_at place)) ≡ None
+no_content : (place : Place) → content_at place (empty (kind_of_place place)) ≡ None
 no_content OfRegister = refl
 no_content (OfKey key) = map.get-empty int_cmp key
 
@@ -74,11 +74,12 @@ module _ (place : Place) (keeps : ℤ → Bool) (other : ℤ) where
 
   -- the part is a register that contains what the cell does, if that is kept; of another kind it has no calls
   abbrev IsAt : Content → Content → Type 0
-  IsAt c d = kind_with c ≡ kind_at place → (y : Option ℤ) × (d ≡ register y) × IsSeen kept_here (content_at place c) y
+  IsAt c d = kind_with c ≡ kind_of_place place → (y : Option ℤ) × (d ≡ register y)
+      × IsSeen kept_here (content_at place c) y
 
   begins : (k : Kind) → IsAt (empty k) (empty (kind_of_part place k))
   begins k e =
-      let own : k ≡ kind_at place = sym (kind_of_empty k) ∙ e in (
+      let own : k ≡ kind_of_place place = sym (kind_of_empty k) ∙ e in (
         None,
         ap empty (part_of_kind place k own),
         λ q. sym (ap (λ (z : Kind). content_at place (empty z)) own ∙ no_content place),
@@ -104,7 +105,7 @@ module _ (place : Place) (keeps : ℤ → Bool) (other : ℤ) where
     same : (kind_of op ≡ kind_with c) × (kind_with after ≡ kind_with c)
     same = subst (λ z. IfSome z (λ p. (kind_of op ≡ kind_with c) × (kind_with p.0 ≡ kind_with c))) does (same_kind c op)
 
-    touched : kind_with c ≡ kind_at place
+    touched : kind_with c ≡ kind_of_place place
         → Did (touch_at place op (Some reply)) (content_at place c) (content_at place after)
         × OwnDid (own_call place op reply) (touch_at place op (Some reply)) (content_at place c)
         × MayDo (touch_at place op None) (content_at place c) (content_at place after)
@@ -117,9 +118,9 @@ module _ (place : Place) (keeps : ℤ → Bool) (other : ℤ) where
     returned kept = go (touch_at place op (Some reply)) (touch_kind place op (Some reply)) (λ e. (touched e).0)
         (λ e. (touched e).1)
       where
-        go : (o : Option Touch) → IfSome o (λ t. kind_of op ≡ kind_at place)
-            → (kind_with c ≡ kind_at place → Did o (content_at place c) (content_at place after))
-            → (kind_with c ≡ kind_at place → OwnDid (own_call place op reply) o (content_at place c))
+        go : (o : Option Touch) → IfSome o (λ t. kind_of op ≡ kind_of_place place)
+            → (kind_with c ≡ kind_of_place place → Did o (content_at place c) (content_at place after))
+            → (kind_with c ≡ kind_of_place place → OwnDid (own_call place op reply) o (content_at place c))
             → DoneOf IsAt (touched_call kept_here other kept (own_call place op reply) o) d after
         go None k did own = λ q.
             let e = sym same.1 ∙ q in
@@ -136,11 +137,11 @@ module _ (place : Place) (keeps : ℤ → Bool) (other : ℤ) where
             (touch_returned kept_here other (content_at place c) s.0 s.2 (own_call place op reply) kept (Some t)
             (content_at place after) (did e) (own e))
 
-    unfinished : OpenOf IsAt (open_at place keeps other op) d after
+    unfinished : OpenOf IsAt (opened_at place keeps other op) d after
     unfinished = go (touch_at place op None) (touch_kind place op None) (λ e. (touched e).2)
       where
-        go : (o : Option Touch) → IfSome o (λ t. kind_of op ≡ kind_at place)
-            → (kind_with c ≡ kind_at place → MayDo o (content_at place c) (content_at place after))
+        go : (o : Option Touch) → IfSome o (λ t. kind_of op ≡ kind_of_place place)
+            → (kind_with c ≡ kind_of_place place → MayDo o (content_at place c) (content_at place after))
             → OpenOf IsAt (touched_op kept_here other o) d after
         go None k did = λ q.
             let e = sym same.1 ∙ q in
@@ -153,9 +154,9 @@ module _ (place : Place) (keeps : ℤ → Bool) (other : ℤ) where
             (touch_pending kept_here other (content_at place c) s.0 s.2 (Some t) (content_at place after) (did e))
 
   step : (c d : Content) (op : AnyOp) → IsAt c d
-      → IfSome (next c op) (λ p. Steps IsAt (done_at place keeps other) (open_at place keeps other) op d p.0 p.1)
+      → IfSome (next c op) (λ p. Steps IsAt (done_at place keeps other) (opened_at place keeps other) op d p.0 p.1)
   step c d op r =
-      some_at (λ p. Steps IsAt (done_at place keeps other) (open_at place keeps other) op d p.0 p.1) (next c op)
+      some_at (λ p. Steps IsAt (done_at place keeps other) (opened_at place keeps other) op d p.0 p.1) (next c op)
       (λ p e. record { returned = returned c d op r p.0 p.1 e; unfinished = unfinished c d op r p.0 p.1 e })
 
 -- ---- what becomes of an operation is one of a register
@@ -178,25 +179,25 @@ cut_kind : (keeps : Option ℤ → Bool) (other : ℤ) (kept : Bool) (own : Opti
 cut_kind keeps other kept own need l k = grind (arith, change_kind, setting_kind)
 
 pub into_part : (place : Place) (keeps : ℤ → Bool) (other : ℤ)
-    → IsInto (done_at place keeps other) (open_at place keeps other) (λ op. kind_of_part place (kind_of op))
+    → IsInto (done_at place keeps other) (opened_at place keeps other) (λ op. kind_of_part place (kind_of op))
 into_part place keeps other = record {
   returned = λ kept op reply.
       returned kept op reply (touch_at place op (Some reply)) (touch_kind place op (Some reply));
   unfinished = λ op. unfinished op (touch_at place op None) (touch_kind place op None);
 }
   where
-    own_kind : (q : Place) (op : AnyOp) (reply : AnyReply) → kind_of op ≡ kind_at q
+    own_kind : (q : Place) (op : AnyOp) (reply : AnyReply) → kind_of op ≡ kind_of_place q
         → IfSome (own_call q op reply) IsOfRegister
     own_kind OfRegister op reply e = e
     own_kind (OfKey key) op reply e = tt
 
-    of_part : (op : AnyOp) → kind_of op ≡ kind_at place → (f : Option (AnyOp × AnyReply)) → IfSome f IsOfRegister
+    of_part : (op : AnyOp) → kind_of op ≡ kind_of_place place → (f : Option (AnyOp × AnyReply)) → IfSome f IsOfRegister
         → IfSome f (λ f. kind_of f.0 ≡ kind_of_part place (kind_of op))
     of_part op e None k = tt
     of_part op e (Some f) k = k ∙ sym (part_of_kind place (kind_of op) e)
 
     returned : (kept : Bool) (op : AnyOp) (reply : AnyReply) (o : Option Touch)
-        → IfSome o (λ t. kind_of op ≡ kind_at place)
+        → IfSome o (λ t. kind_of op ≡ kind_of_place place)
         → IfSome (touched_call (kept_here place keeps other) other kept (own_call place op reply) o)
         (λ f. kind_of f.0 ≡ kind_of_part place (kind_of op))
     returned kept op reply None k = tt
@@ -209,7 +210,7 @@ into_part place keeps other = record {
     first op None k = tt
     first op (Some f) k = k
 
-    unfinished : (op : AnyOp) (o : Option Touch) → IfSome o (λ t. kind_of op ≡ kind_at place)
+    unfinished : (op : AnyOp) (o : Option Touch) → IfSome o (λ t. kind_of op ≡ kind_of_place place)
         → IfSome (touched_op (kept_here place keeps other) other o) (λ p. kind_of p ≡ kind_of_part place (kind_of op))
     unfinished op None k = tt
     unfinished op (Some t) k = first op (cut_touch (kept_here place keeps other) other false None t.need t.leave)
@@ -222,7 +223,7 @@ pub part_valid : (place : Place) (own : Kind) (calls : List Call) (keeps : ℤ �
     → (part : List ℤ) × IsValidOrder (kind_of_part place own) (calls_at place keeps other kept calls) part
 part_valid place own calls keeps other kept order v =
     mapped_valid (IsAt place keeps other) (call_at place keeps other kept) calls own (kind_of_part place own)
-    (recast_maps (IsAt place keeps other) (done_at place keeps other) (open_at place keeps other) kept
+    (recast_maps (IsAt place keeps other) (done_at place keeps other) (opened_at place keeps other) kept
     (record { step = step place keeps other })) (begins place keeps other own) order v
 
 pub part_history : (place : Place) (keeps : ℤ → Bool) (other : ℤ) (kept : ℕ → Bool) (h : ObjectCalls)
@@ -236,14 +237,14 @@ part_history place keeps other kept h is =
     cut_into h.object h.kind (kind_of_part place h.kind) h.ops (operation_at place keeps other kept)
     (λ o p i e. subst (λ (k : Kind). IsCutOperationOf (kind_of_part place k) o p)
     (all_at (λ (o : Invocation). kind_of o.op ≡ h.kind) h.ops is.of_kind o i)
-    (recast_operation (done_at place keeps other) (open_at place keeps other) (λ op. kind_of_part place (kind_of op))
+    (recast_operation (done_at place keeps other) (opened_at place keeps other) (λ op. kind_of_part place (kind_of op))
     (into_part place keeps other) (kept o.number) o p e)) is
 
 pub part_calls_of : (place : Place) (keeps : ℤ → Bool) (other : ℤ) (kept : ℕ → Bool) (ops : List Invocation)
     → calls_of (filter_map (operation_at place keeps other kept) ops) ≡ calls_at place keeps other kept (calls_of ops)
 part_calls_of place keeps other kept ops =
     cut_calls (operation_at place keeps other kept) (call_at place keeps other kept) ops
-    (recast_call (done_at place keeps other) (open_at place keeps other) kept)
+    (recast_call (done_at place keeps other) (opened_at place keeps other) kept)
 
 pub part_shows : (place : Place) (keeps : ℤ → Bool) (other : ℤ) (kept : ℕ → Bool) (h : ObjectCalls)
     → IsPart h (record {
@@ -254,7 +255,7 @@ pub part_shows : (place : Place) (keeps : ℤ → Bool) (other : ℤ) (kept : �
 part_shows place keeps other kept h = record {
   object = refl;
   none_failed = cut_lives (operation_at place keeps other kept) h.ops
-      (λ o p e. recast_lives (done_at place keeps other) (open_at place keeps other) (kept o.number) o p e);
+      (λ o p e. recast_lives (done_at place keeps other) (opened_at place keeps other) (kept o.number) o p e);
   shows = λ none order v.
       let r = part_valid place h.kind (calls_of h.ops) keeps other kept order v in
       none r.0 (subst (λ (cs : List Call). IsValidOrder (kind_of_part place h.kind) cs r.0)

@@ -32,7 +32,7 @@ use Rattle.projection.proofs.Overlaps.{front_facts, late_facts, first_write, IsW
 
 -- ---- replies
 
-record Behind (e : Call) (later : List Call) : Type 0 where
+record StepThenReplies (e : Call) (later : List Call) : Type 0 where
   before : Content
   after : Content
   reply : AnyReply
@@ -41,7 +41,7 @@ record Behind (e : Call) (later : List Call) : Type 0 where
   replies : RepliesAlong after later
 
 replies_after : (earlier : List Call) (e : Call) (later : List Call) (c : Content)
-    → RepliesAlong c (earlier ++ e ∷ later) → Behind e later
+    → RepliesAlong c (earlier ++ e ∷ later) → StepThenReplies e later
 replies_after [] e later c h = record { before = c; after = h.0; reply = h.1; does = h.2; agrees = h.3; replies = h.4 }
 replies_after (x ∷ xs) e later c h = replies_after xs e later h.0 h.4
 

@@ -65,13 +65,13 @@ done_at place keeps other kept op reply =
     (touch_at place op (Some reply))
 
 -- what a pending operation becomes
-abbrev pub open_at : Place → (ℤ → Bool) → ℤ → AnyOp → Option AnyOp
-open_at place keeps other op =
+abbrev pub opened_at : Place → (ℤ → Bool) → ℤ → AnyOp → Option AnyOp
+opened_at place keeps other op =
     touched_op (keeps_content (keeps_none place) keeps) other (touch_at place op None)
 
 abbrev pub call_at : Place → (ℤ → Bool) → ℤ → (ℕ → Bool) → Call → Option Call
 call_at place keeps other kept e = recast (done_at place keeps other (kept e.number))
-    (open_at place keeps other) e.number e.op e.returned
+    (opened_at place keeps other) e.number e.op e.returned
 
 abbrev pub calls_at : Place → (ℤ → Bool) → ℤ → (ℕ → Bool) → List Call → List Call
 calls_at place keeps other kept calls = filter_map (call_at place keeps other kept) calls

@@ -14,7 +14,7 @@ use Rattle.projection.specs.declared.counting.Counted.{Counted}
 use Rattle.projection.specs.Ahead.{found_in}
 use Rattle.projection.specs.Kinds.Counting.{sets, takes}
 use Rattle.projection.specs.declared.kinds.Place.{Place}
-use Rattle.projection.specs.Cells.{done_at, open_at}
+use Rattle.projection.specs.Cells.{done_at, opened_at}
 use Rattle.projection.specs.Kinds.Register.{setting}
 use Rattle.projection.specs.Parts.{takes_out, written_before}
 use Rattle.projection.specs.Kinds.Keeping.{fits}
@@ -218,4 +218,4 @@ recast_end done pending number op Failed = None
 
 abbrev pub operation_at : Place → (ℤ → Bool) → ℤ → (ℕ → Bool) → Invocation → Option Invocation
 operation_at place keeps other kept o = recast_end (done_at place keeps other (kept o.number))
-    (open_at place keeps other) o.number o.op o.«end»
+    (opened_at place keeps other) o.number o.op o.«end»

@@ -9,7 +9,7 @@ use Rattle.model.specs.Orders.{Call}
 use Rattle.events.specs.declared.operations.End.TheVariants.{Failed}
 use Rattle.events.specs.declared.operations.Invocation.{Invocation}
 use Rattle.events.specs.Operations.{ObjectCalls, calls_of}
-use Rattle.search.specs.Outcomes.{IsNoneValid}
+use Rattle.search.specs.Outcomes.{HasNoValidOrder}
 use Rattle.projection.specs.Absent.{IsRest}
 use Rattle.projection.specs.Cells.{cell_calls, entry_calls}
 use Rattle.projection.specs.Kinds.{kind_of_part}
@@ -30,8 +30,8 @@ NoneFailed ops = All (λ o. o.«end» ≢ Failed) ops
 pub record IsPart (whole part : ObjectCalls) : Type 0 where
   pub object : part.object ≡ whole.object
   pub none_failed : NoneFailed part.ops
-  pub shows : IsNoneValid part.kind (calls_of part.ops)
-      → IsNoneValid whole.kind (calls_of whole.ops)
+  pub shows : HasNoValidOrder part.kind (calls_of part.ops)
+      → HasNoValidOrder whole.kind (calls_of whole.ops)
 
 abbrev pub keeps_all : Values → Bool
 keeps_all which.All = true

@@ -24,9 +24,9 @@ keeps_none OfRegister = true
 keeps_none (OfKey key) = false
 
 -- the kind of an object that has such a cell
-abbrev pub kind_at : Place → Kind
-kind_at OfRegister = kind.Register
-kind_at (OfKey key) = kind.Map
+abbrev pub kind_of_place : Place → Kind
+kind_of_place OfRegister = kind.Register
+kind_of_place (OfKey key) = kind.Map
 
 -- the kind of a part of an object of this kind
 abbrev pub kind_of_part : Place → Kind → Kind

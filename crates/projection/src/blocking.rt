@@ -7,7 +7,7 @@ ghost use Rattle.std.specs.List.{find, list_all};
 ghost use Rattle.std.specs.Ordering.{int_eq};
 ghost use Rattle.model.specs.declared.AnyOp.{AnyOp};
 ghost use Rattle.events.specs.Operations.{calls_of};
-ghost use Rattle.search.specs.Outcomes.{IsNoneValid};
+ghost use Rattle.search.specs.Outcomes.{HasNoValidOrder};
 ghost use Rattle.projection.specs.Ahead.{IsBlocked};
 ghost use Rattle.projection.specs.Kinds.Containers as containers;
 ghost use Rattle.projection.specs.CutOperations as cut_operations;
@@ -218,7 +218,7 @@ fn times(operations: &[Invocation], removal: Removal, from: u32) -> (usize, usiz
 pub fn is_blocked(history: &ObjectHistory, number: u32, from: u32) -> bool
     ensures counts { MatchBool result (IsBlocked number from (calls_of history.now.ops))
         (IsBlocked number from (calls_of history.now.ops) → ⊥) }
-    ensures shows { result ≡ true → IsNoneValid history.now.kind (calls_of history.now.ops) }
+    ensures shows { result ≡ true → HasNoValidOrder history.now.kind (calls_of history.now.ops) }
 {
     let operations = history.ops();
     let Some(removal) = removal_at(operations, number) else {

@@ -105,7 +105,7 @@ fn returned_op(
 
 /// What a pending operation becomes; `None`: the part leaves it out.
 fn pending_op(cell: CellCut, values: &Values, op: AnyOp) -> Option<AnyOp>
-    ensures { result ≡ spec.open_at cell.place (keeps_value values.now) cell.other op }
+    ensures { result ≡ spec.opened_at cell.place (keeps_value values.now) cell.other op }
 {
     let CellCut { place, other } = cell;
     let touch = place.touch(op, None)?;

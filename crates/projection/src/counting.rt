@@ -3,7 +3,7 @@
 
 ghost use Rattle.std.specs.Prelude.{◌≡◌, true, MatchBool, Option, count_by};
 ghost use Rattle.events.specs.Operations.{calls_of};
-ghost use Rattle.search.specs.Outcomes.{IsNoneValid};
+ghost use Rattle.search.specs.Outcomes.{HasNoValidOrder};
 ghost use Rattle.projection.specs.Counts as counts;
 ghost use Rattle.projection.specs.Counts.{IsOverdrawn};
 ghost use Rattle.projection.specs.CutOperations.{is_set, is_gone};
@@ -95,7 +95,7 @@ pub fn is_overdrawn(history: &ObjectHistory, count: Count) -> bool
     ensures counts { MatchBool result
         (IsOverdrawn history.now.kind count (calls_of history.now.ops))
         (IsOverdrawn history.now.kind count (calls_of history.now.ops) → ⊥) }
-    ensures shows { result ≡ true → IsNoneValid history.now.kind (calls_of history.now.ops) }
+    ensures shows { result ≡ true → HasNoValidOrder history.now.kind (calls_of history.now.ops) }
 {
     let Some(most) = most_before(history.kind(), count) else {
         return false;

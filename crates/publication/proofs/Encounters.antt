@@ -5,14 +5,14 @@ use Rattle.std.proofs.lemmas.List.{get_or-set_same}
 use Rattle.atomic_table.specs.Table.{Me}
 use Rattle.model.specs.declared.AnyOp.{AnyOp}
 use Rattle.model.specs.declared.AnyReply.{AnyReply}
-use Rattle.desk_model.specs.World.{AnyEntry, kind_at, IsLegal, StartsWith}
+use Rattle.desk_model.specs.World.{AnyEntry, kind_at, IsLegalLog, StartsWith}
 use Rattle.publication_list.specs.Calls.{PlaceSeen}
 use Rattle.desk_invariant.specs.declared.board.Journal.{Journal}
 use Rattle.desk_invariant.specs.declared.board.Slot.{Slot}
 use Rattle.desk_invariant.specs.declared.board.DeskView.{DeskView}
 use Rattle.desk_invariant.specs.Views.{seen_of, after_meet, IsAccount}
 use Rattle.publication.specs.Handles.{DeskId, Known, IsClient}
-use Rattle.publication.specs.Calls.{Met}
+use Rattle.publication.specs.Calls.{HaveBothMet}
 use Rattle.publication.proofs.Holds.{agrees_light, agrees_seeing}
 
 module _ {S O R : Type 0} (op_in : O → AnyOp) (reply_in : R → AnyReply) (number calls quota : ℕ) (outstanding : Bool)
@@ -23,7 +23,7 @@ module _ {S O R : Type 0} (op_in : O → AnyOp) (reply_in : R → AnyReply) (num
   -- a client that was told h, and then saw l: d is its seat after both
   pub met_ok : (x : ℕ) (l : List AnyEntry) (h : List (List AnyEntry)) (m d : Me (Slot S O R) DeskView) → TheClient m
       → x < 16
-      → IsLegal (kind_at m.0.kinds x) l → IsAccount x (record m.0 { received = h }) l
+      → IsLegalLog (kind_at m.0.kinds x) l → IsAccount x (record m.0 { received = h }) l
       → d ≡ (after_meet x l (record m.0 { received = h }), m.1) → TheClient d
   met_ok x l h m d k low legal account e =
       rw e record {
@@ -37,9 +37,10 @@ pub met : (x : ℕ) (one other : Known) (d e : DeskId) (s t : List PlaceSeen) (a
     (h i : List (List AnyEntry))
     → one.desk.kinds ≡ a.kinds → one.knows ≡ a → other.knows ≡ b → a' ≡ after_meet x l (record a { received = h })
     → b' ≡ after_meet x l (record b { received = i })
-    → x < length a.seen → x < length b.seen → IsLegal (kind_at a.kinds x) l → StartsWith l (seen_of a x)
+    → x < length a.seen → x < length b.seen → IsLegalLog (kind_at a.kinds x) l → StartsWith l (seen_of a x)
     → StartsWith l (seen_of b x)
-    → Met x one other (record { desk = d; knows = a'; places = s }) (record { desk = e; knows = b'; places = t })
+    → HaveBothMet x one other (record { desk = d; knows = a'; places = s })
+    (record { desk = e; knows = b'; places = t })
 met x one other d e s t a b a' b' l h i kinds p q f g there there' legal first second = record {
   log = l;
   first = f ∙ λ k. after_meet x l (record (sym p k) { received = sym (ap (λ z. z.received) f) k });

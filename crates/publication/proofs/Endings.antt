@@ -13,7 +13,7 @@ use Rattle.desk_invariant.specs.declared.board.Slot.{Slot}
 use Rattle.desk_invariant.specs.declared.board.DeskView.{DeskView}
 use Rattle.desk_invariant.specs.Views.{after_end_seen, after_end_unset}
 use Rattle.publication.specs.Handles.{DeskSeen, Known, IsClient}
-use Rattle.publication.specs.Calls.{StillThere}
+use Rattle.publication.specs.Calls.{IsStillThere}
 use Rattle.publication.specs.Closing.{HaveEnded, HasLearntEnds}
 use Rattle.publication.proofs.Holds.{agrees_light}
 
@@ -43,7 +43,7 @@ one_ended n a b b' e t f before is =
 -- this one has not
 pub there_still : (d : DeskSeen) (n : ℕ) (a b b' : Known) → n < d.clients → n ≢ b.knows.number
     → b'.knows ≡ after_end_unset n b.knows → HaveEnded n b
-    → HasLearntEnds a b → All (λ l. l.client ≢ n) b.knows.left → StillThere d a n b'
+    → HasLearntEnds a b → All (λ l. l.client ≢ n) b.knows.left → IsStillThere d a n b'
 there_still d n a b b' low other e before is untold = let same = ap (λ z. z.knows.number) is in record {
   client_low = low;
   other = λ f. other (f ∙ sym same);

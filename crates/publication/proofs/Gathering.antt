@@ -7,12 +7,12 @@ use Rattle.std.specs.declared.vec.Vec.{Vec}
 use Rattle.std.proofs.Math.ListN.{get_or-append}
 use Rattle.std.proofs.Math.Seq.{get_or-append_seam}
 use Rattle.std.proofs.lemmas.List.{map-append}
-use Rattle.recorder.specs.Records.{items_of}
+use Rattle.recorder.specs.Records.{items_of_each}
 use Rattle.publication.specs.Closing.{IsSameBelow}
 
 pub grown : {A Z : Type 0} (old new : List (Vec A Z)) (v : Vec A Z) → new ≡ old ++ v ∷ []
-    → items_of new ≡ items_of old ++ v.items ∷ []
-grown old new v e = ap items_of e ∙ map-append (λ v. v.items) old (v ∷ [])
+    → items_of_each new ≡ items_of_each old ++ v.items ∷ []
+grown old new v e = ap items_of_each e ∙ map-append (λ v. v.items) old (v ∷ [])
 
 module _ {X : Type 0} where
   pub one_longer : (rows rows' : List (List X)) (row : List X) (n : ℕ) → rows' ≡ rows ++ row ∷ [] → length rows ≡ n

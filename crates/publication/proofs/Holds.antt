@@ -13,7 +13,7 @@ use Rattle.model.specs.declared.AnyReply.{AnyReply}
 use Rattle.model.specs.Objects.{Content, empty, kind_of}
 use Rattle.desk_model.specs.declared.Request.{Request}
 use Rattle.desk_model.specs.declared.Answer.{Answer}
-use Rattle.desk_model.specs.World.{AnyEntry, kind_at, logged, IsLegal, Serves}
+use Rattle.desk_model.specs.World.{AnyEntry, kind_at, logged, IsLegalLog, Serves}
 use Rattle.desk_model.specs.Images.{request_in, answer_in, entry_in}
 use Rattle.desk_model.proofs.Entries.{replays_more}
 use Rattle.desk_invariant.specs.declared.board.Core.{Core}
@@ -28,7 +28,7 @@ use Rattle.desk_invariant.specs.declared.board.Role.TheVariants as role
 use Rattle.desk_invariant.specs.declared.board.DeskView.{DeskView}
 use Rattle.desk_invariant.specs.Views.{after_miss, after_row_miss, after_win, after_pick, after_put_back}
 use Rattle.desk_invariant.specs.Views.{after_answer, after_release, after_meet, IsAtRest, IsAccount}
-use Rattle.desk_invariant.specs.Rule.{Fits}
+use Rattle.desk_invariant.specs.Rule.{CoreFits}
 use Rattle.desk_invariant.proofs.Seeing.{seen_all}
 use Rattle.publication.specs.Handles.{Agrees, log_of, IsClient, IsPass, IsHand}
 
@@ -39,7 +39,7 @@ module _ {O R : Type 0} {op_in : O → AnyOp} {reply_in : R → AnyReply} {numbe
   -- the client has seen other lists
   agrees_seen : {seen received : List (List AnyEntry)} {h : Held} {back : List PutBack} {left : List Leaving}
       {missed retired still_there : List ℕ}
-      {won : ℕ} {ready : Bool} → length seen ≡ 16 → ((x : ℕ) → IsLegal (kind_at v.kinds x) (get_or seen x []))
+      {won : ℕ} {ready : Bool} → length seen ≡ 16 → ((x : ℕ) → IsLegalLog (kind_at v.kinds x) (get_or seen x []))
       → ((x : ℕ) → IsAccount x v (get_or seen x [])) → Agrees op_in reply_in number calls quota outstanding j v
       → Agrees op_in reply_in number calls quota outstanding j
       (record v {
@@ -76,12 +76,12 @@ module _ {O R : Type 0} {op_in : O → AnyOp} {reply_in : R → AnyReply} {numbe
   agrees_light k = agrees_seen k.wide k.legal k.accounts k
 
   -- the client sees the list l of x
-  pub agrees_seeing : (x : ℕ) (l : List AnyEntry) → x < 16 → IsLegal (kind_at v.kinds x) l → IsAccount x v l
+  pub agrees_seeing : (x : ℕ) (l : List AnyEntry) → x < 16 → IsLegalLog (kind_at v.kinds x) l → IsAccount x v l
       → Agrees op_in reply_in number calls quota outstanding j v
       → Agrees op_in reply_in number calls quota outstanding j (after_meet x l v)
   agrees_seeing x l low legal account k = let wide = k.wide in
       agrees_seen (length-set v.seen x l ∙ wide)
-      (seen_all (λ y z. IsLegal (kind_at v.kinds y) z) v.seen x l (omega arith) legal (λ y _. k.legal y))
+      (seen_all (λ y z. IsLegalLog (kind_at v.kinds y) z) v.seen x l (omega arith) legal (λ y _. k.legal y))
       (seen_all (λ y z. IsAccount y v z) v.seen x l (omega arith) account (λ y _. k.accounts y)) k
 
 -- ---- the core after one more request
@@ -108,10 +108,10 @@ module _ {S O R : Type 0} (content : S → Content) (op_in : O → AnyOp) (reply
   -- the core after a request was served
   pub core_grows : (kind : Kind) (list : maybe.Option TableId) (r : ℕ) (k k' : Core S O R) (q : Request O)
       (a : Answer R) → k'.list ≡ k.list
-      → Fits content op_in reply_in kind list k (log_of op_in reply_in k)
+      → CoreFits content op_in reply_in kind list k (log_of op_in reply_in k)
       → log_of op_in reply_in k' ≡ log_of op_in reply_in k ++ logged r (request_in op_in q) (answer_in reply_in a)
       → Serves (content k.object) (op_in q.op) (answer_in reply_in a) (content k'.object)
-      → Fits content op_in reply_in kind list k' (log_of op_in reply_in k')
+      → CoreFits content op_in reply_in kind list k' (log_of op_in reply_in k')
   core_grows kind list r k k' q a same fits log did = (
     refl,
     rw log (replays_more (empty kind) (content k.object) (content k'.object) (log_of op_in reply_in k) r
@@ -142,7 +142,7 @@ module _ {S O R : Type 0} (content : S → Content) (op_in : O → AnyOp) (reply
   -- the core is out of its slot: m before, a after the win, b with nothing in the slot
   pub pass_ok : (x : ℕ) (k core : Core S O R) (l : List AnyEntry) (m a b : M) → TheClient m
       → a ≡ (after_win x l m.0, (x, slot.Core k) ∷ m.1) → b ≡ (a.0, (x, slot.Nothing) ∷ rest a.1) → core ≡ k
-      → Fits content op_in reply_in (kind_at m.0.kinds x) (get_elem? m.0.lists x) k l → x < 16 → ThePass x core b
+      → CoreFits content op_in reply_in (kind_at m.0.kinds x) (get_elem? m.0.lists x) k l → x < 16 → ThePass x core b
   pass_ok x k core l m a b c e f same fits low = rw (f, e, same) record {
     agrees = agrees_light c.agrees;
     holds = ap (held.Pass x) (sym fits.0);
@@ -167,7 +167,7 @@ module _ {S O R : Type 0} (content : S → Content) (op_in : O → AnyOp) (reply
       → a ≡ (m.0, (x, slot.Core core) ∷ rest m.1)
       → (a.0.role ≡ role.Client) × (a.0.held ≡ held.Pass x (log_of op_in reply_in core))
       × (a.1 ≡ (x, slot.Core core) ∷ rest m.1)
-      × Fits content op_in reply_in (kind_at a.0.kinds x) (get_elem? a.0.lists x) core (log_of op_in reply_in core)
+      × CoreFits content op_in reply_in (kind_at a.0.kinds x) (get_elem? a.0.lists x) core (log_of op_in reply_in core)
       × IsAtRest a.0.own
   release_ready x core m a p e = rw e (p.agrees.client_is, p.holds, refl, p.fits, p.agrees.at_rest)
 
@@ -187,7 +187,8 @@ module _ {S O R : Type 0} (content : S → Content) (op_in : O → AnyOp) (reply
       → Serves (content k.object) (op_in q.op) (answer_in reply_in a) (content k'.object)
       → (b.0.role ≡ role.Client) × (b.0.held ≡ held.Hand x (log_of op_in reply_in k) r (request_in op_in q))
       × (b.1 ≡ (16 + r, slot.Answer a) ∷ rest m.1)
-      × IsLegal (kind_at b.0.kinds x) (log_of op_in reply_in k ++ logged r (request_in op_in q) (answer_in reply_in a))
+      × IsLegalLog (kind_at b.0.kinds x) (log_of op_in reply_in k
+      ++ logged r (request_in op_in q) (answer_in reply_in a))
   answer_ready x k k' r q a m b h e log did = rw e (
     h.agrees.client_is,
     h.holds,
@@ -240,7 +241,7 @@ module _ {S O R : Type 0} (content : S → Content) (op_in : O → AnyOp) (reply
 
   -- the pass after an answer: b with the answer in hand, d after the step
   pub answered_ok : (x r : ℕ) (k k' : Core S O R) (q : Request O) (a : Answer R) (m b d : M) → TheHand x k r q m
-      → Fits content op_in reply_in (kind_at m.0.kinds x) (get_elem? m.0.lists x) k' (log_of op_in reply_in k')
+      → CoreFits content op_in reply_in (kind_at m.0.kinds x) (get_elem? m.0.lists x) k' (log_of op_in reply_in k')
       → log_of op_in reply_in k' ≡ log_of op_in reply_in k ++ logged r (request_in op_in q) (answer_in reply_in a)
       → b ≡ (m.0, (16 + r, slot.Answer a) ∷ rest m.1)
       → d ≡ (

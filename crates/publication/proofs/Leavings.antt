@@ -30,12 +30,12 @@ use Rattle.desk_invariant.specs.declared.board.Held.TheVariants as held
 use Rattle.desk_invariant.specs.declared.board.Role.TheVariants as role
 use Rattle.desk_invariant.specs.declared.board.DeskView.{DeskView}
 use Rattle.desk_invariant.specs.Views.{seen_of, journal, IsAtRest, IsAccount}
-use Rattle.desk_invariant.specs.Rule.{HeldOk, Kept}
+use Rattle.desk_invariant.specs.Rule.{HeldAgrees, Kept}
 use Rattle.desk_invariant.proofs.Ends.{own_is}
 use Rattle.desk_invariant.proofs.Seats.{mine}
 use Rattle.desk_invariant.proofs.Seeing.{all_covered, accounts}
 use Rattle.publication.specs.Handles.{DeskSeen, Known, log_of}
-use Rattle.publication.specs.Calls.{Closed}
+use Rattle.publication.specs.Calls.{IsClosedRecord}
 use Rattle.publication.specs.Closing.{IsJournalOf, AreLogs, HaveEnded, HasLearntEnds}
 
 -- ---- all slots, once the other clients have ended
@@ -73,7 +73,7 @@ module _ {S O R : Type 0} (content : S → Content) (op_in : O → AnyOp) (reply
       let ok = mine k id cl at in let few = k.few_clients in
       let ended : (c : ℕ) → c < clients → c ≢ v.number → w.ended c ≡ true =
       λ c l other. All-contains (λ d. w.ended d ≡ true) v.retired c ok.retired (all c l other) in
-      let not_mine : (x : ℕ) → w.holder x ≢ Some v.number = subst (HeldOk (length kinds) w v.number) free ok.held in
+      let not_mine : (x : ℕ) → w.holder x ≢ Some v.number = subst (HeldAgrees (length kinds) w v.number) free ok.held in
       let free_all : (x : ℕ) → w.holder x ≡ None = λ x. none_held (w.holder x) (λ c e. dite (ℕ_discrete c v.number)
       (λ same. not_mine x (e ∙ ap Some same))
       (λ other. let b = k.holders x c e in let g = ended c b.0 other in let h = b.1 in absurd (cc))) in record {
@@ -135,7 +135,7 @@ module _ {S O R : Type 0} (op_in : O → AnyOp) (reply_in : R → AnyReply) (d :
   pub closed_ok : AreLogs (length d.id.kinds) xs r.logs → length r.journals ≡ d.clients
       → map (event_in op_in reply_in) (get_or r.journals last.knows.number []) ≡ journal last.knows
       → ((c : ℕ) → c < d.clients → c ≢ last.knows.number → IsJournalOf xs c (get_or r.journals c []))
-      → Closed op_in reply_in d last r
+      → IsClosedRecord op_in reply_in d last r
   closed_ok logs count own others = let same = same_logs logs in record {
     left = λ i d l. same_journals count own others (get_or last.knows.left i d).client ∙ left.left i d l;
     journals = count;
@@ -153,9 +153,10 @@ module _ {S O R : Type 0} (op_in : O → AnyOp) (reply_in : R → AnyReply) (d :
 
 module _ {O R : Type 0} (op_in : O → AnyOp) (reply_in : R → AnyReply) where
   -- what the last client has learnt of end words does not matter
-  pub closed_same : (d : DeskSeen) (a b : Known) (r : Recorded O R) → HasLearntEnds a b → Closed op_in reply_in d b r
-      → Closed op_in reply_in d a r
-  closed_same d a b r is k = let same = subst (λ z. Closed op_in reply_in d z r) is k in assumption
+  pub closed_same : (d : DeskSeen) (a b : Known) (r : Recorded O R) → HasLearntEnds a b
+      → IsClosedRecord op_in reply_in d b r
+      → IsClosedRecord op_in reply_in d a r
+  closed_same d a b r is k = let same = subst (λ z. IsClosedRecord op_in reply_in d z r) is k in assumption
 
 module _ {S O R : Type 0} (content : S → Content) (op_in : O → AnyOp) (reply_in : R → AnyReply) where
   -- the same of a desk and its last client, as they are seen

@@ -1,7 +1,7 @@
 pub mod Slots
 pub mod Holds
-pub mod Said
-pub mod Turns
+pub mod CallClauses
+pub mod PostAndPoll
 pub mod Encounters
 pub mod Growing
 pub mod NewClients

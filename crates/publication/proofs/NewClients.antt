@@ -10,7 +10,7 @@ use Rattle.model.specs.declared.Kind.{Kind}
 use Rattle.model.specs.declared.AnyOp.{AnyOp}
 use Rattle.model.specs.declared.AnyReply.{AnyReply}
 use Rattle.model.specs.Objects.{Content, empty, kind_with}
-use Rattle.desk_model.specs.World.{kind_at, entries_of, IsLegal}
+use Rattle.desk_model.specs.World.{kind_at, entries_of_client, IsLegalLog}
 use Rattle.desk_model.specs.Images.{entry_in, event_in}
 use Rattle.desk_invariant.specs.declared.board.Journal.{Journal}
 use Rattle.desk_invariant.specs.declared.board.Plan.{Plan}
@@ -64,11 +64,11 @@ module _ {S O R : Type 0} (op_in : O → AnyOp) (reply_in : R → AnyReply) wher
       → m ≡ (with_own own.Idle (new_client kinds lists number), at_hand number own.Idle)
       → IsClient op_in reply_in number 0 quota false j m
   begun_ok kinds lists number quota j m low few room is = let within : 0 ≤ quota = omega arith in
-      let legal : (x : ℕ) → IsLegal (kind_at kinds x) (seen_of (new_client kinds lists number) x) =
-      λ x. subst (IsLegal (kind_at kinds x)) (sym (get_or-replicate_same [] 16 x)) (empty (kind_at kinds x), refl) in
+      let legal : (x : ℕ) → IsLegalLog (kind_at kinds x) (seen_of (new_client kinds lists number) x) =
+      λ x. subst (IsLegalLog (kind_at kinds x)) (sym (get_or-replicate_same [] 16 x)) (empty (kind_at kinds x), refl) in
       let accounts : (x : ℕ) → IsAccount x (with_own own.Idle (new_client kinds lists number))
       (seen_of (new_client kinds lists number) x) =
-      λ x. ([], ap (entries_of number) (get_or-replicate_same [] 16 x), refl) in rw is record {
+      λ x. ([], ap (entries_of_client number) (get_or-replicate_same [] 16 x), refl) in rw is record {
         agrees = assumption (ap (map (event_in op_in reply_in)) room.0);
         free = refl;
         in_hand = refl;

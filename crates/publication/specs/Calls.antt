@@ -6,8 +6,9 @@ use Rattle.model.specs.declared.AnyOp.{AnyOp}
 use Rattle.model.specs.declared.AnyReply.{AnyReply}
 use Rattle.model.specs.Objects.{Content, empty, kind_of, next}
 use Rattle.desk_model.specs.declared.JournalEvent.TheVariants.{Invoked, Returned}
-use Rattle.desk_model.specs.World.{AnyEntry, AnyRequest, AnyAnswer, kind_at, logged, entries_of}
-use Rattle.desk_model.specs.World.{served, calls_made, Replays, IsLegal, StartsWith}
+use Rattle.desk_model.specs.World.{AnyEntry, AnyRequest, AnyAnswer, kind_at, logged}
+use Rattle.desk_model.specs.World.{entries_of_client}
+use Rattle.desk_model.specs.World.{served, calls_made, Replays, IsLegalLog, StartsWith}
 use Rattle.desk_invariant.specs.declared.board.Own.TheVariants as own
 use Rattle.desk_invariant.specs.declared.board.DeskView.{DeskView}
 use Rattle.desk_invariant.specs.Views.{row_place, seen_of, own_request, journal, is_waiting}
@@ -29,7 +30,7 @@ use Rattle.publication.specs.Handles.{DeskId, DeskSeen, Known, PassState, Holdin
 
 -- The call was posted as the outstanding one of an idle client: its invocation is the last event of
 -- the journal.
-pub record Posted (v : DeskView) (object : ℕ) (op : AnyOp) (w : DeskView) : Type 0 where
+pub record IsPosted (v : DeskView) (object : ℕ) (op : AnyOp) (w : DeskView) : Type 0 where
   pub ticket : ℕ
   pub was_idle : v.own ≡ own.Idle
   pub knows : w ≡ with_own (own.Waiting record { object = object; ticket = ticket; op = op }) v
@@ -50,48 +51,48 @@ IsNotOfKind kinds x kind post.OtherKind = (x < length kinds) × (kind ≢ kind_a
 IsNotOfKind kinds x kind e = ⊥
 
 -- why a call on the object x was not posted
-abbrev pub PostRefused : DeskSeen → Known → ℕ → AnyOp → Post → Type 0
-PostRefused d c x op post.Outstanding = is_waiting c.knows.own ≡ true
-PostRefused d c x op post.Spent =
+abbrev pub IsPostRefusal : DeskSeen → Known → ℕ → AnyOp → Post → Type 0
+IsPostRefusal d c x op post.Outstanding = is_waiting c.knows.own ≡ true
+IsPostRefusal d c x op post.Spent =
     (is_waiting c.knows.own ≡ false)
     × (c.desk.quota ≤ calls_made c.knows.done (own_request c.knows.own))
-PostRefused d c x op e = MayPost c × IsNotOfKind d.id.kinds x (kind_of op) e
+IsPostRefusal d c x op e = MayPost c × IsNotOfKind d.id.kinds x (kind_of op) e
 
 -- The own call is over, with this answer. The log of its object that was seen is legal, begins with
 -- all that was seen before, and holds of the client's own calls those that are over and this one.
 -- The ticket of the return is greater than each in it, and the return is the last event of the
 -- journal.
-pub record Polled (v : DeskView) (a : AnyAnswer) (w : DeskView) : Type 0 where
+pub record IsPollAnswer (v : DeskView) (a : AnyAnswer) (w : DeskView) : Type 0 where
   pub request : AnyRequest
   pub log : List AnyEntry
   pub ticket : ℕ
   pub waited : v.own ≡ own.Waiting request
   pub knows : w ≡ after_return request a ticket (after_take request a log v)
   pub seen : seen_of w request.object ≡ log
-  pub legal : IsLegal (kind_at v.kinds request.object) log
+  pub legal : IsLegalLog (kind_at v.kinds request.object) log
   pub begins : StartsWith log (seen_of v request.object)
-  pub counted : entries_of v.number log
+  pub counted : entries_of_client v.number log
       ≡ served request.object v.number v.done ++ logged v.number request a
   pub later : All (λ e. e.ticket < ticket) log
   pub journal : journal w ≡ journal v ++ Returned ticket a ∷ []
 
 -- nothing was outstanding, or the row was tried once, and the client did not know that it was
 -- answered
-abbrev pub NotPolled : DeskView → DeskView → Type 0
-NotPolled v w =
+abbrev pub IsPollMiss : DeskView → DeskView → Type 0
+IsPollMiss v w =
     ((is_waiting v.own ≡ false) × (w ≡ v))
     ⊎ ((w ≡ after_miss (row_place v.number) v) × (v.ready ≡ false))
 
 -- The object x is held. Its log is legal, and begins with all that was seen of it.
-pub record Opened (c : Known) (x : ℕ) (p : Holding) : Type 0 where
+pub record IsWon (c : Known) (x : ℕ) (p : Holding) : Type 0 where
   pub object : p.object ≡ x
   pub knows : p.knows ≡ after_win x p.log c.knows
-  pub legal : IsLegal (kind_at c.desk.kinds x) p.log
+  pub legal : IsLegalLog (kind_at c.desk.kinds x) p.log
   pub begins : StartsWith p.log (seen_of c.knows x)
 
 -- The request of the row is in hand. It is for the object that is held, and of its kind. It is the
 -- one that this pass had put back there, if any, and at the own row it is the own one.
-pub record Got (p : Holding) (r : ℕ) (h : Handling) : Type 0 where
+pub record IsPicked (p : Holding) (r : ℕ) (h : Handling) : Type 0 where
   pub object : h.object ≡ p.object
   pub log : h.log ≡ p.log
   pub row : h.row ≡ r
@@ -102,15 +103,15 @@ pub record Got (p : Holding) (r : ℕ) (h : Handling) : Type 0 where
   pub mine : (q : AnyRequest) → r ≡ p.knows.number → p.knows.own ≡ own.Waiting q → h.request ≡ q
 
 -- the row was tried once, and had no request for the object; so this pass had put none back there
-pub record NotGot (p : Holding) (r : ℕ) (q : Holding) : Type 0 where
+pub record IsPickMiss (p : Holding) (r : ℕ) (q : Holding) : Type 0 where
   pub object : q.object ≡ p.object
   pub log : q.log ≡ p.log
   pub knows : q.knows ≡ after_row_miss (row_place r) p.object p.knows
   pub none_back : All (λ b. b.row ≢ r) p.knows.back
 
 -- after the log, the object can do the operation
-abbrev pub CanDo : Kind → List AnyEntry → AnyOp → Type 0
-CanDo kind log op =
+abbrev pub CanDoAfter : Kind → List AnyEntry → AnyOp → Type 0
+CanDoAfter kind log op =
     (content : Content) × Replays (empty kind) log content × IsSome (next content op)
 
 -- the kind of the object that is held
@@ -119,15 +120,15 @@ kind_held h = kind_at h.knows.kinds h.object
 
 -- The request in hand is answered: the log has one entry more, with the request's client, ticket
 -- and operation, and the reply, and is legal; or an allocation failed, and it has none.
-pub record Answered (h : Handling) (a : AnyAnswer) (p : Holding) : Type 0 where
+pub record IsAnsweredCall (h : Handling) (a : AnyAnswer) (p : Holding) : Type 0 where
   pub object : p.object ≡ h.object
   pub log : p.log ≡ h.log ++ logged h.row h.request a
-  pub legal : IsLegal (kind_held h) p.log
+  pub legal : IsLegalLog (kind_held h) p.log
   pub knows : p.knows ≡ after_answer h.row h.object p.log h.knows
 
 -- the kind of the object of a pass
-abbrev pub kind_in : Holding → Kind
-kind_in p = kind_at p.desk.kinds p.object
+abbrev pub kind_of_pass : Holding → Kind
+kind_of_pass p = kind_at p.desk.kinds p.object
 
 -- the request in hand is back in its row, and nothing else changed
 pub record IsPutBack (h : Handling) (p : Holding) : Type 0 where
@@ -139,7 +140,7 @@ pub record IsPutBack (h : Handling) (p : Holding) : Type 0 where
 -- else of theirs has changed but what they were told. So no word has changed: of the steps that
 -- change one only those of a pass, from win to release, leave no other trace in what a client
 -- knows, and neither began one.
-pub record Met (x : ℕ) (one other one' other' : Known) : Type 0 where
+pub record HaveBothMet (x : ℕ) (one other one' other' : Known) : Type 0 where
   pub log : List AnyEntry
   pub first : one'.knows ≡ after_meet x log (record one.knows { received = one'.knows.received })
   pub second : other'.knows
@@ -147,13 +148,13 @@ pub record Met (x : ℕ) (one other one' other' : Known) : Type 0 where
   pub no_pass : (one'.knows.won ≡ one.knows.won) × (other'.knows.won ≡ other.knows.won)
   pub seen_first : seen_of one'.knows x ≡ log
   pub seen_second : seen_of other'.knows x ≡ log
-  pub legal : IsLegal (kind_at one.desk.kinds x) log
+  pub legal : IsLegalLog (kind_at one.desk.kinds x) log
   pub begins_first : StartsWith log (seen_of one.knows x)
   pub begins_second : StartsWith log (seen_of other.knows x)
 
 -- another client than the last had not retired when its end word was read, and all others of lower
 -- number had
-pub record StillThere (d : DeskSeen) (last : Known) (client : ℕ) (after : Known) : Type 0 where
+pub record IsStillThere (d : DeskSeen) (last : Known) (client : ℕ) (after : Known) : Type 0 where
   pub client_low : client < d.clients
   pub other : client ≢ last.knows.number
   -- and none that is known to have retired, since it told
@@ -167,12 +168,12 @@ module _ {O R : Type 0} (op_in : O → AnyOp) (reply_in : R → AnyReply) where
   -- The record has a journal for each client and a log for each object, and is sound: its history
   -- is well-formed, and each log is legal and a valid order. The last client's journal is its own,
   -- and each log begins with what it had seen.
-  pub record Closed (d : DeskSeen) (last : Known) (r : Recorded O R) : Type 0 where
+  pub record IsClosedRecord (d : DeskSeen) (last : Known) (r : Recorded O R) : Type 0 where
     pub journals : length r.journals ≡ d.clients
     pub logs : length r.logs ≡ length d.id.kinds
     pub own : map (event_in op_in reply_in) (journal_at r last.knows.number) ≡ journal last.knows
     pub legal : (x : ℕ) → x < length d.id.kinds
-        → IsLegal (kind_at d.id.kinds x) (map (entry_in op_in reply_in) (log_at r x))
+        → IsLegalLog (kind_at d.id.kinds x) (map (entry_in op_in reply_in) (log_at r x))
     pub seen : (x : ℕ) → x < length d.id.kinds
         → StartsWith (map (entry_in op_in reply_in) (log_at r x)) (seen_of last.knows x)
     -- the journal of each client that told of its end is the one that it told of

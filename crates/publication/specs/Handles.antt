@@ -11,7 +11,7 @@ use Rattle.model.specs.declared.AnyOp.{AnyOp}
 use Rattle.model.specs.declared.AnyReply.{AnyReply}
 use Rattle.model.specs.Objects.{Content, kind_of}
 use Rattle.desk_model.specs.declared.Request.{Request}
-use Rattle.desk_model.specs.World.{AnyEntry, AnyRequest, kind_at, calls_made, IsLegal}
+use Rattle.desk_model.specs.World.{AnyEntry, AnyRequest, kind_at, calls_made, IsLegalLog}
 use Rattle.desk_model.specs.Images.{request_in, entry_in, event_in}
 use Rattle.publication_list.specs.declared.board.Enlist.{Enlist}
 use Rattle.publication_list.specs.Calls.{PlaceSeen, WalkerSeen}
@@ -28,7 +28,7 @@ use Rattle.desk_invariant.specs.declared.board.Role.TheVariants as role
 use Rattle.desk_invariant.specs.declared.board.DeskView.{DeskView}
 use Rattle.desk_invariant.specs.Views.{new_client, with_own, own_request, journal, is_waiting}
 use Rattle.desk_invariant.specs.Views.{seen_of, IsAtRest, IsAccount}
-use Rattle.desk_invariant.specs.Rule.{Fits}
+use Rattle.desk_invariant.specs.Rule.{CoreFits}
 use Rattle.desk_model.specs.Limits.{max_objects, max_clients, max_calls}
 use Rattle.desk_invariant.specs.Views.{table_words, table_slots, call_slot, journal_slot}
 
@@ -131,7 +131,7 @@ module _ {O R : Type 0} (op_in : O → AnyOp) (reply_in : R → AnyReply) where
     pub journal_is : map (event_in op_in reply_in) j.events.items ≡ journal v
     pub room : quota + quota ≤ vec_capacity j.events
     pub wide : length v.seen ≡ max_objects
-    pub legal : (x : ℕ) → IsLegal (kind_at v.kinds x) (seen_of v x)
+    pub legal : (x : ℕ) → IsLegalLog (kind_at v.kinds x) (seen_of v x)
     pub accounts : (x : ℕ) → IsAccount x v (seen_of v x)
 
 module _ {S O R : Type 0} where
@@ -169,7 +169,7 @@ module _ {S O R : Type 0} (content : S → Content) (op_in : O → AnyOp) (reply
       pub agrees : Agrees op_in reply_in number calls quota outstanding j me.0
       pub holds : me.0.held ≡ held.Pass object (log_of op_in reply_in core)
       pub in_hand : me.1 ≡ (object, slot.Nothing) ∷ at_hand number me.0.own
-      pub fits : Fits content op_in reply_in (kind_at me.0.kinds object)
+      pub fits : CoreFits content op_in reply_in (kind_at me.0.kinds object)
           (get_elem? me.0.lists object)
           core (log_of op_in reply_in core)
       pub low : object < max_objects
@@ -182,7 +182,7 @@ module _ {S O R : Type 0} (content : S → Content) (op_in : O → AnyOp) (reply
             ≡ held.Hand object (log_of op_in reply_in core) row (request_in op_in request)
         pub in_hand : me.1
             ≡ (call_slot row, slot.Nothing) ∷ (object, slot.Nothing) ∷ at_hand number me.0.own
-        pub fits : Fits content op_in reply_in (kind_at me.0.kinds object)
+        pub fits : CoreFits content op_in reply_in (kind_at me.0.kinds object)
             (get_elem? me.0.lists object)
             core (log_of op_in reply_in core)
         pub low : object < max_objects

@@ -4,7 +4,7 @@ ghost use Rattle.std.specs.Prelude.{◌≡◌, ◌+◌, ◌<◌, ◌≤◌, ℕ,
 ghost use Rattle.std.specs.Prelude.{vec_capacity};
 ghost use Rattle.desk_model.specs.Limits.{max_objects, max_clients};
 ghost use Rattle.desk_model.specs.declared.JournalEvent.TheVariants.{Invoked, Returned};
-ghost use Rattle.desk_model.specs.World.{kind_at, IsLegal};
+ghost use Rattle.desk_model.specs.World.{kind_at, IsLegalLog};
 ghost use Rattle.desk_invariant.specs.Views.{is_waiting, seen_of, IsAccount};
 ghost use Rattle.publication.specs.Handles.{trying};
 
@@ -287,7 +287,7 @@ impl<S: SeqObject> Client<S> {
         ensures outstanding { result ≡ is_waiting self.now.knows.own }
         // At every moment, what the client has seen of an object is a legal log.
         ensures legal { (x : ℕ)
-            → IsLegal (kind_at self.now.desk.kinds x) (seen_of self.now.knows x) }
+            → IsLegalLog (kind_at self.now.desk.kinds x) (seen_of self.now.knows x) }
         // And it holds of its own calls just those that are over and
         // were not refused, each once and in order, and the outstanding one at most once.
         ensures accounts { (x : ℕ) → IsAccount x self.now.knows (seen_of self.now.knows x) }

@@ -3,11 +3,11 @@
 ghost use Rattle.std.specs.Prelude.{◌≡◌, ◌≢◌, ℕ, ◌+◌, ◌<◌, ◌≤◌, ◌∷◌, [], All, false, length};
 ghost use Rattle.std.specs.Prelude.{slice_index_or, vec_len, vec_capacity, IfOk, IfErr, IfSome};
 ghost use Rattle.std.specs.Prelude.{IfNone, if◌then◌else◌};
-ghost use Rattle.recorder.specs.Records.{items_of};
+ghost use Rattle.recorder.specs.Records.{items_of_each};
 ghost use Rattle.desk_invariant.specs.Views.{after_end_seen, after_end_unset, end_notice};
 ghost use Rattle.desk_invariant.specs.Views.{after_notice};
 ghost use Rattle.publication.specs.Handles.{IsRoom};
-ghost use Rattle.publication.specs.Calls.{Closed, StillThere};
+ghost use Rattle.publication.specs.Calls.{IsClosedRecord, IsStillThere};
 ghost use Rattle.publication.specs.Closing.{values_of, IsTakenTo, HasCore, HasJournal, IsLogOf};
 ghost use Rattle.publication.specs.Closing.{IsJournalOf, AreLogs, AreJournals, IsSameBelow};
 ghost use Rattle.publication.specs.Closing.{HaveEnded, HasLearntEnds};
@@ -96,9 +96,9 @@ impl<S: SeqObject> Desk<S> {
     /// retired.
     pub fn close(self, mut last: Client<S>) -> Result<Record<S>, Unretired<S>>
         requires { last.desk ≡ self.id }
-        ensures closed { IfOk result (Closed S.op_in S.reply_in self last) }
+        ensures closed { IfOk result (IsClosedRecord S.op_in S.reply_in self last) }
         ensures unretired { IfErr result (λ u. (u.desk ≡ self) × (u.last.desk ≡ last.desk)
-            × (u.last.places ≡ last.places) × StillThere self last u.client u.last) }
+            × (u.last.places ≡ last.places) × IsStillThere self last u.client u.last) }
     {
         match first_unretired(&self, &mut last) {
             Some(client) => Err(Unretired {
@@ -131,7 +131,7 @@ fn first_unretired<S: SeqObject>(desk: &Desk<S>, last: &mut Client<S>) -> Option
     requires { last.old.desk ≡ desk.now.id }
     ensures desk { last.new.desk ≡ last.old.desk }
     ensures places { last.new.places ≡ last.old.places }
-    ensures found { IfSome result (λ c. StillThere desk.now last.old c last.new) }
+    ensures found { IfSome result (λ c. IsStillThere desk.now last.old c last.new) }
     ensures all { IfNone result
         (HaveEnded desk.now.clients last.new × HasLearntEnds last.old last.new) }
 {
@@ -170,7 +170,7 @@ fn take_logs<S: SeqObject>(
     requires cores { (x : ℕ) → x < objects → HasCore (values_of left.old) x }
     requires room { IsRoom objects logs.old }
     ensures slots { IsTakenTo objects left.new × (values_of left.new ≡ values_of left.old) }
-    ensures logs { AreLogs objects (values_of left.old) (items_of logs.new.items) }
+    ensures logs { AreLogs objects (values_of left.old) (items_of_each logs.new.items) }
 {
     for x in 0..objects {
         logs.push_reserved(take_log(left, x));
@@ -214,8 +214,8 @@ fn take_journals<S: SeqObject>(
     requires present { (c : ℕ) → from ≤ c → c < to → HasJournal (values_of left.old) c }
     requires room { (vec_len journals.old ≡ from) × (to ≤ vec_capacity journals.old) }
     ensures slots { IsTakenTo (48 + to) left.new × (values_of left.new ≡ values_of left.old) }
-    ensures journals { AreJournals from to (values_of left.old) (items_of journals.new.items)
-        × IsSameBelow from (items_of journals.old.items) (items_of journals.new.items) }
+    ensures journals { AreJournals from to (values_of left.old) (items_of_each journals.new.items)
+        × IsSameBelow from (items_of_each journals.old.items) (items_of_each journals.new.items) }
     ensures room { vec_capacity journals.new ≡ vec_capacity journals.old }
 {
     for client in from..to {
@@ -235,10 +235,10 @@ fn take_all_journals<S: SeqObject>(
     requires present { (c : ℕ) → c < clients → c ≢ number → HasJournal (values_of left.old) c }
     requires room { IsRoom clients journals.old × (vec_len journals.old ≡ 0) }
     ensures slots { IsTakenTo (48 + clients) left.new × (values_of left.new ≡ values_of left.old) }
-    ensures count { length (items_of journals.new.items) ≡ clients }
-    ensures own { slice_index_or (items_of journals.new.items) number [] ≡ own.items }
+    ensures count { length (items_of_each journals.new.items) ≡ clients }
+    ensures own { slice_index_or (items_of_each journals.new.items) number [] ≡ own.items }
     ensures others { (c : ℕ) → c < clients → c ≢ number →
-        IsJournalOf (values_of left.old) c (slice_index_or (items_of journals.new.items) c []) }
+        IsJournalOf (values_of left.old) c (slice_index_or (items_of_each journals.new.items) c []) }
 {
     let own_slot = ENDS + number as usize;
     take_journals(left, 0, number, journals);
@@ -251,7 +251,7 @@ fn take_all_journals<S: SeqObject>(
 fn gather<S: SeqObject>(desk: Desk<S>, last: Client<S>) -> Record<S>
     requires desk { last.desk ≡ desk.id }
     requires ended { HaveEnded desk.clients last }
-    ensures { Closed S.op_in S.reply_in desk last result }
+    ensures { IsClosedRecord S.op_in S.reply_in desk last result }
 {
     let Desk {
         table,

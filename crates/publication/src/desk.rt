@@ -114,8 +114,8 @@ pub enum Picked<S: SeqObject> {
 }
 
 impl<S: SeqObject> Desk<S> {
-    ghost use Rattle.publication.specs.Calls.{IsNotOfKind, MayPost, Posted, PostRefused, Polled};
-    ghost use Rattle.publication.specs.Calls.{NotPolled, Opened, desk_after_win, places_after_win};
+    ghost use Rattle.publication.specs.Calls.{IsNotOfKind, MayPost, IsPosted, IsPostRefusal, IsPollAnswer};
+    ghost use Rattle.publication.specs.Calls.{IsPollMiss, IsWon, desk_after_win, places_after_win};
     ghost use Rattle.publication.specs.Calls.{IfWon, IfHeld};
 
     /// How many objects there are.
@@ -154,7 +154,7 @@ impl<S: SeqObject> Desk<S> {
         ensures may { OnOk result (MayPost client.now) }
         ensures there { OnOk result ((object < length self.now.id.kinds)
             × (kind_of (S.op_in op.now) ≡ kind_at self.now.id.kinds object)) }
-        ensures refused { IfErr result (PostRefused self.now client.now object (S.op_in op.now)) }
+        ensures refused { IfErr result (IsPostRefusal self.now client.now object (S.op_in op.now)) }
     {
         let member = &*client.member.inside;
         if member.outstanding {
@@ -176,10 +176,10 @@ impl<S: SeqObject> Desk<S> {
         ensures may { OnOk result (MayPost client.old) }
         ensures there { OnOk result ((object < length self.now.id.kinds)
             × (kind_of (S.op_in op) ≡ kind_at self.now.id.kinds object)) }
-        ensures posted { IfOk result (λ _. Posted client.old.knows object (S.op_in op)
+        ensures posted { IfOk result (λ _. IsPosted client.old.knows object (S.op_in op)
             client.new.knows) }
         ensures refused { IfErr result (λ e. (client.new ≡ client.old)
-            × PostRefused self.now client.old object (S.op_in op) e) }
+            × IsPostRefusal self.now client.old object (S.op_in op) e) }
     {
         if let Err(fault) = self.may_post(client, object, &op) {
             return Err(fault);
@@ -208,8 +208,8 @@ impl<S: SeqObject> Desk<S> {
         ensures desk { client.new.desk ≡ client.old.desk }
         ensures places { client.new.places ≡ client.old.places }
         ensures polled { IfSome result (λ a.
-            Polled client.old.knows (answer_in S.reply_in a) client.new.knows) }
-        ensures missed { IfNone result (NotPolled client.old.knows client.new.knows) }
+            IsPollAnswer client.old.knows (answer_in S.reply_in a) client.new.knows) }
+        ensures missed { IfNone result (IsPollMiss client.old.knows client.new.knows) }
     {
         if !client.member.is_outstanding() {
             return None;
@@ -240,7 +240,7 @@ impl<S: SeqObject> Desk<S> {
         requires object { object < length self.now.id.kinds }
         ensures desk { desk_after_win result ≡ client.desk }
         ensures places { places_after_win result ≡ client.places }
-        ensures won { IfWon result (Opened client object) }
+        ensures won { IfWon result (IsWon client object) }
         ensures held { IfHeld result (λ c. c.knows ≡ after_miss object client.knows) }
     {
         let Client {

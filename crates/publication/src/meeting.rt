@@ -1,7 +1,7 @@
 //! Two clients meet.
 
 ghost use Rattle.std.specs.Prelude.{◌≡◌, ◌<◌, length};
-ghost use Rattle.publication.specs.Calls.{Met};
+ghost use Rattle.publication.specs.Calls.{HaveBothMet};
 
 use crate::client::Client;
 use crate::desk::Desk;
@@ -17,7 +17,7 @@ impl<S: SeqObject> Desk<S> {
         requires object { object < length self.now.id.kinds }
         ensures desk { (result.0.desk ≡ one.desk) × (result.1.desk ≡ other.desk) }
         ensures places { (result.0.places ≡ one.places) × (result.1.places ≡ other.places) }
-        ensures met { Met object one other result.0 result.1 }
+        ensures met { HaveBothMet object one other result.0 result.1 }
     {
         let Client {
             seat: mut first,

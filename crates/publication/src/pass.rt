@@ -7,8 +7,8 @@ ghost use Rattle.model.specs.Objects.{kind_of, kind_with, next};
 ghost use Rattle.desk_model.specs.World.{logged, Serves};
 ghost use Rattle.desk_model.specs.Images.{request_in, answer_in, entry_in};
 ghost use Rattle.desk_invariant.specs.Views.{after_release, seen_of};
-ghost use Rattle.publication.specs.Calls.{Got, NotGot, CanDo, kind_held};
-ghost use Rattle.publication.specs.Calls.{Answered, IsPutBack, desk_after_pick};
+ghost use Rattle.publication.specs.Calls.{IsPicked, IsPickMiss, CanDoAfter, kind_held};
+ghost use Rattle.publication.specs.Calls.{IsAnsweredCall, IsPutBack, desk_after_pick};
 ghost use Rattle.publication.specs.Calls.{state_after_pick, IfGot, IfNot};
 
 use crate::client::{Client, Hand, Pass};
@@ -30,7 +30,7 @@ impl<S: SeqObject> Pass<S> {
         self.number
     }
 
-    /// Tries once to pick up the row's request for this object. `Got`: the request is of the
+    /// Tries once to pick up the row's request for this object. `IsPicked`: the request is of the
     /// object's kind. If this pass had put one of the row back, it is that one; at its own row it
     /// is the client's own call. `Not`: the row had no request, so this pass had put none of it
     /// back, and at its own row the client's call on this object, if there is one, is answered. A
@@ -40,8 +40,8 @@ impl<S: SeqObject> Pass<S> {
         requires row { row < max_clients }
         ensures desk { desk_after_pick result ≡ self.desk }
         ensures state { state_after_pick result ≡ self.state }
-        ensures got { IfGot result (Got self row) }
-        ensures missed { IfNot result (NotGot self row) }
+        ensures got { IfGot result (IsPicked self row) }
+        ensures missed { IfNot result (IsPickMiss self row) }
     {
         let Pass {
             mut seat,
@@ -131,7 +131,7 @@ impl<S: SeqObject> Hand<S> {
 
     /// Whether the object can do the operation now.
     pub fn possible(&self) -> bool
-        ensures { IsTrue result ↔ CanDo (kind_held self.now) self.now.log self.now.request.op }
+        ensures { IsTrue result ↔ CanDoAfter (kind_held self.now) self.now.log self.now.request.op }
     {
         can_do(&self.core, &self.request.op)
     }
@@ -140,7 +140,7 @@ impl<S: SeqObject> Hand<S> {
     /// Refused, and nothing is done or logged.
     pub fn answer(self, desk: &Desk<S>) -> (Pass<S>, Answer<S::Reply>)
         requires desk { self.desk ≡ desk.now.id }
-        requires possible { CanDo (kind_held self) self.log self.request.op }
+        requires possible { CanDoAfter (kind_held self) self.log self.request.op }
         ensures desk { result.0.desk ≡ self.desk }
         ensures state { result.0.state ≡ record self.state { room = result.0.state.room } }
         // An entry takes room for one, if there was room.
@@ -148,7 +148,7 @@ impl<S: SeqObject> Hand<S> {
             result.0.state.room + length (logged self.row self.request
             (answer_in S.reply_in result.1))
             ≡ self.state.room }
-        ensures answered { Answered self (answer_in S.reply_in result.1) result.0 }
+        ensures answered { IsAnsweredCall self (answer_in S.reply_in result.1) result.0 }
     {
         let Hand {
             mut seat,
@@ -179,7 +179,7 @@ impl<S: SeqObject> Hand<S> {
     /// Puts a request whose operation is not possible now back into its row.
     pub fn put_back(self, desk: &Desk<S>) -> Pass<S>
         requires desk { self.desk ≡ desk.now.id }
-        requires impossible { CanDo (kind_held self) self.log self.request.op → ⊥ }
+        requires impossible { CanDoAfter (kind_held self) self.log self.request.op → ⊥ }
         ensures desk { result.desk ≡ self.desk }
         ensures state { result.state ≡ self.state }
         ensures put_back { IsPutBack self result }

@@ -11,7 +11,7 @@ use mathlib.Core.Option.{some, some-injective}
 use lib.ListN.{get_elem?}
 use Rattle.atomic_table.specs.Seated.{TableId}
 use Rattle.atomic_table.proofs.Lists.{at_last}
-use Rattle.publication_list.specs.Calls.{PlaceSeen, ArePlaces}
+use Rattle.publication_list.specs.Calls.{PlaceSeen, AreRowPlaces}
 use Rattle.publication_list.specs.Dealing.{AreGrown, AreGrownFrom, HaveRoom}
 
 pub long : {X Z : Type 0} (v : Vec X Z) → vec_len v ≡ length v.items
@@ -23,9 +23,10 @@ at_first [] a b j h e = absurd (omega arith)
 at_first (x ∷ xs) a b zero h e = e
 at_first (x ∷ xs) a b (suc j) h e = at_first xs a b j (omega arith) e
 
-pub popped : (id : TableId) (n : ℕ) (old new : List PlaceSeen) (p : PlaceSeen) → ArePlaces id n old
+pub popped : (id : TableId) (n : ℕ) (old new : List PlaceSeen) (p : PlaceSeen) → AreRowPlaces id n old
     → old ≡ new ++ p ∷ []
-    → ArePlaces id (length new) new × (p ≡ record { roster = id; row = length new; tries = [] }) × (n ≡ length new + 1)
+    → AreRowPlaces id (length new) new × (p ≡ record { roster = id; row = length new; tries = [] })
+    × (n ≡ length new + 1)
 popped id n old new p k more =
     let long : length old ≡ length (new ++ p ∷ []) = ap length more in let both = length-append new (p ∷ []) in
     let count =

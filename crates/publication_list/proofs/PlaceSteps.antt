@@ -10,7 +10,7 @@ use mathlib.Core.Option.{some}
 use lib.ListN.{get_elem?}
 use prog.Atomic.{either}
 use Rattle.atomic_table.specs.Table.{Me, step, keeps, Allows}
-use Rattle.publication_list.specs.Inside.{IsPlace, tries_of}
+use Rattle.publication_list.specs.Inside.{IsRowPlace, tries_of}
 use Rattle.publication_list.specs.declared.board.Enlist.{Enlist}
 use Rattle.publication_list.specs.declared.board.Enlist.TheVariants.{Already, Listed, Missed}
 use Rattle.publication_list.specs.declared.board.RowKnowledge.{RowKnowledge}
@@ -18,7 +18,7 @@ use Rattle.publication_list.specs.declared.board.RowKnowledge.TheVariants as own
 use Rattle.publication_list.specs.declared.board.ListView.{ListView}
 use Rattle.publication_list.specs.declared.board.ListView.TheVariants as view
 use Rattle.publication_list.specs.PublicationList.{Stage, asleep, awake, listed, unlinked, PublicationList, mark_of}
-use Rattle.publication_list.specs.Rule.{OwnOk, Kept}
+use Rattle.publication_list.specs.Rule.{OwnRowAgrees, Kept}
 use Rattle.publication_list.specs.Plays as play
 use Rattle.publication_list.proofs.RuleKept.{with_stage, place_step_keeps_others, stage_keeps_sound, mark_keeps_tied}
 use Rattle.publication_list.proofs.RuleKept.{link_keeps_tied, enlist_keeps_sound, enlist_keeps_tied, St, kept_after}
@@ -34,7 +34,8 @@ Hands = Me ℕ ListView
 
 -- the view that the owner of c has
 known : (s : St) (k : Kept s) (id c : ℕ) (o : RowKnowledge) (t : List Enlist)
-    → get_elem? s.views id ≡ some (view.Place c o t) → (id ≡ 1 + c) × (c < k.list.made) × OwnOk o (k.list.stage c)
+    → get_elem? s.views id ≡ some (view.Place c o t) → (id ≡ 1 + c) × (c < k.list.made)
+    × OwnRowAgrees o (k.list.stage c)
 known s k id c o t at = k.seats id (view.Place c o t) at
 
 abbrev number_of : ListView → ℕ
@@ -46,7 +47,7 @@ over e (view.Place c o t) = view.Place c o (t ++ e ∷ [])
 over e v = v
 
 -- a row that is not known to be woken, and whose mark is 0, is asleep
-unmarked : (o : RowKnowledge) (t : Stage) → o ≡ own.Unknown → OwnOk o t → mark_of t ≡ 0 → t ≡ asleep
+unmarked : (o : RowKnowledge) (t : Stage) → o ≡ own.Unknown → OwnRowAgrees o t → mark_of t ≡ 0 → t ≡ asleep
 unmarked o t is ok e = grind arith
 
 -- ---- each step of the owner keeps the rule
@@ -192,18 +193,18 @@ enlist_keeps_rule slots id c m t cs s k deep at small =
 abbrev pub on : ℕ → RowKnowledge → List Enlist → Hands
 on c o t = (view.Place c o t, [])
 
-pub at_rest : (row : ℕ) (t : List Enlist) (m : Hands) → IsPlace row false t m → m ≡ on row own.Unknown t
+pub at_rest : (row : ℕ) (t : List Enlist) (m : Hands) → IsRowPlace row false t m → m ≡ on row own.Unknown t
 at_rest row t m p = p.1.1 ∙ ap (λ o. on row o t) p.1.2
 
-pub trying : (row : ℕ) (t : List Enlist) (m : Hands) → IsPlace row true t m → (n : ℕ) × (m ≡ on row (own.Awake n) t)
+pub trying : (row : ℕ) (t : List Enlist) (m : Hands) → IsRowPlace row true t m → (n : ℕ) × (m ≡ on row (own.Awake n) t)
 trying row t m p = (p.1.2.0, p.1.1 ∙ ap (λ o. on row o t) p.1.2.1)
 
-pub look_allowed : (slots id c : ℕ) (t : List Enlist) (m : Hands) → IsPlace c false t m
+pub look_allowed : (slots id c : ℕ) (t : List Enlist) (m : Hands) → IsRowPlace c false t m
     → Allows Holds slots id m (33 + c) (λ f. f) (play.looks (step slots (33 + c) 0 0 maybe.none) m)
 look_allowed slots id c t m p = rw (at_rest c t m p) (look_keeps_rule slots id c t [])
 
 -- the mark was not set
-pub look_found_asleep : (c found : ℕ) (t : List Enlist) (m m' : Hands) → IsPlace c false t m
+pub look_found_asleep : (c found : ℕ) (t : List Enlist) (m m' : Hands) → IsRowPlace c false t m
     → play.looks (step 0 (33 + c) 0 0 maybe.none) m found m' → found ≡ 0 → m' ≡ on c own.Asleep t
 look_found_asleep c found t m m' p h e =
     let is = at_rest c t m p in
@@ -214,20 +215,20 @@ pub wake_allowed : (slots id c : ℕ) (t : List Enlist) (m : Hands) → m ≡ on
 wake_allowed slots id c t m e = rw e (wake_keeps_rule slots id c t [])
 
 pub wake_leaves_awake : (c : ℕ) (t : List Enlist) (m m' : Hands) → c < 32 → m ≡ on c own.Asleep t
-    → play.wakes (step 0 (33 + c) 1 0 maybe.none) m 1 m' → IsPlace c true t m'
+    → play.wakes (step 0 (33 + c) 1 0 maybe.none) m 1 m' → IsRowPlace c true t m'
 wake_leaves_awake c t m m' low is h =
     let a = h c own.Asleep t (ap (λ z. z.0) is) refl in
     (low, (own.Awake a.0, a.1 ∙ ap (λ z. (view.Place c (own.Awake a.0) t, z.1)) is, (a.0, refl)))
 
-pub see_allowed : (slots id c : ℕ) (t : List Enlist) (m : Hands) → IsPlace c true t m
+pub see_allowed : (slots id c : ℕ) (t : List Enlist) (m : Hands) → IsRowPlace c true t m
     → Allows Holds slots id m 0 (λ f. f) (play.sees (step slots 0 0 0 maybe.none) m)
 see_allowed slots id c t m p = let a = trying c t m p in rw a.1 (see_keeps_rule slots id 0 c (own.Awake a.0) t [])
 
-pub link_allowed : (slots id c n : ℕ) (t : List Enlist) (m : Hands) → IsPlace c true t m
+pub link_allowed : (slots id c n : ℕ) (t : List Enlist) (m : Hands) → IsRowPlace c true t m
     → Allows Holds slots id m (1 + c) (λ _. n) (λ _. play.links (step slots (1 + c) n 0 maybe.none) m n)
 link_allowed slots id c n t m p = let a = trying c t m p in rw a.1 (link_keeps_rule slots id c a.0 n t [])
 
-pub link_leaves_linked : (c n : ℕ) (t : List Enlist) (m m' : Hands) → IsPlace c true t m
+pub link_leaves_linked : (c n : ℕ) (t : List Enlist) (m m' : Hands) → IsRowPlace c true t m
     → play.links (step 0 (1 + c) n 0 maybe.none) m n m' → m' ≡ on c (own.Awake n) t
 link_leaves_linked c n t m m' p h =
     let a = trying c t m p in
@@ -238,7 +239,7 @@ pub enlist_allowed : (slots id c n : ℕ) (t : List Enlist) (m : Hands) → m �
 enlist_allowed slots id c n t m e = rw e (enlist_keeps_rule slots id c n t [])
 
 pub enlist_leaves_missed : (c n found : ℕ) (t : List Enlist) (m m' : Hands) → c < 32 → m ≡ on c (own.Awake n) t
-    → play.enlists (step 0 0 n (1 + c) maybe.none) m found m' → found ≢ n → IsPlace c true (t ++ Missed ∷ []) m'
+    → play.enlists (step 0 0 n (1 + c) maybe.none) m found m' → found ≢ n → IsRowPlace c true (t ++ Missed ∷ []) m'
 enlist_leaves_missed c n found t m m' low is h e = (
   low,
   (

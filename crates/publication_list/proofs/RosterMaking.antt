@@ -7,7 +7,7 @@ use mathlib.Core.Option.{some, some-injective, some-ne-none}
 use lib.ListN.{get_elem?}
 use Rattle.atomic_table.specs.Table.{Me, opening, Splits}
 use Rattle.atomic_table.specs.Seated.{TableId}
-use Rattle.publication_list.specs.Calls.{PlaceSeen, ArePlaces}
+use Rattle.publication_list.specs.Calls.{PlaceSeen, AreRowPlaces}
 use Rattle.publication_list.specs.Plays as play
 use mathlib.Core.Logic.{dite}
 use native.Mathlib.Decide.{ℕ_discrete}
@@ -16,7 +16,7 @@ use Rattle.publication_list.specs.declared.board.RowKnowledge.TheVariants as own
 use Rattle.publication_list.specs.declared.board.ListView.{ListView}
 use Rattle.publication_list.specs.declared.board.ListView.TheVariants as view
 use Rattle.publication_list.specs.PublicationList.{PublicationList, empty_list}
-use Rattle.publication_list.specs.Rule.{TakenOutOk, ViewOk, Kept}
+use Rattle.publication_list.specs.Rule.{TakenOutAgrees, ListViewAgrees, Kept}
 use Rattle.publication_list.proofs.RuleKept.{St}
 
 abbrev Holds : St → Type 0
@@ -46,16 +46,17 @@ opening_keeps_rule words wide zeros = record {
   unmade = λ r l. refl;
   seats = λ j v e. elim (at_end [] first_walker v j e) [
     | inl t ↦ absurd (some-ne-none v (sym t))
-    | inr t ↦ subst (ViewOk empty_list j) t.1 (t.0, refl, ([], refl), λ q e. absurd cc)
+    | inr t ↦ subst (ListViewAgrees empty_list j) t.1 (t.0, refl, ([], refl), λ q e. absurd cc)
   ];
 }
 
-out_later : (w : PublicationList) (o : Option ℕ) → TakenOutOk w o → TakenOutOk (record w { made = w.made + 1 }) o
+out_later : (w : PublicationList) (o : Option ℕ) → TakenOutAgrees w o
+    → TakenOutAgrees (record w { made = w.made + 1 }) o
 out_later w o ok = grind arith
 
 -- what is known stays true where a place more was made
-later : (w : PublicationList) (j : ℕ) (u : ListView) → j ≢ 0 → ViewOk w j u
-    → ViewOk (record w { made = w.made + 1 }) j u
+later : (w : PublicationList) (j : ℕ) (u : ListView) → j ≢ 0 → ListViewAgrees w j u
+    → ListViewAgrees (record w { made = w.made + 1 }) j u
 later w j u other ok = grind arith
 
 pub split_keeps_rule : (id made : ℕ) (left : List ℕ) (out : Option ℕ) (walks : List (List ℕ)) → made < 32
@@ -63,7 +64,7 @@ pub split_keeps_rule : (id made : ℕ) (left : List ℕ) (out : Option ℕ) (wal
     (view.Place made own.Unknown [])
 split_keeps_rule id made left out walks low s k at =
     let w : PublicationList = k.list in
-    let ok : ViewOk w id (view.Walker made left out walks) = k.seats id (view.Walker made left out walks) at in
+    let ok : ListViewAgrees w id (view.Walker made left out walks) = k.seats id (view.Walker made left out walks) at in
     let is : made ≡ w.made = ok.1 in
     let w' : PublicationList = record w { made = w.made + 1 } in
     let l : ListView = view.Walker (made + 1) left out walks in
@@ -79,12 +80,12 @@ split_keeps_rule id made left out walks low s k at =
       unmade = λ r h. k.unmade r (omega arith);
       seats = λ j u e. elim (at_end (set s.views id l) new u j e) [
         | inl t ↦ elim (at_set s.views id j l u t) [
-          | inl h ↦ subst (λ z. ViewOk w' j z) h.1
+          | inl h ↦ subst (λ z. ListViewAgrees w' j z) h.1
               (h.0 ∙ ok.0, omega arith, ok.2, out_later w out ok.3)
           | inr h ↦ later w j u (λ z. h.0 (z ∙ sym ok.0)) (k.seats j u h.1)
         ]
         | inr t ↦ let here = t.0 in
-            subst (λ z. ViewOk w' j z) t.1 (omega arith, omega arith, inl (k.unmade made (omega arith)))
+            subst (λ z. ListViewAgrees w' j z) t.1 (omega arith, omega arith, inl (k.unmade made (omega arith)))
       ];
     }
 
@@ -97,8 +98,8 @@ pub split_allowed : (id row : ℕ) (m : Hands) → row < 32 → m ≡ (view.Walk
     → Splits Holds id m.0 (play.after_making m.0) (play.new_place m.0)
 split_allowed id row m low is = rw is (split_keeps_rule id row [] None [] low)
 
-pub ArePlaces-more : (id : TableId) (n : ℕ) (xs ys : List PlaceSeen) (p : PlaceSeen) → ArePlaces id n xs
-    → ys ≡ xs ++ p ∷ [] → p ≡ record { roster = id; row = n; tries = [] } → ArePlaces id (n + 1) ys
+pub ArePlaces-more : (id : TableId) (n : ℕ) (xs ys : List PlaceSeen) (p : PlaceSeen) → AreRowPlaces id n xs
+    → ys ≡ xs ++ p ∷ [] → p ≡ record { roster = id; row = n; tries = [] } → AreRowPlaces id (n + 1) ys
 ArePlaces-more id n xs ys p k more is = (
   ap length more ∙ (length-append xs (p ∷ []) ∙ ap (λ z. z + 1) k.0),
   λ j low. subst (λ z. get_elem? z j ≡ some (record { roster = id; row = j; tries = [] })) (sym more)

@@ -14,7 +14,7 @@ use Rattle.publication_list.specs.declared.board.ListView.{ListView}
 use Rattle.publication_list.specs.declared.board.ListView.TheVariants as view
 use Rattle.publication_list.specs.PublicationList.{Stage, asleep, awake, listed, unlinked, PublicationList, word_at}
 use Rattle.publication_list.specs.PublicationList.{mark_of}
-use Rattle.publication_list.specs.Rule.{OwnOk, TakenOutOk, ViewOk, Sound, Tied, Kept}
+use Rattle.publication_list.specs.Rule.{OwnRowAgrees, TakenOutAgrees, ListViewAgrees, Sound, Tied, Kept}
 use Rattle.publication_list.proofs.Rows.{updated_all, was_at, is_at, word_at-remove_below, word_at-remove_above}
 use Rattle.publication_list.proofs.Rows.{distinct_remove, distinct_more, gone}
 
@@ -30,7 +30,7 @@ with_stage w r t rows = record { made = w.made; rows = rows; stage = update ℕ_
 
 -- what was taken out, where another row goes to a stage that is not that
 out_stays : (w : PublicationList) (r : ℕ) (t : Stage) (rows : List ℕ) (o : Option ℕ) → w.stage r ≢ unlinked
-    → t ≢ unlinked → TakenOutOk w o → TakenOutOk (with_stage w r t rows) o
+    → t ≢ unlinked → TakenOutAgrees w o → TakenOutAgrees (with_stage w r t rows) o
 out_stays w r t rows None not new ok = updated_all (λ q z. z ≢ unlinked) w.stage r t new (λ q _. ok q)
 out_stays w r t rows (Some p) not new ok = (
   ok.0,
@@ -41,23 +41,32 @@ out_stays w r t rows (Some p) not new ok = (
 -- what the others know stays true after a step of the owner of c, by which the list may have grown in front
 pub place_step_keeps_others : (w : PublicationList) (c : ℕ) (t : Stage) (rows pre : List ℕ) → w.stage c ≢ unlinked
     → t ≢ unlinked
-    → rows ≡ pre ++ w.rows → (j : ℕ) (u : ListView) → j ≢ 1 + c → ViewOk w j u → ViewOk (with_stage w c t rows) j u
+    → rows ≡ pre ++ w.rows → (j : ℕ) (u : ListView) → j ≢ 1 + c → ListViewAgrees w j u
+    → ListViewAgrees (with_stage w c t rows) j u
 place_step_keeps_others w c t rows pre not new grown j (view.Walker made left out walks) other ok = (
   ok.0,
   ok.1,
   (pre ++ ok.2.0, grown ∙ (ap (λ z. pre ++ z) ok.2.1 ∙ sym (append_assoc pre ok.2.0 left))),
   out_stays w c t rows out not new ok.3,
 )
-place_step_keeps_others w c t rows pre not new grown j (view.Place d o ts) other ok =
-    (ok.0, ok.1, subst (OwnOk o) (sym (update_of_ne ℕ_discrete (λ e. other (ok.0 ∙ ap (λ z. 1 + z) e)) t w.stage)) ok.2)
+place_step_keeps_others w c t rows pre not new grown j (view.Place d o ts) other ok = (
+  ok.0,
+  ok.1,
+  subst (OwnRowAgrees o) (sym (update_of_ne ℕ_discrete
+      (λ e. other (ok.0 ∙ ap (λ z. 1 + z) e)) t w.stage)) ok.2,
+)
 
 -- what the owners know stays true after a step of the walker
 pub walker_step_keeps_others : (w : PublicationList) (r : ℕ) (t : Stage) (rows : List ℕ)
-    → ((o : RowKnowledge) → OwnOk o (w.stage r) → OwnOk o t)
-    → (j : ℕ) (u : ListView) → j ≢ 0 → ViewOk w j u → ViewOk (with_stage w r t rows) j u
+    → ((o : RowKnowledge) → OwnRowAgrees o (w.stage r) → OwnRowAgrees o t)
+    → (j : ℕ) (u : ListView) → j ≢ 0 → ListViewAgrees w j u → ListViewAgrees (with_stage w r t rows) j u
 walker_step_keeps_others w r t rows follows j (view.Walker made left out walks) other ok = absurd (other ok.0)
-walker_step_keeps_others w r t rows follows j (view.Place d o ts) other ok =
-    (ok.0, ok.1, updated_all (λ q s. OwnOk o (w.stage q) → OwnOk o s) w.stage r t (follows o) (λ q _ k. k) d ok.2)
+walker_step_keeps_others w r t rows follows j (view.Place d o ts) other ok = (
+  ok.0,
+  ok.1,
+  updated_all (λ q s. OwnRowAgrees o (w.stage q) → OwnRowAgrees o s) w.stage r t (follows o)
+      (λ q _ k. k) d ok.2,
+)
 
 -- ---- steps of a row that is not listed
 
@@ -227,12 +236,12 @@ St = State ℕ ListView
 
 -- after a step of the seat id to the list w', each view is true
 seats_after : (w w' : PublicationList) (vs : List ListView) (id : ℕ) (v' : ListView)
-    → ((j : ℕ) (u : ListView) → get_elem? vs j ≡ some u → ViewOk w j u)
-    → ((j : ℕ) (u : ListView) → j ≢ id → ViewOk w j u → ViewOk w' j u) → ViewOk w' id v'
-    → (j : ℕ) (u : ListView) → get_elem? (set vs id v') j ≡ some u → ViewOk w' j u
+    → ((j : ℕ) (u : ListView) → get_elem? vs j ≡ some u → ListViewAgrees w j u)
+    → ((j : ℕ) (u : ListView) → j ≢ id → ListViewAgrees w j u → ListViewAgrees w' j u) → ListViewAgrees w' id v'
+    → (j : ℕ) (u : ListView) → get_elem? (set vs id v') j ≡ some u → ListViewAgrees w' j u
 seats_after w w' vs id v' before others ok j u e =
     elim (at_set vs id j v' u e) [
-      | inl t ↦ subst (λ (z : ℕ × ListView). ViewOk w' z.0 z.1) (λ i. (sym t.0 i, t.1 i)) ok
+      | inl t ↦ subst (λ (z : ℕ × ListView). ListViewAgrees w' z.0 z.1) (λ i. (sym t.0 i, t.1 i)) ok
       | inr t ↦ others j u t.0 (before j u t.1)
     ]
 
@@ -243,8 +252,8 @@ pub record After (s : St) (k : Kept s) (id : ℕ) (v' : ListView) (words : List 
   pub sound : Sound list
   pub tied : Tied list words
   pub unmade : (r : ℕ) → list.made ≤ r → list.stage r ≡ asleep
-  pub others : (j : ℕ) (u : ListView) → j ≢ id → ViewOk k.list j u → ViewOk list j u
-  pub own : ViewOk list id v'
+  pub others : (j : ℕ) (u : ListView) → j ≢ id → ListViewAgrees k.list j u → ListViewAgrees list j u
+  pub own : ListViewAgrees list id v'
 
 pub kept_after : {words : List ℕ} (s : St) (k : Kept s) (id : ℕ) (v' : ListView) → After s k id v' words
     → Kept {S = ℕ} record { words = words; homes = s.homes; views = set s.views id v' }
@@ -258,7 +267,8 @@ kept_after s k id v' a = record {
 }
 
 -- a step that changes no word
-pub same_words_keep_rule : (s : St) (k : Kept s) (i id : ℕ) (v' : ListView) (cs : List (ℕ × ℕ)) → ViewOk k.list id v'
+pub same_words_keep_rule : (s : St) (k : Kept s) (i id : ℕ) (v' : ListView) (cs : List (ℕ × ℕ))
+    → ListViewAgrees k.list id v'
     → Kept (stepped s i (get_or s.words i 0) id cs v' keeps)
 same_words_keep_rule s k i id v' cs ok = rw (set-get_or s.words i 0) (kept_after s k id v' record {
   list = k.list;

@@ -18,8 +18,8 @@ use Rattle.publication_list.specs.declared.board.ListView.{ListView}
 use Rattle.publication_list.specs.declared.board.ListView.TheVariants as view
 use Rattle.publication_list.specs.PublicationList.{Stage, asleep, listed, unlinked, PublicationList, IsDistinct}
 use Rattle.publication_list.specs.PublicationList.{word_at}
-use Rattle.publication_list.specs.Rule.{OwnOk, TakenOutOk, Tied, Kept}
-use Rattle.publication_list.specs.Inside.{left_of, made_of, walks_of, HasMet, Meeting}
+use Rattle.publication_list.specs.Rule.{OwnRowAgrees, TakenOutAgrees, Tied, Kept}
+use Rattle.publication_list.specs.Inside.{list_left, made_of, walks_of, HasMetRows, Meeting}
 use Rattle.publication_list.specs.Plays as play
 use Rattle.publication_list.proofs.Rows.{updated_all, word_at_in, word_at_past, word_at_append, remove_append, was_at}
 use Rattle.publication_list.proofs.Rows.{distinct_right, few_below}
@@ -43,7 +43,7 @@ out_of v = None
 known : (s : St) (k : Kept s) (id made : ℕ) (left : List ℕ) (out : Option ℕ) (walks : List (List ℕ))
     → get_elem? s.views id ≡ some (view.Walker made left out walks)
     → (id ≡ 0) × (made ≡ k.list.made) × ((newcomers : List ℕ) × (k.list.rows ≡ newcomers ++ left))
-    × TakenOutOk k.list out
+    × TakenOutAgrees k.list out
 known s k id made left out walks at = k.seats id (view.Walker made left out walks) at
 
 -- ---- the walker meets the list
@@ -65,7 +65,7 @@ meet_keeps_rule slots id made left out walks cs s k deep at small =
         w.rows,
         ap (λ (z : ListView). (view.Walker (made_of z) w.rows (out_of z) (walks_of z ++ w.rows ∷ []), cs)) is,
         k.tied.head,
-        (pre, ok.2.1 ∙ ap (λ (z : ListView). pre ++ left_of z) is, k.sound.distinct),
+        (pre, ok.2.1 ∙ ap (λ (z : ListView). pre ++ list_left z) is, k.sound.distinct),
         (λ i l. let low = k.sound.low i l in omega arith),
         (let few = few_below w.made w.rows k.sound.distinct k.sound.low in omega arith),
       ),
@@ -103,7 +103,7 @@ follow_keeps_rule slots id i made left out walks cs s k deep at small =
       keeps,
       tt,
       same_words_keep_rule s k i id (view.Walker made left out walks) cs ok,
-      λ made' left' out' walks' p is low word. let same : left ≡ left' = ap left_of is in (
+      λ made' left' out' walks' p is low word. let same : left ≡ left' = ap list_left is in (
         refl,
         ap (λ z. get_or s.words z 0) word ∙ next_of w s.words pre left' p (ok.2.1 ∙ ap (λ z. pre ++ z) same) low k.tied,
       ),
@@ -112,10 +112,10 @@ follow_keeps_rule slots id i made left out walks cs s k deep at small =
 -- ---- a row is taken out, and put to sleep
 
 -- a row that was listed may be taken out, for all that its owner knows
-taken_out : (t : Stage) → t ≡ listed → (o : RowKnowledge) → OwnOk o t → OwnOk o unlinked
+taken_out : (t : Stage) → t ≡ listed → (o : RowKnowledge) → OwnRowAgrees o t → OwnRowAgrees o unlinked
 taken_out t is o ok = grind arith
 
-put_to_sleep : (t : Stage) → t ≡ unlinked → (o : RowKnowledge) → OwnOk o t → OwnOk o asleep
+put_to_sleep : (t : Stage) → t ≡ unlinked → (o : RowKnowledge) → OwnRowAgrees o t → OwnRowAgrees o asleep
 put_to_sleep t is o ok = grind arith
 
 pub unlink_keeps_rule : (slots id i n p made : ℕ) (left : List ℕ) (walks : List (List ℕ)) (cs : List (ℕ × ℕ))
@@ -165,14 +165,14 @@ unlink_keeps_rule slots id i n p made left walks cs low word next s k deep at sm
           ),
         );
       },
-      λ made' left' out' walks' q is q_low q_word. let same : left ≡ left' = ap left_of is in
+      λ made' left' out' walks' q is q_low q_word. let same : left ≡ left' = ap list_left is in
           let q_low' : suc q < length left = subst (λ z. suc q < length z) (sym same) q_low in
           let q_row : get_or left' q 0 ≡ get_or left q 0 = ap (λ z. get_or z q 0) (sym same) in
           let q_is : q ≡ p = distinct_right pre left (subst IsDistinct e k.sound.distinct) q p (omega arith)
           (omega arith) (omega arith) in
           ap (λ (z : ListView). (
-            view.Walker (made_of z) (remove (left_of z) (suc p))
-                (Some (get_or (left_of z) (suc p) 0)) (walks_of z),
+            view.Walker (made_of z) (remove (list_left z) (suc p))
+                (Some (get_or (list_left z) (suc p) 0)) (walks_of z),
             cs,
           )) is
           ∙ ap (λ (z : ℕ). (view.Walker made' (remove left' (suc z)) (Some (get_or left' (suc z) 0)) walks', cs))
@@ -209,12 +209,12 @@ sleep_keeps_rule slots id r made left walks cs s k deep at small =
         );
       },
       λ made' left' r' walks' is _.
-          ap (λ (z : ListView). (view.Walker (made_of z) (left_of z) None (walks_of z), cs)) is,
+          ap (λ (z : ListView). (view.Walker (made_of z) (list_left z) None (walks_of z), cs)) is,
     )
 
 -- ---- the same, of what a walker has in its hands
 
-module _ (slots id : ℕ) (left : List ℕ) (walks : List (List ℕ)) (m : Hands) (p : HasMet left walks m) where
+module _ (slots id : ℕ) (left : List ℕ) (walks : List (List ℕ)) (m : Hands) (p : HasMetRows left walks m) where
   pub meet_allowed : Allows Holds slots id m 0 (λ f. f) (play.meets (step slots 0 0 0 maybe.none) m)
   meet_allowed =
       subst (λ z. Allows Holds slots id z 0 (λ f. f) (play.meets (step slots 0 0 0 maybe.none) z)) (sym p)
@@ -226,7 +226,7 @@ module _ (slots id : ℕ) (left : List ℕ) (walks : List (List ℕ)) (m : Hands
       (follow_keeps_rule slots id i (made_of m.0) left None walks [])
 
 -- the walk begins at the head
-pub walk_begins : (found : ℕ) (left : List ℕ) (walks : List (List ℕ)) (m m' : Hands) → HasMet left walks m
+pub walk_begins : (found : ℕ) (left : List ℕ) (walks : List (List ℕ)) (m m' : Hands) → HasMetRows left walks m
     → play.meets (step 0 0 0 0 maybe.none) m found m' → Meeting left walks (made_of m.0) [] found m'
 walk_begins found left walks m m' p t =
     let a = t (made_of m.0) left None walks (ap (λ z. z.0) p) refl in
@@ -237,25 +237,25 @@ walk_begins found left walks m m' p t =
 module _ (left : List ℕ) (walks : List (List ℕ)) (made : ℕ) (rows : List ℕ) (at : ℕ) (m : Hands)
     (k : Meeting left walks made rows at m) where
   -- the word that was found names a row, which is the next
-  pub walk_goes_on : at ≢ 0 → (length rows < length (left_of m.0)) × (at ≡ 1 + get_or (left_of m.0) (length rows) 0)
-  walk_goes_on ne = dite (dec_le (length (left_of m.0)) (length rows))
-      (λ past. absurd (ne (k.at_is ∙ word_at_past (left_of m.0) (length rows) past)))
-      (λ n. let low = lt_of_not-le n in (low, k.at_is ∙ word_at_in (left_of m.0) (length rows) low))
+  pub walk_goes_on : at ≢ 0 → (length rows < length (list_left m.0)) × (at ≡ 1 + get_or (list_left m.0) (length rows) 0)
+  walk_goes_on ne = dite (dec_le (length (list_left m.0)) (length rows))
+      (λ past. absurd (ne (k.at_is ∙ word_at_past (list_left m.0) (length rows) past)))
+      (λ n. let low = lt_of_not-le n in (low, k.at_is ∙ word_at_in (list_left m.0) (length rows) low))
 
-  pub walk_met_all : at ≡ 0 → rows ≡ left_of m.0
-  walk_met_all e = dite (dec_le (length (left_of m.0)) (length rows))
-      (λ past. k.so_far ∙ take_all (length rows) (left_of m.0) past)
-      (λ n. let low = lt_of_not-le n in let w = word_at_in (left_of m.0) (length rows) low in let a = k.at_is in
+  pub walk_met_all : at ≡ 0 → rows ≡ list_left m.0
+  walk_met_all e = dite (dec_le (length (list_left m.0)) (length rows))
+      (λ past. k.so_far ∙ take_all (length rows) (list_left m.0) past)
+      (λ n. let low = lt_of_not-le n in let w = word_at_in (list_left m.0) (length rows) low in let a = k.at_is in
       absurd (omega arith))
 
   -- one row more is met
   module _ (rows' : List ℕ) (i found : ℕ) (m' : Hands) (ne : at ≢ 0) (same : i ≡ at)
       (more : rows' ≡ rows ++ (at - 1) ∷ []) (t : play.follows (step 0 i 0 0 maybe.none) m found m') where
-    told : (m' ≡ m) × (found ≡ word_at (left_of m.0) (suc (length rows)))
+    told : (m' ≡ m) × (found ≡ word_at (list_left m.0) (suc (length rows)))
     unfolding walk_goes_on
     told =
         let g = walk_goes_on ne in
-        t (made_of m.0) (left_of m.0) None (walks ++ left_of m.0 ∷ []) (length rows) (ap (λ z. z.0) k.met) g.0
+        t (made_of m.0) (list_left m.0) None (walks ++ list_left m.0 ∷ []) (length rows) (ap (λ z. z.0) k.met) g.0
         (same ∙ g.1)
 
     longer : length rows' ≡ suc (length rows)
@@ -267,7 +267,7 @@ module _ (left : List ℕ) (walks : List (List ℕ)) (made : ℕ) (rows : List �
         let low = g.0 in
         let word = g.1 in
         let n : ℕ = length rows in
-        let all : List ℕ = left_of m.0 in
+        let all : List ℕ = list_left m.0 in
         let row : at - 1 ≡ get_or all n 0 = omega arith in
         let long = longer in
         let within : length rows' ≤ length all = omega arith in rw told.0 (assumption (
@@ -276,10 +276,10 @@ module _ (left : List ℕ) (walks : List (List ℕ)) (made : ℕ) (rows : List �
           more ∙ ((λ j. k.so_far j ++ row j ∷ []) ∙ (sym (take-suc all n 0 low) ∙ ap (λ z. take z all) (sym long))),
         ))
 
-    pub walk_gets_shorter : length (left_of m'.0) - length rows' < length (left_of m.0) - length rows
+    pub walk_gets_shorter : length (list_left m'.0) - length rows' < length (list_left m.0) - length rows
     walk_gets_shorter =
         let low = (walk_goes_on ne).0 in
-        let kept : length (left_of m'.0) ≡ length (left_of m.0) = ap (λ z. length (left_of z.0)) told.0 in
+        let kept : length (list_left m'.0) ≡ length (list_left m.0) = ap (λ z. length (list_left z.0)) told.0 in
         let long = longer in
         omega arith
 

@@ -28,7 +28,7 @@ pub record WalkerSeen : Type 0 where
   pub walks : List (List ℕ)
 
 -- a place for each of n rows, in rising order, at which nothing was tried
-abbrev pub ArePlaces : TableId → ℕ → List PlaceSeen → Type 0
-ArePlaces id n places =
+abbrev pub AreRowPlaces : TableId → ℕ → List PlaceSeen → Type 0
+AreRowPlaces id n places =
     (length places ≡ n)
     × ((k : ℕ) → k < n → get_elem? places k ≡ some (record { roster = id; row = k; tries = [] }))

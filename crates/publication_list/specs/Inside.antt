@@ -22,8 +22,8 @@ abbrev pub OwnAtRest : Bool → RowKnowledge → Type 0
 OwnAtRest false o = o ≡ own.Unknown
 OwnAtRest true o = (n : ℕ) × (o ≡ own.Awake n)
 
-abbrev pub IsPlace : {S : Type 0} → ℕ → Bool → List Enlist → Me S ListView → Type 0
-IsPlace row trying tries me =
+abbrev pub IsRowPlace : {S : Type 0} → ℕ → Bool → List Enlist → Me S ListView → Type 0
+IsRowPlace row trying tries me =
     (row < max_rows)
     × ((o : RowKnowledge) × (me ≡ (view.Place row o tries, [])) × OwnAtRest trying o)
 
@@ -38,9 +38,9 @@ is_missed Listed = false
 is_missed Missed = true
 
 -- what the walker's view has of the list
-abbrev pub left_of : ListView → List ℕ
-left_of (view.Walker made left out walks) = left
-left_of v = []
+abbrev pub list_left : ListView → List ℕ
+list_left (view.Walker made left out walks) = left
+list_left v = []
 
 abbrev pub made_of : ListView → ℕ
 made_of (view.Walker made left out walks) = made
@@ -51,20 +51,20 @@ walks_of (view.Walker made left out walks) = walks
 walks_of v = []
 
 -- the walker has met these rows, and has marked all that it has taken out
-abbrev pub HasMet : {S : Type 0} → List ℕ → List (List ℕ) → Me S ListView → Type 0
-HasMet rows walks me = me ≡ (view.Walker (made_of me.0) rows None walks, [])
+abbrev pub HasMetRows : {S : Type 0} → List ℕ → List (List ℕ) → Me S ListView → Type 0
+HasMetRows rows walks me = me ≡ (view.Walker (made_of me.0) rows None walks, [])
 
 -- In a walk these rows were met so far, if the last one left `left`, and the word `at` leads on.
 pub record Meeting {S : Type 0} (left : List ℕ) (walks : List (List ℕ)) (places : ℕ) (rows : List ℕ)
     (at : ℕ) (me : Me S ListView) : Type 0 where
-  pub met : HasMet (left_of me.0) (walks ++ left_of me.0 ∷ []) me
+  pub met : HasMetRows (list_left me.0) (walks ++ list_left me.0 ∷ []) me
   pub made : made_of me.0 ≡ places
-  pub walk : WalkMeets left (left_of me.0)
-  pub low : (k : ℕ) → k < length (left_of me.0) → slice_index (left_of me.0) k < places
-  pub few : length (left_of me.0) ≤ places
-  pub so_far : rows ≡ take (length rows) (left_of me.0)
-  pub within : length rows ≤ length (left_of me.0)
-  pub at_is : at ≡ word_at (left_of me.0) (length rows)
+  pub walk : WalkMeets left (list_left me.0)
+  pub low : (k : ℕ) → k < length (list_left me.0) → slice_index (list_left me.0) k < places
+  pub few : length (list_left me.0) ≤ places
+  pub so_far : rows ≡ take (length rows) (list_left me.0)
+  pub within : length rows ≤ length (list_left me.0)
+  pub at_is : at ≡ word_at (list_left me.0) (length rows)
 
 pub record IsWalker {S Z : Type 0} (places : ℕ) (rows : Vec ℕ Z) (walks : List (List ℕ))
     (me : Me S ListView) : Type 0 where

@@ -15,24 +15,25 @@ use Rattle.publication_list.specs.PublicationList.{Stage, asleep, awake, listed,
 use Rattle.publication_list.specs.PublicationList.{PublicationList, IsDistinct, word_at, mark_of}
 
 -- what the owner of a row knows of it
-abbrev pub OwnOk : RowKnowledge → Stage → Type 0
-OwnOk own.Unknown t = (t ≡ asleep) ⊎ ((t ≡ listed) ⊎ (t ≡ unlinked))
-OwnOk own.Asleep t = t ≡ asleep
-OwnOk (own.Awake n) t = t ≡ awake n
+abbrev pub OwnRowAgrees : RowKnowledge → Stage → Type 0
+OwnRowAgrees own.Unknown t = (t ≡ asleep) ⊎ ((t ≡ listed) ⊎ (t ≡ unlinked))
+OwnRowAgrees own.Asleep t = t ≡ asleep
+OwnRowAgrees (own.Awake n) t = t ≡ awake n
 
 -- the one row that the walker has taken out and has not marked inactive yet, or there is none
-abbrev pub TakenOutOk : PublicationList → Option ℕ → Type 0
-TakenOutOk l None = (q : ℕ) → l.stage q ≢ unlinked
-TakenOutOk l (Some r) =
+abbrev pub TakenOutAgrees : PublicationList → Option ℕ → Type 0
+TakenOutAgrees l None = (q : ℕ) → l.stage q ≢ unlinked
+TakenOutAgrees l (Some r) =
     (r < l.made) × (l.stage r ≡ unlinked) × ((q : ℕ) → l.stage q ≡ unlinked → q ≡ r)
 
 -- What the seat with this number knows: the walker's is the first, and that of row c the one after
 -- c others. The list ends with what the walker has left. It says nothing of tries and walks.
-abbrev pub ViewOk : PublicationList → ℕ → ListView → Type 0
-ViewOk l seat (view.Walker made left out walks) =
+abbrev pub ListViewAgrees : PublicationList → ℕ → ListView → Type 0
+ListViewAgrees l seat (view.Walker made left out walks) =
     (seat ≡ 0) × (made ≡ l.made) × ((newcomers : List ℕ) × (l.rows ≡ newcomers ++ left))
-    × TakenOutOk l out
-ViewOk l seat (view.Place c o tries) = (seat ≡ 1 + c) × (c < l.made) × OwnOk o (l.stage c)
+    × TakenOutAgrees l out
+ListViewAgrees l seat (view.Place c o tries) = (seat ≡ 1 + c) × (c < l.made)
+    × OwnRowAgrees o (l.stage c)
 
 -- what holds of the list itself
 pub record Sound (l : PublicationList) : Type 0 where
@@ -60,4 +61,4 @@ pub record Kept {S : Type 0} (s : State S ListView) : Type 0 where
   pub tied : Tied list s.words
   pub count : length s.views ≡ 1 + list.made
   pub unmade : (r : ℕ) → list.made ≤ r → list.stage r ≡ asleep
-  pub seats : (j : ℕ) (v : ListView) → get_elem? s.views j ≡ some v → ViewOk list j v
+  pub seats : (j : ℕ) (v : ListView) → get_elem? s.views j ≡ some v → ListViewAgrees list j v

@@ -1,7 +1,7 @@
 //! The place of a row, and the two halves of a try to enlist it.
 
 ghost use Rattle.std.specs.Prelude.{◌≡◌, ◌∷◌, ◌++◌, [], true, false};
-ghost use Rattle.publication_list.specs.Inside.{IsPlace, after_look, is_missed, tries_of};
+ghost use Rattle.publication_list.specs.Inside.{IsRowPlace, after_look, is_missed, tries_of};
 ghost use Rattle.publication_list.specs.Limits.{list_words};
 
 use crate::board::{Chair, Enlist, HEAD, MARKS, NEXTS, Words};
@@ -19,23 +19,23 @@ pub struct Place {
 
 impl Model for Place {
     ghost use Rattle.publication_list.specs.Calls.{PlaceSeen};
-    ghost use Rattle.publication_list.specs.Inside.{IsPlace, tries_of};
+    ghost use Rattle.publication_list.specs.Inside.{IsRowPlace, tries_of};
 
     ghost Value = { PlaceSeen };
 
     ghost view = { λ p. record
         { roster = p.seat.table_id; row = p.row; tries = tries_of p.seat.me.0 } };
 
-    ghost invariant = { λ p. IsPlace p.row p.trying (tries_of p.seat.me.0) p.seat.me };
+    ghost invariant = { λ p. IsRowPlace p.row p.trying (tries_of p.seat.me.0) p.seat.me };
 }
 
 /// Wakes the row, if it is asleep. Whether it was.
 pub(crate) fn wake(shared: &Words, seat: &mut Chair, row: u32) -> bool
     requires table { (seat.old.table_id ≡ shared.now.table_id)
         × (shared.now.table_id.words ≡ list_words) }
-    requires seat { IsPlace row false (tries_of seat.old.me.0) seat.old.me }
+    requires seat { IsRowPlace row false (tries_of seat.old.me.0) seat.old.me }
     ensures table { seat.new.table_id ≡ seat.old.table_id }
-    ensures seat { IsPlace row result (after_look result (tries_of seat.old.me.0)) seat.new.me }
+    ensures seat { IsRowPlace row result (after_look result (tries_of seat.old.me.0)) seat.new.me }
 {
     let mark = MARKS + row as usize;
     if shared.load::<Looks>(seat, mark) != 0 {
@@ -49,9 +49,9 @@ pub(crate) fn wake(shared: &Words, seat: &mut Chair, row: u32) -> bool
 pub(crate) fn list(shared: &Words, seat: &mut Chair, row: u32) -> Enlist
     requires table { (seat.old.table_id ≡ shared.now.table_id)
         × (shared.now.table_id.words ≡ list_words) }
-    requires seat { IsPlace row true (tries_of seat.old.me.0) seat.old.me }
+    requires seat { IsRowPlace row true (tries_of seat.old.me.0) seat.old.me }
     ensures table { seat.new.table_id ≡ seat.old.table_id }
-    ensures seat { IsPlace row (is_missed result) (tries_of seat.old.me.0 ++ result ∷ [])
+    ensures seat { IsRowPlace row (is_missed result) (tries_of seat.old.me.0 ++ result ∷ [])
         seat.new.me }
 {
     let first = shared.load::<Sees>(seat, HEAD);

@@ -4,7 +4,7 @@ ghost use Rattle.std.specs.Prelude.{◌≡◌, ◌<◌, ◌≤◌, ◌∷◌, �
 ghost use Rattle.std.specs.Prelude.{vec_len, vec_capacity, ◌+◌};
 ghost use Rattle.publication_list.specs.declared.board.ListView.TheVariants as view;
 ghost use Rattle.publication_list.specs.PublicationList.{WalkMeets};
-ghost use Rattle.publication_list.specs.Calls.{ArePlaces};
+ghost use Rattle.publication_list.specs.Calls.{AreRowPlaces};
 ghost use Rattle.publication_list.specs.Limits.{list_words, max_rows};
 
 use crate::board::{Board, Chair, Enlist, MARKS, NEXTS};
@@ -48,7 +48,7 @@ fn make_all(table: &Board, seat: &mut Chair, rows: u32, made: &mut Vec<Place>)
         × (rows ≤ vec_capacity made.old) }
     ensures table { seat.new.table_id ≡ seat.old.table_id }
     ensures seat { seat.new.me ≡ (view.Walker rows [] None [], []) }
-    ensures made { ArePlaces seat.old.table_id rows made.new.items }
+    ensures made { AreRowPlaces seat.old.table_id rows made.new.items }
 {
     for row in 0..rows {
         let chair = table.shared.split_seat::<Makes>(seat);
@@ -66,7 +66,7 @@ impl Roster {
     pub fn new(alloc: Global, rows: u32) -> Result<(Roster, Vec<Place>, Walker), AllocError>
         requires { (0 < rows) × (rows < 1 + max_rows) }
         ensures rows { IfOk result (λ r. r.0.rows ≡ rows) }
-        ensures places { IfOk result (λ r. ArePlaces r.0.id rows r.1.items) }
+        ensures places { IfOk result (λ r. AreRowPlaces r.0.id rows r.1.items) }
         ensures walker { IfOk result (λ r.
             r.2 ≡ record { roster = r.0.id; places = rows; rows = []; walks = [] }) }
     {

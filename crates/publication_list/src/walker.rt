@@ -3,7 +3,7 @@
 ghost use Rattle.std.specs.Prelude.{◌≡◌, ◌<◌, ◌≤◌, ◌∷◌, ◌++◌, ℕ, [], length, slice_index};
 ghost use Rattle.std.specs.Prelude.{vec_capacity};
 ghost use Rattle.publication_list.specs.PublicationList.{WalkMeets, word_at};
-ghost use Rattle.publication_list.specs.Inside.{HasMet, left_of, made_of, walks_of};
+ghost use Rattle.publication_list.specs.Inside.{HasMetRows, list_left, made_of, walks_of};
 ghost use Rattle.publication_list.specs.Limits.{list_words};
 
 use crate::board::{Chair, HEAD, NEXTS, Words};
@@ -51,13 +51,13 @@ impl Walker {
 pub(crate) fn meet(shared: &Words, seat: &mut Chair, rows: &mut Vec<u32>)
     requires table { (seat.old.table_id ≡ shared.now.table_id)
         × (shared.now.table_id.words ≡ list_words) }
-    requires seat { HasMet (left_of seat.old.me.0) (walks_of seat.old.me.0) seat.old.me }
+    requires seat { HasMetRows (list_left seat.old.me.0) (walks_of seat.old.me.0) seat.old.me }
     requires room { (made_of seat.old.me.0 ≤ 32) × (made_of seat.old.me.0 ≤ vec_capacity rows.old) }
     ensures table { seat.new.table_id ≡ seat.old.table_id }
-    ensures seat { HasMet rows.new.items (walks_of seat.old.me.0 ++ rows.new.items ∷ [])
+    ensures seat { HasMetRows rows.new.items (walks_of seat.old.me.0 ++ rows.new.items ∷ [])
         seat.new.me }
     ensures made { made_of seat.new.me.0 ≡ made_of seat.old.me.0 }
-    ensures met { WalkMeets (left_of seat.old.me.0) rows.new.items }
+    ensures met { WalkMeets (list_left seat.old.me.0) rows.new.items }
     ensures low { (k : ℕ) → k < length rows.new.items
         → slice_index rows.new.items k < made_of seat.old.me.0 }
     ensures few { length rows.new.items ≤ made_of seat.old.me.0 }

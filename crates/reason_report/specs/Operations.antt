@@ -33,9 +33,9 @@ op_by other (Ok r) = other
 op_by other Fail = other
 op_by other Info = other
 
-abbrev pub op_in : AnyOp → Option Event → AnyOp
-op_in other None = other
-op_in other (Some e) = op_by other e.action
+abbrev pub op_shown : AnyOp → Option Event → AnyOp
+op_shown other None = other
+op_shown other (Some e) = op_by other e.action
 
 -- the reply that is given, or else this one
 abbrev pub reply_by : AnyReply → Action → AnyReply
@@ -44,22 +44,22 @@ reply_by other (Ok r) = r
 reply_by other Fail = other
 reply_by other Info = other
 
-abbrev pub reply_in : AnyReply → Option Event → AnyReply
-reply_in other None = other
-reply_in other (Some e) = reply_by other e.action
+abbrev pub reply_shown : AnyReply → Option Event → AnyReply
+reply_shown other None = other
+reply_shown other (Some e) = reply_by other e.action
 
 -- with the reply that the history has if a part has a return
-abbrev pub end_in : List Event → End → End
-end_in es (Returned at reply) = Returned at (reply_in reply (event_at es at))
-end_in es Pending = Pending
-end_in es Failed = Failed
+abbrev pub end_shown : List Event → End → End
+end_shown es (Returned at reply) = Returned at (reply_shown reply (event_at es at))
+end_shown es Pending = Pending
+end_shown es Failed = Failed
 
 -- an operation of a part with the operation and the reply that the history has at its numbers
 abbrev pub operation_in : List Event → Invocation → Invocation
 operation_in es o = record {
   number = o.number;
-  op = op_in o.op (event_at es o.number);
-  «end» = end_in es o.«end»;
+  op = op_shown o.op (event_at es o.number);
+  «end» = end_shown es o.«end»;
 }
 
 -- ---- the text
@@ -86,13 +86,13 @@ abbrev pub call_text : Invocation → List ℕ
 call_text o = op_text o.op ++ reply_text o.«end»
 
 -- whether they have the same number, operation and end: the derived test
-abbrev pub is_same : Invocation → Invocation → Bool
-is_same left right = derived.eq-value.it left right
+abbrev pub same_invocation : Invocation → Invocation → Bool
+same_invocation left right = derived.eq-value.it left right
 
 -- what the part counts an operation as, if that is not what the history says about it
-abbrev pub counted_text : Invocation → Invocation → List ℕ
-counted_text told counted =
-    if is_same told counted then [] else codes ", counted as " ++ call_text counted
+abbrev pub counted_as_text : Invocation → Invocation → List ℕ
+counted_as_text told counted =
+    if same_invocation told counted then [] else codes ", counted as " ++ call_text counted
 
 -- if it did not return in the part
 abbrev pub open_text : End → List ℕ
@@ -109,7 +109,7 @@ heading_text es o =
 -- as :dequeue nil, :ok 7
 abbrev pub said_text : Invocation → Invocation → List ℕ
 said_text told counted =
-    call_text told ++ (counted_text told counted ++ (open_text counted.«end» ++ codes "\n"))
+    call_text told ++ (counted_as_text told counted ++ (open_text counted.«end» ++ codes "\n"))
 
 -- as events 4 and 9: process 2, :dequeue nil, :ok 7
 abbrev pub operation_line : List Event → Invocation → List ℕ

@@ -33,7 +33,7 @@ fn process_in(event: Option<Event>) -> u64
 
 /// The operation that the event invokes, or else the other one.
 fn op_in(other: AnyOp, event: Option<Event>) -> AnyOp
-    ensures { result ≡ spec.op_in other event }
+    ensures { result ≡ spec.op_shown other event }
 {
     match event {
         None => other,
@@ -46,7 +46,7 @@ fn op_in(other: AnyOp, event: Option<Event>) -> AnyOp
 
 /// Returns the reply of the event, or otherwise the other one.
 fn reply_in(other: AnyReply, event: Option<Event>) -> AnyReply
-    ensures { result ≡ spec.reply_in other event }
+    ensures { result ≡ spec.reply_shown other event }
 {
     match event {
         None => other,
@@ -59,7 +59,7 @@ fn reply_in(other: AnyReply, event: Option<Event>) -> AnyReply
 
 fn end_in(events: &[Event], end: End) -> End
     requires { IsProper events.now }
-    ensures { result ≡ spec.end_in events.now «end» }
+    ensures { result ≡ spec.end_shown events.now «end» }
 {
     match end {
         End::Returned { at, reply } => End::Returned {
@@ -136,7 +136,7 @@ fn push_call(text: &mut Vec<u8>, operation: &Invocation) -> Result<(), AllocErro
 }
 
 fn is_same(left: &Invocation, right: &Invocation) -> bool
-    ensures { result ≡ spec.is_same left.now right.now }
+    ensures { result ≡ spec.same_invocation left.now right.now }
 {
     *left == *right
 }
@@ -148,7 +148,7 @@ fn push_counted(
     counted: &Invocation,
 ) -> Result<(), AllocError>
     ensures { OnOk result (text.new.items ≡ text.old.items
-        ++ spec.counted_text told.now counted.now) }
+        ++ spec.counted_as_text told.now counted.now) }
 {
     if is_same(told, counted) {
         return Ok(());

@@ -11,7 +11,7 @@ use std::alloc::{AllocError, Global};
 
 /// The line of the reason.
 fn line_of(alloc: Global, reason: &Reason) -> Result<Vec<u8>, AllocError>
-    ensures { IfOk result (λ v. v.items ≡ spec.line_of reason.now) }
+    ensures { IfOk result (λ v. v.items ≡ spec.reason_line reason.now) }
 {
     let mut sink = Out::new(Vec::new(alloc));
     match write_reasons(std::slice::from_ref(reason), &mut sink) {
@@ -28,7 +28,7 @@ pub fn push_reason(
     reason: &Reason,
 ) -> Result<(), AllocError>
     ensures { OnOk result (text.new.items ≡ text.old.items
-        ++ (comment_text commented ++ spec.line_of reason.now)) }
+        ++ (comment_text commented ++ spec.reason_line reason.now)) }
 {
     let line = line_of(alloc, reason)?;
     push_comment(text, commented)?;

@@ -1,7 +1,7 @@
 //! Which removals definitely found something too early, by the count of what was ahead.
 
 use history::read_history_text;
-use refutation::{Doubt, Refutation, read_reasons_text, refute_all};
+use refutation::{ReasonAnswer, WhyNotShown, read_reasons_text, refute_all};
 use std::alloc::Global;
 use std::test::Fail;
 
@@ -16,10 +16,10 @@ fn exceeded(alloc: Global, history: &[u8], reasons: &str) -> Result<Vec<bool>, F
     let mut answers = Vec::new(alloc);
     for answer in &refute_all(alloc, &history, &reasons, 0)? {
         match answer {
-            Refutation::Impossible(_) => answers.push(true)?,
-            Refutation::NotShown {
+            ReasonAnswer::Impossible(_) => answers.push(true)?,
+            ReasonAnswer::NotShown {
                 part: _,
-                doubt: Doubt::NotExceeded,
+                why_not: WhyNotShown::NotExceeded,
             } => answers.push(false)?,
             _ => return Err(Fail::new("another answer")),
         }

@@ -2,7 +2,7 @@
 
 use history::read_history_text;
 use projection::{Count, Counted, Cut};
-use refutation::{Basis, Doubt, Reason, Refutation, Trial, refute_all};
+use refutation::{Basis, Reason, ReasonAnswer, Trial, WhyNotShown, refute_all};
 use search::TryFirst;
 use std::alloc::{AllocError, Global};
 use std::test::Fail;
@@ -32,10 +32,10 @@ fn reason(alloc: Global, from: u32, end: u32, basis: Basis) -> Result<Reason, Al
     })
 }
 
-/// The doubt that is told of a part of this many operations.
-fn doubt_of(answer: &Refutation, size: usize) -> Option<&Doubt> {
+/// Why a part is not shown impossible, for a part of this many operations.
+fn why_not_shown(answer: &ReasonAnswer, size: usize) -> Option<&WhyNotShown> {
     match answer {
-        Refutation::NotShown { part, doubt } if part.ops().len() == size => Some(doubt),
+        ReasonAnswer::NotShown { part, why_not } if part.ops().len() == size => Some(why_not),
         _ => None,
     }
 }
@@ -48,9 +48,9 @@ fn search_in(steps: Option<u32>) -> Basis {
     })
 }
 
-/// The commands tell the doubt, and not the part.
+/// The commands tell why, and not the part.
 #[test]
-fn a_part_is_handed_out_with_a_doubt(rt: HostRuntime) -> Result<(), Fail> {
+fn a_part_is_handed_out_with_why_not(rt: HostRuntime) -> Result<(), Fail> {
     let free = Basis::Counting(Count {
         counted: Counted::Free,
         from: 4,
@@ -63,11 +63,16 @@ fn a_part_is_handed_out_with_a_doubt(rt: HostRuntime) -> Result<(), Fail> {
     reasons.push(reason(rt.alloc(), 0, 7, free)?)?;
     let answers = refute_all(rt.alloc(), &history, &reasons, 100)?;
     assert!(rt; answers.len() == 2);
-    let Some(Doubt::Possible(order)) = doubt_of(&answers[0], 2) else {
+    let Some(WhyNotShown::Possible(order)) = why_not_shown(&answers[0], 2) else {
         return Err(Fail::new("no order of the part is told"));
     };
     assert!(rt; order.as_slice() == [4].as_slice());
-    assert!(rt; matches!(doubt_of(&answers[1], 4), Some(Doubt::NotExceeded)));
+    assert!(rt;
+        matches!(
+            why_not_shown(&answers[1], 4),
+            Some(WhyNotShown::NotExceeded)
+        )
+    );
     Ok(())
 }
 
@@ -83,12 +88,12 @@ fn a_search_takes_as_many_steps_as_its_reason_allows(rt: HostRuntime) -> Result<
     reasons.push(reason(rt.alloc(), 4, 8, search_in(Some(100)))?)?;
     let answers = refute_all(rt.alloc(), &history, &reasons, 0)?;
     assert!(rt; answers.len() == 3);
-    assert!(rt; matches!(doubt_of(&answers[0], 2), Some(Doubt::OutOfSteps)));
-    assert!(rt; matches!(doubt_of(&answers[1], 2), Some(Doubt::OutOfSteps)));
-    assert!(rt; matches!(answers[2], Refutation::Impossible(_)));
+    assert!(rt; matches!(why_not_shown(&answers[0], 2), Some(WhyNotShown::OutOfSteps)));
+    assert!(rt; matches!(why_not_shown(&answers[1], 2), Some(WhyNotShown::OutOfSteps)));
+    assert!(rt; matches!(answers[2], ReasonAnswer::Impossible(_)));
     let answers = refute_all(rt.alloc(), &history, &reasons, 100)?;
     assert!(rt; answers.len() == 3);
-    assert!(rt; matches!(answers[0], Refutation::Impossible(_)));
-    assert!(rt; matches!(doubt_of(&answers[1], 2), Some(Doubt::OutOfSteps)));
+    assert!(rt; matches!(answers[0], ReasonAnswer::Impossible(_)));
+    assert!(rt; matches!(why_not_shown(&answers[1], 2), Some(WhyNotShown::OutOfSteps)));
     Ok(())
 }

@@ -16,7 +16,7 @@ use Rattle.events.specs.declared.event.Action.TheVariants.{Invoke}
 use Rattle.events.specs.declared.event.Event.{Event}
 use Rattle.events.specs.Events.{HasShape}
 use Rattle.events.proofs.ProcessRuns.{idle, busy, Runs}
-use Rattle.recorder.specs.Histories.{action_of, events_from}
+use Rattle.recorder.specs.Histories.{action_of, events_of_journal}
 
 -- a reply has the shape that the operation's replies have
 abbrev pub Fits : AnyOp → AnyAnswer → Type 0
@@ -47,24 +47,26 @@ in_turn c (Invoked t x op ∷ Returned u Refused ∷ es) h d shape = call t x op
 in_turn c js h d k = absurd d
 
 -- the client does what it may
-pub runs_of : (c x : ℕ) (js : List AnyEvent) → InTurn js → Runs c idle (events_from c x js)
+pub runs_of : (c x : ℕ) (js : List AnyEvent) → InTurn js → Runs c idle (events_of_journal c x js)
 runs_of c x l none = tt
 runs_of c x l (last t y op) = (λ q. (tt, tt), λ q. absurd (cc (q, eq-eqb c c refl)))
 runs_of c x l (call t y op u a js fits rest) =
     (λ q. (tt, back a fits (runs_of c y js rest)), λ q. absurd (cc (q, eq-eqb c c refl)))
   where
-    back : (a : AnyAnswer) → Fits op a → Runs c idle (events_from c y js)
-        → Runs c (busy y op) (record { number = u; process = c; object = y; action = action_of a } ∷ events_from c y js)
+    back : (a : AnyAnswer) → Fits op a → Runs c idle (events_of_journal c y js)
+        → Runs c (busy y op) (record { number = u; process = c; object = y; action = action_of a }
+        ∷ events_of_journal c y js)
     back (Reply r) f later = (λ q. ((refl, f), later), λ q. absurd (cc (q, eq-eqb c c refl)))
     back Refused f later = (λ q. (refl, later), λ q. absurd (cc (q, eq-eqb c c refl)))
 
 -- the tickets are the numbers, and the client is the process
-pub numbers_of : (c x : ℕ) (js : List AnyEvent) → map (λ (e : Event). e.number) (events_from c x js) ≡ map ticket_of js
+pub numbers_of : (c x : ℕ) (js : List AnyEvent) → map (λ (e : Event). e.number) (events_of_journal c x js)
+    ≡ map ticket_of js
 numbers_of c x [] = refl
 numbers_of c x (Invoked t y op ∷ js) = ap (λ ns. t ∷ ns) (numbers_of c y js)
 numbers_of c x (Returned u a ∷ js) = ap (λ ns. u ∷ ns) (numbers_of c x js)
 
-pub process_of_each : (c x : ℕ) (js : List AnyEvent) (e : Event) → In e (events_from c x js) → e.process ≡ c
+pub process_of_each : (c x : ℕ) (js : List AnyEvent) (e : Event) → In e (events_of_journal c x js) → e.process ≡ c
 process_of_each c x [] e i = absurd i
 process_of_each c x (Invoked t y op ∷ js) e i = elim i [
   | inl s ↦ ap (λ (f : Event). f.process) s
@@ -76,7 +78,7 @@ process_of_each c x (Returned u a ∷ js) e i = elim i [
 ]
 
 -- an invocation among the events is one of the journal
-pub invocation_of : (c x : ℕ) (js : List AnyEvent) (e : Event) (op : AnyOp) → In e (events_from c x js)
+pub invocation_of : (c x : ℕ) (js : List AnyEvent) (e : Event) (op : AnyOp) → In e (events_of_journal c x js)
     → e.action ≡ Invoke op → In (Invoked e.number e.object op) js
 invocation_of c x [] e op i q = absurd i
 invocation_of c x (Invoked t y o ∷ js) e op i q = elim i [
@@ -97,7 +99,8 @@ invocation_of c x (Returned u a ∷ js) e op i q = elim i [
 
 -- where each call is on one of the objects, so is each event
 pub object_of_each : (kinds : List Kind) (c x : ℕ) (js : List AnyEvent) → InTurn js
-    → ((j : AnyEvent) → In j js → IsAmong kinds j) → (e : Event) → In e (events_from c x js) → e.object < length kinds
+    → ((j : AnyEvent) → In j js → IsAmong kinds j) → (e : Event) → In e (events_of_journal c x js)
+    → e.object < length kinds
 object_of_each kinds c x l none among e i = absurd i
 object_of_each kinds c x l (last t y op) among e i = elim i [
   | inl s ↦ subst (λ n. n < length kinds) (ap (λ (f : Event). f.object) (sym s)) (among (Invoked t y op) (inl refl)).0

@@ -22,16 +22,16 @@ action_of Refused = Fail
 
 -- The client events of a journal of the client c, whose last call before was on the object x. A
 -- client is a process, and a ticket is a number. A return is on the object of its call.
-abbrev pub events_from : ℕ → ℕ → List AnyEvent → List Event
-events_from c x [] = []
-events_from c x (Invoked t y op ∷ es) =
-    record { number = t; process = c; object = y; action = Invoke op } ∷ events_from c y es
-events_from c x (Returned u a ∷ es) =
-    record { number = u; process = c; object = x; action = action_of a } ∷ events_from c x es
+abbrev pub events_of_journal : ℕ → ℕ → List AnyEvent → List Event
+events_of_journal c x [] = []
+events_of_journal c x (Invoked t y op ∷ es) =
+    record { number = t; process = c; object = y; action = Invoke op } ∷ events_of_journal c y es
+events_of_journal c x (Returned u a ∷ es) =
+    record { number = u; process = c; object = x; action = action_of a } ∷ events_of_journal c x es
 
 -- the client events of a journal. A return before any call counts for object 0; no record has one
 abbrev pub events_of : ℕ → List AnyEvent → List Event
-events_of c journal = events_from c 0 journal
+events_of c journal = events_of_journal c 0 journal
 
 -- The client events of the journals, in order of tickets: the numbers rise, and the events of each
 -- client are those of its journal.

@@ -9,12 +9,12 @@ pub record Recorded (O R : Type 0) : Type 0 where
   pub logs : List (List (LogEntry O R))
 
 -- the elements of each
-abbrev pub items_of : {A Z : Type 0} → List (Vec A Z) → List (List A)
-items_of vs = map (λ v. v.items) vs
+abbrev pub items_of_each : {A Z : Type 0} → List (Vec A Z) → List (List A)
+items_of_each vs = map (λ v. v.items) vs
 
 abbrev pub recorded : {O R Y Z : Type 0} → List (Vec (JournalEvent O R) Y)
     → List (Vec (LogEntry O R) Z) → Recorded O R
-recorded journals logs = record { journals = items_of journals; logs = items_of logs }
+recorded journals logs = record { journals = items_of_each journals; logs = items_of_each logs }
 
 module _ {O R : Type 0} where
   abbrev pub journal_at : Recorded O R → ℕ → List (JournalEvent O R)

@@ -30,7 +30,7 @@ impl<S: SeqObject> Model for Record<S> {
 }
 
 impl<S: SeqObject> Record<S> {
-    ghost use Rattle.recorder.specs.Records.{items_of, recorded};
+    ghost use Rattle.recorder.specs.Records.{items_of_each, recorded};
     ghost use Rattle.recorder.specs.Histories.{IsRecordOf};
 
     /// Makes a record of these journals and logs.
@@ -46,7 +46,7 @@ impl<S: SeqObject> Record<S> {
 
     /// The journals, by client.
     pub fn journals(&self) -> &[Vec<JournalEvent<S::Op, S::Reply>>]
-        ensures journals { items_of result.now ≡ self.now.journals }
+        ensures journals { items_of_each result.now ≡ self.now.journals }
         ensures kept { IsRecordOf S.op_in S.reply_in self.now }
     {
         self.journals.as_slice()

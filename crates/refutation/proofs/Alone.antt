@@ -17,7 +17,7 @@ use Rattle.model.proofs.Lists.{all_from_in, all_from_pairs, pairs_from_all}
 use Rattle.locality.specs.Locality.{HasValidOrder}
 use Rattle.locality.proofs.Entries.{number_of}
 use Rattle.locality.proofs.ProcessHistories.{part, Before, calls_in-part, one_after_another, part_up, turn_view, rise}
-use Rattle.search.specs.Outcomes.{IsNoneValid}
+use Rattle.search.specs.Outcomes.{HasNoValidOrder}
 use Rattle.projection.specs.declared.cutting.Cut.{Cut}
 use Rattle.projection.specs.Cuts.{NamesPart}
 use Rattle.projection.proofs.Sequences.{in_filter_map, pairs_filter_map, one_number}
@@ -427,7 +427,7 @@ part_apart cuts x h part hist named = named_apart cuts (calls_on x h) part (hist
 pub alone_refuted : (kind : Kind) (x : ℕ) (calls : List Call) → AreApart calls
     → ((kinds : ℕ → Kind) (h : List Numbered) → IsHistory h → IsLinearizable kinds (events h) → (y : ℕ)
     → HasValidOrder kinds h y)
-    → IsNoneValid kind calls → IsLinearizable (λ y. kind) (events (alone x calls)) → ⊥
+    → HasNoValidOrder kind calls → IsLinearizable (λ y. kind) (events (alone x calls)) → ⊥
 alone_refuted kind x calls apart orders none lin =
     let order = orders (λ y. kind) (alone x calls) (alone_history x calls apart) lin x in
     none order.0 (rw (alone_calls x calls apart) at order.1)
@@ -435,7 +435,7 @@ alone_refuted kind x calls apart orders none lin =
 pub alone_possible : (kind : Kind) (x : ℕ) (calls : List Call) → AreApart calls
     → ((kinds : ℕ → Kind) (h : List Numbered) → IsHistory h → All (λ e. HasValidOrder kinds h e.object) (calls_in h)
     → IsLinearizable kinds (events h))
-    → (IsLinearizable (λ y. kind) (events (alone x calls)) → ⊥) → IsNoneValid kind calls
+    → (IsLinearizable (λ y. kind) (events (alone x calls)) → ⊥) → HasNoValidOrder kind calls
 alone_possible kind x calls apart named not order v =
     not (named (λ y. kind) (alone x calls) (alone_history x calls apart)
     (all_from_in (λ (e : ProcessCall). HasValidOrder (λ y. kind) (alone x calls) e.object)

@@ -12,39 +12,39 @@ use Rattle.model.specs.Orders.{Numbered, Call, IsHistory, events, calls_on}
 use Rattle.model.proofs.Lists.{In, in_append, in_map, in_map_from, in_from_contains, contains_from_in, all_at}
 use Rattle.locality.specs.Locality.{HasValidOrder}
 use Rattle.events.specs.declared.event.Event.{Event}
-use Rattle.events.specs.Events.{kind_at, denoted, IsNamed}
+use Rattle.events.specs.Events.{kind_of_object, denoted, IsNamed}
 use Rattle.events.specs.Operations.{ObjectCalls, calls_of}
-use Rattle.search.specs.Outcomes.{IsNoneValid}
+use Rattle.search.specs.Outcomes.{HasNoValidOrder}
 use Rattle.projection.specs.Cuts.{NamesPart}
 use Rattle.refutation.specs.declared.reason.Reason.{Reason}
-use Rattle.refutation.specs.declared.refuting.Refutation.{Refutation}
-use Rattle.refutation.specs.declared.refuting.Refutation.TheVariants.{NoPart, OtherObject}
-use Rattle.refutation.specs.Refutations.{is_impossible, IfPart, IfImpossible, IfNotShown, IsDoubt, IsNamedPart}
-use Rattle.refutation.specs.Refutations.{HasNoValidOrder, IsShownBy, IsAnswerOn, IsAnswer}
+use Rattle.refutation.specs.declared.refuting.ReasonAnswer.{ReasonAnswer}
+use Rattle.refutation.specs.declared.refuting.ReasonAnswer.TheVariants.{NoPart, OtherObject}
+use Rattle.refutation.specs.Refutations.{shows_impossible, IfPart, IfShownImpossible, IfNotShown, IsWhyNotShown, IsNamedPart}
+use Rattle.refutation.specs.Refutations.{PartHasNoValidOrder, IsShownBy, IsReasonAnswerOn, IsReasonAnswer}
 
-pub none_among : (es : List Event) (objects : List ObjectCalls) → All (λ o. o.kind ≡ kind_at es o.object) objects
+pub none_among : (es : List Event) (objects : List ObjectCalls) → All (λ o. o.kind ≡ kind_of_object es o.object) objects
     → All (λ o. calls_of o.ops ≡ calls_on o.object (denoted es)) objects
     → ((kinds : ℕ → Kind) (h : List Numbered) → IsHistory h → IsLinearizable kinds (events h) → (x : ℕ)
     → HasValidOrder kinds h x)
-    → IsHistory (denoted es) → Any (λ o. IsNoneValid o.kind (calls_of o.ops)) objects
-    → IsLinearizable (kind_at es) (events (denoted es)) → ⊥
+    → IsHistory (denoted es) → Any (λ o. HasNoValidOrder o.kind (calls_of o.ops)) objects
+    → IsLinearizable (kind_of_object es) (events (denoted es)) → ⊥
 none_among es objects kinds calls orders h some lin =
     let o : ObjectCalls = some.1 in
     let i = in_from_contains objects o (some.0, some.2, some.3) in
-    let k = all_at (λ (o : ObjectCalls). o.kind ≡ kind_at es o.object) objects kinds o i in
+    let k = all_at (λ (o : ObjectCalls). o.kind ≡ kind_of_object es o.object) objects kinds o i in
     let cs = all_at (λ (o : ObjectCalls). calls_of o.ops ≡ calls_on o.object (denoted es)) objects calls o i in
-    let order = orders (kind_at es) (denoted es) h lin o.object in
+    let order = orders (kind_of_object es) (denoted es) h lin o.object in
     some.4 order.0 (rw (k, cs) order.1)
 
 -- each answer so far that is impossible refutes the history
-abbrev pub AreRefutations : Type 0 → List Refutation → Type 0
-AreRefutations Not answers = (r : Refutation) → In r answers → is_impossible r ≡ true → Not
+abbrev pub AreRefutations : Type 0 → List ReasonAnswer → Type 0
+AreRefutations Not answers = (r : ReasonAnswer) → In r answers → shows_impossible r ≡ true → Not
 
-pub one_more : (Not : Type 0) (answers more : List Refutation) (r : Refutation) → more ≡ answers ++ r ∷ []
-    → (is_impossible r ≡ true → Not) → AreRefutations Not answers → AreRefutations Not more
+pub one_more : (Not : Type 0) (answers more : List ReasonAnswer) (r : ReasonAnswer) → more ≡ answers ++ r ∷ []
+    → (shows_impossible r ≡ true → Not) → AreRefutations Not answers → AreRefutations Not more
 one_more Not answers more r e one all x i p = elim (in_append x answers (r ∷ []) (rw e at i)) [
   | inl j ↦ all x j p
-  | inr j ↦ elim j [ inl q ↦ one (ap is_impossible (sym q) ∙ p) | inr k ↦ absurd k ]
+  | inr j ↦ elim j [ inl q ↦ one (ap shows_impossible (sym q) ∙ p) | inr k ↦ absurd k ]
 ]
 
 zip_push : {X Y : Type 0} (R : X → Y → Type 0) (xs : List X) (ys : List Y) (x : X) (y : Y) → AllZip R xs ys → R x y
@@ -58,25 +58,25 @@ pub zip_more : {X Y : Type 0} (R : X → Y → Type 0) (xs : List X) (ys : List 
     → AllZip R (take i xs) ys → R x y → AllZip R (take (i + 1) xs) (ys ++ y ∷ [])
 zip_more R xs ys i x y lt is h r = rw (take_more xs i x lt, ← is) (zip_push R (take i xs) ys x y h r)
 
-pub refutes : (Not : Type 0) (answers : List Refutation) → AreRefutations Not answers
-    → Any (λ r. is_impossible r ≡ true) answers → Not
+pub refutes : (Not : Type 0) (answers : List ReasonAnswer) → AreRefutations Not answers
+    → Any (λ r. shows_impossible r ≡ true) answers → Not
 refutes Not answers all some = all some.1 (in_from_contains answers some.1 (some.0, some.2, some.3)) some.4
 
 -- ---- answers on one of several objects
 
 -- the answer on an object among others that has the reason's number
 pub answered : (objects : List ObjectCalls) (i : ℕ) (o : ObjectCalls) (reason : Reason)
-    (answer : Result Refutation AllocError) → i < length objects
+    (answer : Result ReasonAnswer AllocError) → i < length objects
     → o ≡ get_or objects i o → o.object ≡ reason.object
-    → IfOk answer (λ r. is_impossible r ≡ true → IsNoneValid o.kind (calls_of o.ops))
+    → IfOk answer (λ r. shows_impossible r ≡ true → HasNoValidOrder o.kind (calls_of o.ops))
     → IfOk answer (λ r. IfPart r (IsNamedPart reason.cuts.items o.object o.kind (calls_of o.ops)))
-    → IfOk answer (λ r. IfImpossible r (λ part. IsShownBy reason.basis part × HasNoValidOrder part))
-    → IfOk answer (λ r. IfNotShown r (IsDoubt reason.basis))
+    → IfOk answer (λ r. IfShownImpossible r (λ part. IsShownBy reason.basis part × PartHasNoValidOrder part))
+    → IfOk answer (λ r. IfNotShown r (IsWhyNotShown reason.basis))
     → IfOk answer (λ r. r ≡ NoPart → (part : List Call) → NamesPart reason.cuts.items (calls_of o.ops) part → ⊥)
     → IfOk answer (λ r. r ≢ OtherObject
     → (p : ObjectCalls) × Contains objects p × (p.object ≡ reason.object)
-    × IsAnswerOn p.kind (calls_of p.ops) reason r)
-answered objects i o reason (Ok r) lt is e none part shown doubt refused = λ own. (
+    × IsReasonAnswerOn p.kind (calls_of p.ops) reason r)
+answered objects i o reason (Ok r) lt is e none part shown why_not refused = λ own. (
   o,
   (i, lt, sym is),
   e,
@@ -84,14 +84,14 @@ answered objects i o reason (Ok r) lt is e none part shown doubt refused = λ ow
     impossible = none;
     part = rw e at part;
     shown = shown;
-    not_shown = doubt;
+    not_shown = why_not;
     no_part = refused;
   },
 )
-answered objects i o reason (Err x) lt is e none part shown doubt refused = tt
+answered objects i o reason (Err x) lt is e none part shown why_not refused = tt
 
 -- it is not that the reason is of another object
-pub own_number : (objects : List ObjectCalls) (o : ObjectCalls) (x : ℕ) (answer : Result Refutation AllocError)
+pub own_number : (objects : List ObjectCalls) (o : ObjectCalls) (x : ℕ) (answer : Result ReasonAnswer AllocError)
     → o.object ≡ x
     → IfOk answer (λ r. r ≡ OtherObject → x ≢ o.object)
     → IfOk answer (λ r. r ≡ OtherObject → All (λ p. p.object ≢ x) objects)
@@ -99,21 +99,22 @@ own_number objects o x (Ok r) e h = λ q. absurd (h q (sym e))
 own_number objects o x (Err z) e h = tt
 
 -- the answer on the objects of a history
-pub answer_is : (es : List Event) (objects : List ObjectCalls) (reason : Reason) (r : Refutation)
-    → All (λ o. o.kind ≡ kind_at es o.object) objects
+pub answer_is : (es : List Event) (objects : List ObjectCalls) (reason : Reason) (r : ReasonAnswer)
+    → All (λ o. o.kind ≡ kind_of_object es o.object) objects
     → All (λ o. calls_of o.ops ≡ calls_on o.object (denoted es)) objects
     → ((x : ℕ) → Contains (map (λ o. o.object) objects) x ↔ IsNamed es x)
     → (r ≢ OtherObject → (o : ObjectCalls) × Contains objects o × (o.object ≡ reason.object)
-    × IsAnswerOn o.kind (calls_of o.ops) reason r)
-    → (r ≡ OtherObject → All (λ o. o.object ≢ reason.object) objects) → IsAnswer es reason r
+    × IsReasonAnswerOn o.kind (calls_of o.ops) reason r)
+    → (r ≡ OtherObject → All (λ o. o.object ≢ reason.object) objects) → IsReasonAnswer es reason r
 answer_is es objects reason r kinds calls named on other = go r refl
   where
-    own : (q : r ≢ OtherObject) → IsAnswerOn (kind_at es reason.object) (calls_on reason.object (denoted es)) reason r
+    own : (q : r ≢ OtherObject) → IsReasonAnswerOn (kind_of_object es reason.object)
+        (calls_on reason.object (denoted es)) reason r
     own q =
         let a = on q in
         let o : ObjectCalls = a.0 in
         let i = in_from_contains objects o a.1 in
-        let k = rw a.2 at (all_at (λ (o : ObjectCalls). o.kind ≡ kind_at es o.object) objects kinds o i) in
+        let k = rw a.2 at (all_at (λ (o : ObjectCalls). o.kind ≡ kind_of_object es o.object) objects kinds o i) in
         let cs = rw a.2 at (all_at (λ (o : ObjectCalls). calls_of o.ops ≡ calls_on o.object (denoted es)) objects calls
         o i) in
         rw (k, cs) at a.3
@@ -132,10 +133,10 @@ answer_is es objects reason r kinds calls named on other = go r refl
         (in_from_contains (map (λ o. o.object) objects) reason.object ((named reason.object).1 n)) in
         all_at (λ (o : ObjectCalls). o.object ≢ reason.object) objects (other q) i.0 i.1 (sym i.2)
 
-    whole : (q : r ≢ OtherObject) → IsAnswer es reason r
+    whole : (q : r ≢ OtherObject) → IsReasonAnswer es reason r
     whole q = record { on = own q; other_object = unknown; own_object = known }
 
-    go : (z : Refutation) → r ≡ z → IsAnswer es reason r
+    go : (z : ReasonAnswer) → r ≡ z → IsReasonAnswer es reason r
     go OtherObject e = record {
       on = rw e (record { impossible = λ q. absurd (cc q); part = tt; shown = tt; not_shown = tt; no_part = λ q. cc });
       other_object = unknown;
@@ -144,10 +145,10 @@ answer_is es objects reason r kinds calls named on other = go r refl
     go z e = whole (λ q. absurd (cc (e, q)))
 
 -- no order is valid of the object that was answered
-pub refuted_among : (objects : List ObjectCalls) (reason : Reason) (r : Refutation)
+pub refuted_among : (objects : List ObjectCalls) (reason : Reason) (r : ReasonAnswer)
     → (r ≢ OtherObject → (o : ObjectCalls) × Contains objects o × (o.object ≡ reason.object)
-    × IsAnswerOn o.kind (calls_of o.ops) reason r)
-    → is_impossible r ≡ true → Any (λ o. IsNoneValid o.kind (calls_of o.ops)) objects
+    × IsReasonAnswerOn o.kind (calls_of o.ops) reason r)
+    → shows_impossible r ≡ true → Any (λ o. HasNoValidOrder o.kind (calls_of o.ops)) objects
 refuted_among objects reason r on so =
-    let a = on (λ q. let not = ap is_impossible q in absurd (cc (not, so))) in
+    let a = on (λ q. let not = ap shows_impossible q in absurd (cc (not, so))) in
     (a.1.0, a.0, a.1.1, a.1.2, a.3.impossible so)

@@ -7,29 +7,30 @@ use Rattle.edn_reader.specs.View.{view, views}
 use Rattle.edn_reader.specs.declared.form.Form.{Form}
 use Rattle.edn_fields.specs.FirstFaults.{AreFaultless}
 use Rattle.refutation.specs.declared.reason.Reason.{Reason}
-use Rattle.refutation.specs.Denotes.{reason_in, seen, Denotes}
-use Rattle.refutation.specs.Faults.{number_of, IsFault, IsFirstFault, IsSoundBefore}
+use Rattle.refutation.specs.Denotes.{reason_in, reason_seen, Denotes}
+use Rattle.refutation.specs.Faults.{reason_fault_number, IsReasonFault, IsFirstFault, AreReasonsSoundBefore}
 use Rattle.refutation.specs.declared.fault.ReasonFault.{ReasonFault}
 use Rattle.refutation.specs.declared.fault.ReasonFaultKind.{ReasonFaultKind}
 use Rattle.refutation.specs.declared.fault.ReasonFaultKind.TheVariants.{NotAReason, NoMemory}
 
 -- a form among those that are reasons is one
 is_read : (earlier later : List Datum) (d : Datum) (rs : List Reason)
-    → map reason_in (earlier ++ d ∷ later) ≡ map (λ r. Some (seen r)) rs → reason_in d ≡ None → ⊥
+    → map reason_in (earlier ++ d ∷ later) ≡ map (λ r. Some (reason_seen r)) rs → reason_in d ≡ None → ⊥
 is_read [] later d [] h none = absurd cc
-is_read [] later d (r ∷ rs) h none = let e : reason_in d ≡ Some (seen r) = cc in absurd cc
+is_read [] later d (r ∷ rs) h none = let e : reason_in d ≡ Some (reason_seen r) = cc in absurd cc
 is_read (e ∷ es) later d [] h none = absurd cc
 is_read (e ∷ es) later d (r ∷ rs) h none =
-    let more : map reason_in (es ++ d ∷ later) ≡ map (λ r. Some (seen r)) rs = cc in is_read es later d rs more none
+    let more : map reason_in (es ++ d ∷ later) ≡ map (λ r. Some (reason_seen r)) rs = cc in is_read es later d rs more
+    none
 
-pub no_fault : (ds : List Datum) (rs : List Reason) → Denotes ds rs → AreFaultless IsFault ds
+pub no_fault : (ds : List Datum) (rs : List Reason) → Denotes ds rs → AreFaultless IsReasonFault ds
 no_fault ds rs h earlier later d NotAReason split fault =
     is_read earlier later d rs (ap (map reason_in) (sym split) ∙ h) fault
 no_fault ds rs h earlier later d NoMemory split fault = fault
 
-only_fault : (earlier : List Datum) (d : Datum) (kind other : ReasonFaultKind) → IsFault earlier d kind
-    → IsFault earlier d other
-    → number_of kind ≤ number_of other
+only_fault : (earlier : List Datum) (d : Datum) (kind other : ReasonFaultKind) → IsReasonFault earlier d kind
+    → IsReasonFault earlier d other
+    → reason_fault_number kind ≤ reason_fault_number other
 only_fault earlier d NotAReason NotAReason h k = omega arith
 only_fault earlier d NotAReason NoMemory h k = omega arith
 only_fault earlier d NoMemory other h k = absurd h
@@ -42,12 +43,13 @@ split_at fs i f lt is =
     ∙ map-append view (take i fs) (f ∷ drop (i + 1) fs)
 
 -- what is wrong with a form is wrong with it after any others
-after_any : (earlier : List Datum) (d : Datum) (kind : ReasonFaultKind) → IsFault [] d kind → IsFault earlier d kind
+after_any : (earlier : List Datum) (d : Datum) (kind : ReasonFaultKind) → IsReasonFault [] d kind
+    → IsReasonFault earlier d kind
 after_any earlier d NotAReason h = h
 after_any earlier d NoMemory h = h
 
 pub first_fault : (fs : List Form) (i : ℕ) (f : Form) (rs : List Reason) (kind : ReasonFaultKind) → i < length fs
-    → f ≡ get_or fs i f → Denotes (views (take i fs)) rs → IsFault [] (view f) kind
+    → f ≡ get_or fs i f → Denotes (views (take i fs)) rs → IsReasonFault [] (view f) kind
     → IsFirstFault (views fs) (record { kind = kind; form = i })
 first_fault fs i f rs kind lt is h fault =
     let stands = after_any (views (take i fs)) (view f) kind fault in
@@ -66,7 +68,7 @@ pub not_denoted : (ds : List Datum) (e : ReasonFault) → IsFirstFault ds e → 
 not_denoted ds e f rs h = no_fault ds rs h f.earlier f.later f.form e.kind f.split f.stands
 
 pub sound_before : (fs : List Form) (i : ℕ) (f : Form) (rs : List Reason) → i < length fs → f ≡ get_or fs i f
-    → Denotes (views (take i fs)) rs → IsSoundBefore (views fs) i
+    → Denotes (views (take i fs)) rs → AreReasonsSoundBefore (views fs) i
 sound_before fs i f rs lt is h = record {
   earlier = views (take i fs);
   form = view f;
@@ -78,12 +80,12 @@ sound_before fs i f rs lt is h = record {
 
 pub one_more_read : (fs : List Form) (i : ℕ) (f : Form) (rs : List Reason) (r : Reason) → i < length fs
     → f ≡ get_or fs i f
-    → Denotes (views (take i fs)) rs → reason_in (view f) ≡ Some (seen r)
+    → Denotes (views (take i fs)) rs → reason_in (view f) ≡ Some (reason_seen r)
     → Denotes (views (take (i + 1) fs)) (rs ++ r ∷ [])
 one_more_read fs i f rs r lt is h own =
     let more = ap views (take_more fs i f lt ∙ ap (λ (x : Form). take i fs ++ x ∷ []) (sym is))
     ∙ map-append view (take i fs) (f ∷ []) in
     ap (map reason_in) more ∙ map-append reason_in (views (take i fs)) (view f ∷ [])
     ∙ ap (λ xs. xs ++ reason_in (view f) ∷ []) h
-    ∙ ap (λ v. map (λ b. Some (seen b)) rs ++ v ∷ []) own
-    ∙ sym (map-append (λ b. Some (seen b)) rs (r ∷ []))
+    ∙ ap (λ v. map (λ b. Some (reason_seen b)) rs ++ v ∷ []) own
+    ∙ sym (map-append (λ b. Some (reason_seen b)) rs (r ∷ []))

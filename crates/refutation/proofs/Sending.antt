@@ -8,7 +8,7 @@ use Rattle.std.proofs.lemmas.List.{drop_more, take_more}
 use Rattle.edn_reader.specs.Text.{between}
 use Rattle.projection.specs.declared.cutting.Cut.{Cut}
 use Rattle.refutation.specs.declared.reason.Reason.{Reason}
-use Rattle.refutation.specs.Lines.{naturals_text, numbers_text, cut_text, cuts_text, line_of, lines_of}
+use Rattle.refutation.specs.Lines.{naturals_text, given_numbers_text, cut_text, cuts_text, reason_line, reason_lines}
 use Rattle.refutation.specs.Written.{AreNumberKeys}
 
 -- what follows from an `Ok`
@@ -27,7 +27,7 @@ unfolding IsStrictlySortedBy
 no_numbers = record { in_range = tt; rising = tt }
 
 pub some_numbers : (ns : List ℕ) → (length ns ≡ 0 → ⊥)
-    → numbers_text ns ≡ codes ", :numbers [" ++ (naturals_text true ns ++ codes "]")
+    → given_numbers_text ns ≡ codes ", :numbers [" ++ (naturals_text true ns ++ codes "]")
 some_numbers [] some = absurd (some refl)
 some_numbers (n ∷ ns) some = refl
 
@@ -53,7 +53,7 @@ cuts_left cs i c first lt e =
     rw here refl
 
 pub lines_left : (rs : List Reason) (i : ℕ) (r : Reason) → i < length rs → r ≡ get_or rs i r
-    → lines_of (drop i rs) ≡ line_of r ++ lines_of (drop (i + 1) rs)
+    → reason_lines (drop i rs) ≡ reason_line r ++ reason_lines (drop (i + 1) rs)
 lines_left rs i r lt e =
     let here : drop i rs ≡ r ∷ drop (i + 1) rs = drop_more rs i r lt
     ∙ ap (λ (y : Reason). y ∷ drop (i + 1) rs) (sym e) in

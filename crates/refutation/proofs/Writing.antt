@@ -13,7 +13,7 @@ use Rattle.std.proofs.lemmas.Bool.Decides.{nat_tests}
 use Rattle.std.proofs.lemmas.Cmp.{nat_cmp_total, int_cmp_total}
 use Rattle.edn_reader.specs.Bytes.{is_name}
 use Rattle.edn_reader.specs.Datum.{Datum, integer, keyword, boolean, atom, vector, dictionary, Entries, no_entries}
-use Rattle.edn_reader.specs.Datum.{entry, items_of, Fits, ItemsFit, EntriesFit, Lacks, max_open}
+use Rattle.edn_reader.specs.Datum.{entry, items_of, DatumFits, ItemsFit, EntriesFit, Lacks, max_open}
 use Rattle.edn_reader.specs.Text.{between, IsInt64, InProfile, ItemsInProfile, EntriesInProfile}
 use Rattle.edn_reader.specs.Text.{text_of, items_text, entries_text}
 use Rattle.edn_reader.specs.Text as edn
@@ -33,9 +33,10 @@ use Rattle.refutation.specs.declared.reason.Basis.TheVariants.{Search, Counting,
 use Rattle.refutation.specs.declared.reason.Reason.{Reason}
 use Rattle.refutation.specs.Denotes as spec
 use Rattle.refutation.specs.Denotes.{max_number, integers_with, numbers_with, values_in, numbers_in, cut_in, cuts_with}
-use Rattle.refutation.specs.Denotes.{basis_in, reason_in, reason_with, CutSeen, seen_values, seen_cut, seen}
-use Rattle.refutation.specs.Lines.{integers_text, naturals_text, values_text, numbers_text, cut_text, cuts_text}
-use Rattle.refutation.specs.Lines.{counted_text, basis_text, search_text, line_of, lines_of, AreInRange, SpellsReasons}
+use Rattle.refutation.specs.Denotes.{basis_in, reason_in, reason_with, CutSeen, seen_values, seen_cut, reason_seen}
+use Rattle.refutation.specs.Lines.{integers_text, naturals_text, values_text, given_numbers_text, cut_text, cuts_text}
+use Rattle.refutation.specs.Lines.{counted_text, basis_text, search_text, reason_line, reason_lines, AreReasonsInRange}
+use Rattle.refutation.specs.Lines.{SpellsReasons}
 use Rattle.refutation.specs.Written.{AreNumberKeys, AreTypedValues, IsTypedCut}
 use Rattle.refutation.specs.Written.{AreTypedSteps, IsTypedCounted, IsTypedBasis, IsTypedReason}
 use Rattle.refutation.proofs.Rising.{put_next}
@@ -140,7 +141,7 @@ values_are_text : (vs : Values) → values_text vs ≡ text_of (values_datum vs)
 values_are_text All = refl
 values_are_text (Only s) = rw (integers_are_items true s.keys)
 
-numbers_are_text : (ns : List ℕ) → numbers_text ns ≡ entries_text false (numbers_entries ns)
+numbers_are_text : (ns : List ℕ) → given_numbers_text ns ≡ entries_text false (numbers_entries ns)
 numbers_are_text [] = refl
 numbers_are_text (n ∷ ns) = rw (naturals_are_items true (n ∷ ns), append-nil)
 
@@ -211,7 +212,7 @@ basis_is_text (Search trial) = search_is_text trial.first trial.steps
 basis_is_text (Counting c) = rw (counted_is_text c.counted c.from, append-nil)
 basis_is_text (Ahead number from) = ahead_is_text (from == 0) number from
 
-line_is_text : (r : Reason) → line_of r ≡ text_of (datum_of r) ++ 10 ∷ []
+line_is_text : (r : Reason) → reason_line r ≡ text_of (datum_of r) ++ 10 ∷ []
 line_is_text r =
     let pairs = λ (c : List ℕ). λ (e : List ℕ). codes ", :cuts [" ++ ((c ++ codes "]") ++ e) in
     let cuts = items_text true (items_of (cuts_data r.cuts.items)) in
@@ -219,10 +220,10 @@ line_is_text r =
     rw (cuts_are_items true r.cuts.items, basis_is_text r.basis) (sym (ap (λ t. codes "{:object " ++ t)
     (append_assoc (decimal r.object ++ pairs cuts basis) (codes "}") (codes "\n"))))
 
-lines_are_texts : (rs : List Reason) → lines_of rs ≡ edn.lines_of (data_of rs)
+lines_are_texts : (rs : List Reason) → reason_lines rs ≡ edn.form_lines (data_of rs)
 lines_are_texts [] = refl
-lines_are_texts (r ∷ rs) = ap (λ t. t ++ lines_of rs) (line_is_text r)
-    ∙ append_assoc (text_of (datum_of r)) (10 ∷ []) (lines_of rs)
+lines_are_texts (r ∷ rs) = ap (λ t. t ++ reason_lines rs) (line_is_text r)
+    ∙ append_assoc (text_of (datum_of r)) (10 ∷ []) (reason_lines rs)
     ∙ ap (λ t. text_of (datum_of r) ++ 10 ∷ t) (lines_are_texts rs)
 
 -- ---- they are well-formed
@@ -231,7 +232,7 @@ atoms_fit : {X : Type 0} (n : ℕ) (f : X → ℤ) (xs : List X) → ItemsFit n 
 atoms_fit n f [] = tt
 atoms_fit n f (x ∷ xs) = (tt, atoms_fit n f xs)
 
-values_fit : (vs : Values) → Fits 13 (values_datum vs)
+values_fit : (vs : Values) → DatumFits 13 (values_datum vs)
 values_fit All = tt
 values_fit (Only s) = (lit< tt, atoms_fit 12 (λ z. z) s.keys)
 
@@ -247,7 +248,7 @@ numbers_entries_fit (n ∷ ns) = (tt, (lit< tt, atoms_fit 12 pos (n ∷ ns)), tt
 other_fits : (other : ℤ) (ns : List ℕ) → EntriesFit 13 (other_entries other ns)
 other_fits other ns = (lacks_numbers (codes "other") ns (λ h. cc), tt, numbers_entries_fit ns)
 
-cut_fits : (c : Cut) → Fits 14 (cut_datum c)
+cut_fits : (c : Cut) → DatumFits 14 (cut_datum c)
 cut_fits (From n) = (lit< tt, (tt, tt, tt))
 cut_fits (Until n) = (lit< tt, (tt, tt, tt))
 cut_fits (Without v n) = (lit< tt, ((λ h. cc, tt), tt, (tt, tt, tt)))
@@ -309,7 +310,7 @@ basis_fits (Ahead number from) = (tt, (lit< tt, ahead_fits (from == 0) number fr
 object_is_not_search : codes "object" ≡ codes "search" → ⊥
 object_is_not_search h = let first : 111 ≡ 115 = ap (λ k. get_or k 0 0) h in absurd (omega (arith, first))
 
-datum_fits : (r : Reason) → Fits max_open (datum_of r)
+datum_fits : (r : Reason) → DatumFits max_open (datum_of r)
 datum_fits r = (
   lit< tt,
   (
@@ -508,12 +509,12 @@ basis_read (Counting c) t = counted_read c.counted c.from t.1
 basis_read (Ahead number from) t = ahead_read (from == 0) number from refl t.0 t.1
 
 datum_denotes : (r : Reason) → r.object ≤ 65535 → IsTypedReason r → reason_in (datum_of r)
-    ≡ Some (seen r)
+    ≡ Some (reason_seen r)
 datum_denotes r small t = rw (le-leb r.object 65535 small, cuts_read [] r.cuts.items t.0, basis_read r.basis t.1)
 
 -- ---- the lines
 
-each_spelled : (rs : List Reason) → AreInRange rs → AllByRecursion IsTypedReason rs
+each_spelled : (rs : List Reason) → AreReasonsInRange rs → AllByRecursion IsTypedReason rs
     → EachSpelled (data_of rs)
 each_spelled [] small t = tt
 each_spelled (r ∷ rs) small t = (
@@ -521,16 +522,16 @@ each_spelled (r ∷ rs) small t = (
   each_spelled rs (λ k d lt. small (suc k) d (omega arith)) t.1,
 )
 
-each_denoted : (rs : List Reason) → AreInRange rs → AllByRecursion IsTypedReason rs
-    → map reason_in (data_of rs) ≡ map (λ r. Some (seen r)) rs
+each_denoted : (rs : List Reason) → AreReasonsInRange rs → AllByRecursion IsTypedReason rs
+    → map reason_in (data_of rs) ≡ map (λ r. Some (reason_seen r)) rs
 each_denoted [] small t = refl
 each_denoted (r ∷ rs) small t = rw (
   datum_denotes r (small 0 r (omega arith)) t.0,
   each_denoted rs (λ k d lt. small (suc k) d (omega arith)) t.1,
 )
 
-pub lines_spell : (rs : List Reason) → AllByRecursion IsTypedReason rs → AreInRange rs
-    → SpellsReasons rs (lines_of rs)
+pub lines_spell : (rs : List Reason) → AllByRecursion IsTypedReason rs → AreReasonsInRange rs
+    → SpellsReasons rs (reason_lines rs)
 lines_spell rs t small = record {
   forms = data_of rs;
   spelled = rw (lines_are_texts rs) (lines_spell_them (data_of rs) (each_spelled rs small t));

@@ -54,8 +54,8 @@ seen_cut (Cell values other numbers) = cell (seen_values values) other numbers.k
 seen_cut (Entry key values other numbers) =
     entry_cell key (seen_values values) other numbers.keys
 
-abbrev pub seen : Reason → ReasonSeen
-seen r = record { object = r.object; cuts = map seen_cut r.cuts.items; basis = r.basis }
+abbrev pub reason_seen : Reason → ReasonSeen
+reason_seen r = record { object = r.object; cuts = map seen_cut r.cuts.items; basis = r.basis }
 
 -- ---- numbers and sets
 
@@ -181,9 +181,9 @@ counted_with (Some None) (Some None) false true = Some counted.Free
 counted_with k v held free = None
 
 -- from this number on; an absent one is 0
-abbrev pub start_in : Option Datum → Option ℕ
-start_in None = Some 0
-start_in (Some d) = number_in (Some d)
+abbrev pub start_number : Option Datum → Option ℕ
+start_number None = Some 0
+start_number (Some d) = number_in (Some d)
 
 abbrev pub count_with : Option Counted → Option ℕ → Option Basis
 count_with (Some c) (Some n) = Some (Counting (record { counted = c; from = n }))
@@ -207,7 +207,7 @@ count_from (Some d) what start = ahead_with (number_in (Some d)) start
 abbrev pub basis_of : Entries → Option Basis
 basis_of es =
     count_from (value_at (codes "ahead") es) (counted_of es)
-    (start_in (value_at (codes "from") es))
+    (start_number (value_at (codes "from") es))
 
 -- which operation is tried first: :number, the default, or :return
 abbrev pub first_in : Option Datum → Option TryFirst
@@ -257,4 +257,4 @@ reason_in other = None
 
 -- The forms are these reasons, one by one and in order.
 abbrev pub Denotes : List Datum → List Reason → Type 0
-Denotes ds rs = map reason_in ds ≡ map (λ r. Some (seen r)) rs
+Denotes ds rs = map reason_in ds ≡ map (λ r. Some (reason_seen r)) rs

@@ -8,24 +8,24 @@ use Rattle.refutation.specs.declared.fault.ReasonFaultKind.TheVariants.{NotAReas
 use Rattle.refutation.specs.declared.fault.ReasonFault.{ReasonFault}
 
 -- the number that is printed after the letter N
-abbrev pub number_of : ReasonFaultKind → ℕ
-number_of NotAReason = 1
-number_of NoMemory = 2
+abbrev pub reason_fault_number : ReasonFaultKind → ℕ
+reason_fault_number NotAReason = 1
+reason_fault_number NoMemory = 2
 
 -- what is wrong with a form
-abbrev pub IsFault : List Datum → Datum → ReasonFaultKind → Type 0
-IsFault earlier d NotAReason = reason_in d ≡ None
-IsFault earlier d NoMemory = ⊥
+abbrev pub IsReasonFault : List Datum → Datum → ReasonFaultKind → Type 0
+IsReasonFault earlier d NotAReason = reason_in d ≡ None
+IsReasonFault earlier d NoMemory = ⊥
 
 -- the first fault: that of the first form that is no reason
 abbrev pub IsFirstFault : List Datum → ReasonFault → Type 0
-IsFirstFault ds fault = IsFirstFaultBy IsFault number_of ds fault.form fault.kind
+IsFirstFault ds fault = IsFirstFaultBy IsReasonFault reason_fault_number ds fault.form fault.kind
 
 -- nothing is wrong with the forms before this place, and there is one at it
-pub record IsSoundBefore (ds : List Datum) (place : ℕ) : Type 0 where
+pub record AreReasonsSoundBefore (ds : List Datum) (place : ℕ) : Type 0 where
   pub earlier : List Datum
   pub form : Datum
   pub later : List Datum
   pub split : ds ≡ earlier ++ form ∷ later
   pub place_is : length earlier ≡ place
-  pub least : AreFaultless IsFault earlier
+  pub least : AreFaultless IsReasonFault earlier

@@ -40,15 +40,15 @@ values_text values.All = codes ":all"
 values_text (values.Only s) = codes "[" ++ (integers_text true s.keys ++ codes "]")
 
 -- the pair :numbers with a vector of numbers; nothing if there are none
-abbrev pub numbers_text : List ℕ → List ℕ
-numbers_text [] = []
-numbers_text (n ∷ ns) = codes ", :numbers [" ++ (naturals_text true (n ∷ ns) ++ codes "]")
+abbrev pub given_numbers_text : List ℕ → List ℕ
+given_numbers_text [] = []
+given_numbers_text (n ∷ ns) = codes ", :numbers [" ++ (naturals_text true (n ∷ ns) ++ codes "]")
 
 -- ---- cuts
 
 -- the pairs :other and :numbers
 abbrev pub other_text : ℤ → List ℕ → List ℕ
-other_text other ns = (codes ", :other " ++ signed_decimal other) ++ numbers_text ns
+other_text other ns = (codes ", :other " ++ signed_decimal other) ++ given_numbers_text ns
 
 abbrev pub cell_text : Values → List ℕ
 cell_text vs = codes "{:cell " ++ values_text vs
@@ -59,7 +59,7 @@ open_cut_text (From n) = codes "{:from " ++ decimal n
 open_cut_text (Until n) = codes "{:until " ++ decimal n
 open_cut_text (Without v n) =
     (codes "{:without " ++ signed_decimal v) ++ (codes ", :before " ++ decimal n)
-open_cut_text (Keep vs ns) = codes "{:keep " ++ (values_text vs ++ numbers_text ns.keys)
+open_cut_text (Keep vs ns) = codes "{:keep " ++ (values_text vs ++ given_numbers_text ns.keys)
 open_cut_text (Cell vs other ns) = cell_text vs ++ other_text other ns.keys
 open_cut_text (Entry key vs other ns) =
     cell_text vs ++ ((codes ", :key " ++ signed_decimal key) ++ other_text other ns.keys)
@@ -129,16 +129,16 @@ open_reason_text r =
     ++ (all_cuts_text r.cuts.items ++ basis_text r.basis)
 
 -- the line of a reason, as {:object 0, :cuts [{:until 120}]}
-abbrev pub line_of : Reason → List ℕ
-line_of r = open_reason_text r ++ codes "}\n"
+abbrev pub reason_line : Reason → List ℕ
+reason_line r = open_reason_text r ++ codes "}\n"
 
-abbrev pub lines_of : List Reason → List ℕ
-lines_of [] = []
-lines_of (r ∷ rs) = line_of r ++ lines_of rs
+abbrev pub reason_lines : List Reason → List ℕ
+reason_lines [] = []
+reason_lines (r ∷ rs) = reason_line r ++ reason_lines rs
 
 -- each object has a number that a text can have
-abbrev pub AreInRange : List Reason → Type 0
-AreInRange rs = All (λ r. r.object ≤ max_object) rs
+abbrev pub AreReasonsInRange : List Reason → Type 0
+AreReasonsInRange rs = All (λ r. r.object ≤ max_object) rs
 
 -- the text is that of some forms, and these denote the reasons
 pub record SpellsReasons (rs : List Reason) (bytes : List ℕ) : Type 0 where

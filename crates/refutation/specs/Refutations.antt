@@ -4,9 +4,9 @@ use Rattle.std.specs.Prelude.{Option, Some, None}
 use Rattle.model.specs.declared.Kind.{Kind}
 use Rattle.model.specs.Orders.{Call, IsValidOrder, calls_on}
 use Rattle.events.specs.declared.event.Event.{Event}
-use Rattle.events.specs.Events.{kind_at, denoted, IsNamed}
+use Rattle.events.specs.Events.{kind_of_object, denoted, IsNamed}
 use Rattle.events.specs.Operations.{ObjectCalls, calls_of}
-use Rattle.search.specs.Outcomes.{IsNoneValid}
+use Rattle.search.specs.Outcomes.{HasNoValidOrder}
 use Rattle.projection.specs.declared.cutting.Cut.{Cut}
 use Rattle.projection.specs.Ahead.{IsBlocked}
 use Rattle.projection.specs.Counts.{IsOverdrawn}
@@ -14,37 +14,37 @@ use Rattle.projection.specs.Cuts.{NamesPart, NoneFailed, part_kind}
 use Rattle.refutation.specs.declared.reason.Basis.{Basis}
 use Rattle.refutation.specs.declared.reason.Basis.TheVariants.{Search, Counting, Ahead}
 use Rattle.refutation.specs.declared.reason.Reason.{Reason}
-use Rattle.refutation.specs.declared.refuting.Doubt.{Doubt}
-use Rattle.refutation.specs.declared.refuting.Doubt.TheVariants.{Possible, NotExceeded, OutOfSteps}
-use Rattle.refutation.specs.declared.refuting.Doubt.TheVariants.{NoMemory}
-use Rattle.refutation.specs.declared.refuting.Refutation.{Refutation}
-use Rattle.refutation.specs.declared.refuting.Refutation.TheVariants as refutation
+use Rattle.refutation.specs.declared.refuting.WhyNotShown.{WhyNotShown}
+use Rattle.refutation.specs.declared.refuting.WhyNotShown.TheVariants.{Possible, NotExceeded, OutOfSteps}
+use Rattle.refutation.specs.declared.refuting.WhyNotShown.TheVariants.{NoMemory}
+use Rattle.refutation.specs.declared.refuting.ReasonAnswer.{ReasonAnswer}
+use Rattle.refutation.specs.declared.refuting.ReasonAnswer.TheVariants as refutation
 
 -- if the reason names a part, this holds of the part
-abbrev pub IfPart : Refutation → (ObjectCalls → Type 0) → Type 0
+abbrev pub IfPart : ReasonAnswer → (ObjectCalls → Type 0) → Type 0
 IfPart (refutation.Impossible part) P = P part
-IfPart (refutation.NotShown part doubt) P = P part
+IfPart (refutation.NotShown part why_not) P = P part
 IfPart refutation.NoPart P = ⊤
 IfPart refutation.OtherObject P = ⊤
 
 -- whether it is shown that no order is valid
-abbrev pub is_impossible : Refutation → Bool
-is_impossible (refutation.Impossible part) = true
-is_impossible (refutation.NotShown part doubt) = false
-is_impossible refutation.NoPart = false
-is_impossible refutation.OtherObject = false
+abbrev pub shows_impossible : ReasonAnswer → Bool
+shows_impossible (refutation.Impossible part) = true
+shows_impossible (refutation.NotShown part why_not) = false
+shows_impossible refutation.NoPart = false
+shows_impossible refutation.OtherObject = false
 
 -- if it is shown that no order is valid, this holds of the part
-abbrev pub IfImpossible : Refutation → (ObjectCalls → Type 0) → Type 0
-IfImpossible (refutation.Impossible part) P = P part
-IfImpossible (refutation.NotShown part doubt) P = ⊤
-IfImpossible refutation.NoPart P = ⊤
-IfImpossible refutation.OtherObject P = ⊤
+abbrev pub IfShownImpossible : ReasonAnswer → (ObjectCalls → Type 0) → Type 0
+IfShownImpossible (refutation.Impossible part) P = P part
+IfShownImpossible (refutation.NotShown part why_not) P = ⊤
+IfShownImpossible refutation.NoPart P = ⊤
+IfShownImpossible refutation.OtherObject P = ⊤
 
 -- if it is not shown, this holds of the part and of why
-abbrev pub IfNotShown : Refutation → (ObjectCalls → Doubt → Type 0) → Type 0
+abbrev pub IfNotShown : ReasonAnswer → (ObjectCalls → WhyNotShown → Type 0) → Type 0
 IfNotShown (refutation.Impossible part) P = ⊤
-IfNotShown (refutation.NotShown part doubt) P = P part doubt
+IfNotShown (refutation.NotShown part why_not) P = P part why_not
 IfNotShown refutation.NoPart P = ⊤
 IfNotShown refutation.OtherObject P = ⊤
 
@@ -58,10 +58,10 @@ steps_of (Search trial) limit = steps_or trial.steps limit
 steps_of (Counting count) limit = limit
 steps_of (Ahead number from) limit = limit
 
-abbrev pub IsSearch : Basis → Type 0
-IsSearch (Search trial) = ⊤
-IsSearch (Counting count) = ⊥
-IsSearch (Ahead number from) = ⊥
+abbrev pub IsSearchBasis : Basis → Type 0
+IsSearchBasis (Search trial) = ⊤
+IsSearchBasis (Counting count) = ⊥
+IsSearchBasis (Ahead number from) = ⊥
 
 -- a count does not show that the part has no valid order
 abbrev pub IsNotExceeded : Basis → ObjectCalls → Type 0
@@ -71,23 +71,23 @@ IsNotExceeded (Counting count) part =
 IsNotExceeded (Ahead number from) part = IsBlocked number from (calls_of part.ops) → ⊥
 
 -- Why the basis does not show that the part has no valid order. A count has one answer alone.
-abbrev pub IsDoubt : Basis → ObjectCalls → Doubt → Type 0
-IsDoubt basis part (Possible order) =
-    IsSearch basis × IsValidOrder part.kind (calls_of part.ops) order.items
-IsDoubt basis part NotExceeded = IsNotExceeded basis part
-IsDoubt basis part OutOfSteps = IsSearch basis
-IsDoubt basis part NoMemory =
-    IsSearch basis × Any (λ call. IsSome call.returned) (calls_of part.ops)
+abbrev pub IsWhyNotShown : Basis → ObjectCalls → WhyNotShown → Type 0
+IsWhyNotShown basis part (Possible order) =
+    IsSearchBasis basis × IsValidOrder part.kind (calls_of part.ops) order.items
+IsWhyNotShown basis part NotExceeded = IsNotExceeded basis part
+IsWhyNotShown basis part OutOfSteps = IsSearchBasis basis
+IsWhyNotShown basis part NoMemory =
+    IsSearchBasis basis × Any (λ call. IsSome call.returned) (calls_of part.ops)
 
 -- no order of the part's operations is valid
-abbrev pub HasNoValidOrder : ObjectCalls → Type 0
-HasNoValidOrder part = IsNoneValid part.kind (calls_of part.ops)
+abbrev pub PartHasNoValidOrder : ObjectCalls → Type 0
+PartHasNoValidOrder part = HasNoValidOrder part.kind (calls_of part.ops)
 
 -- What the basis shows of a part: a search, that no order of it is valid; a count, that a
 -- content was taken away more often than it can have been there, or that more values definitely
 -- were ahead of what a removal found than other calls can have taken out before it.
 abbrev pub IsShownBy : Basis → ObjectCalls → Type 0
-IsShownBy (Search trial) part = HasNoValidOrder part
+IsShownBy (Search trial) part = PartHasNoValidOrder part
 IsShownBy (Counting count) part = IsOverdrawn part.kind count (calls_of part.ops)
 IsShownBy (Ahead number from) part = IsBlocked number from (calls_of part.ops)
 
@@ -101,23 +101,24 @@ pub record IsNamedPart (cuts : List Cut) (x : ℕ) (whole : Kind) (calls : List 
   pub none_failed : NoneFailed part.ops
 
 -- the answer to a reason on the operations of an object that has the reason's number
-pub record IsAnswerOn (kind : Kind) (calls : List Call) (reason : Reason)
-    (answer : Refutation) : Type 0 where
+pub record IsReasonAnswerOn (kind : Kind) (calls : List Call) (reason : Reason)
+    (answer : ReasonAnswer) : Type 0 where
   -- it is impossible only if no order of the operations is valid
-  pub impossible : is_impossible answer ≡ true → IsNoneValid kind calls
+  pub impossible : shows_impossible answer ≡ true → HasNoValidOrder kind calls
   -- what is handed out is a part with the calls that the reason names
   pub part : IfPart answer (IsNamedPart reason.cuts.items reason.object kind calls)
   -- it is impossible only if the reason's basis shows it of that part, and no order of the
   -- part is valid
-  pub shown : IfImpossible answer (λ part.
-      IsShownBy reason.basis part × HasNoValidOrder part)
-  pub not_shown : IfNotShown answer (IsDoubt reason.basis)
+  pub shown : IfShownImpossible answer (λ part.
+      IsShownBy reason.basis part × PartHasNoValidOrder part)
+  pub not_shown : IfNotShown answer (IsWhyNotShown reason.basis)
   pub no_part : answer ≡ refutation.NoPart → (part : List Call)
       → NamesPart reason.cuts.items calls part → ⊥
 
 -- the answer to a reason on a history
-pub record IsAnswer (es : List Event) (reason : Reason) (answer : Refutation) : Type 0 where
-  pub on : IsAnswerOn (kind_at es reason.object) (calls_on reason.object (denoted es)) reason
+pub record IsReasonAnswer (es : List Event) (reason : Reason) (answer : ReasonAnswer) : Type 0 where
+  pub on : IsReasonAnswerOn (kind_of_object es reason.object) (calls_on reason.object (denoted es))
+      reason
       answer
   -- the answer is another object exactly if no invocation names the reason's object
   pub other_object : answer ≡ refutation.OtherObject → IsNamed es reason.object → ⊥

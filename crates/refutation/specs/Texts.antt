@@ -5,21 +5,22 @@ use Rattle.edn_reader.specs.Sound as edn_sound
 use Rattle.edn_reader.specs.Sound.{IsShort, IsUnreadable}
 use Rattle.edn_reader.specs.Spells.{Spells}
 use Rattle.edn_reader.specs.declared.fault.FaultKind.TheVariants as edn_kind
-use Rattle.refutation.specs.Faults.{IsFirstFault, IsSoundBefore}
+use Rattle.refutation.specs.Faults.{IsFirstFault, AreReasonsSoundBefore}
 use Rattle.refutation.specs.declared.fault.ReasonFault.{ReasonFault}
 use Rattle.refutation.specs.declared.fault.ReasonFaultKind.TheVariants.{NoMemory}
 use Rattle.refutation.specs.declared.fault.ReasonTextFault.{ReasonTextFault}
 use Rattle.refutation.specs.declared.fault.ReasonTextFault.TheVariants.{Text, Forms}
 
 -- The first fault of the forms; or an allocation failed for one of them, and before it is no fault.
-abbrev pub IsFoundIn : List Datum → ReasonFault → Type 0
-IsFoundIn ds f =
-    (f.kind ≢ NoMemory → IsFirstFault ds f) × (f.kind ≡ NoMemory → IsSoundBefore ds f.form)
+abbrev pub IsReasonFaultIn : List Datum → ReasonFault → Type 0
+IsReasonFaultIn ds f =
+    (f.kind ≢ NoMemory → IsFirstFault ds f) × (f.kind ≡ NoMemory → AreReasonsSoundBefore ds f.form)
 
 -- The text is unreadable, or an allocation failed for a token; or it is short and spells forms in
 -- which this was found.
-abbrev pub IsTextFault : List ℕ → ReasonTextFault → Type 0
-IsTextFault text (Text e) =
+abbrev pub IsReasonTextFault : List ℕ → ReasonTextFault → Type 0
+IsReasonTextFault text (Text e) =
     (e.kind ≢ edn_kind.NoMemory → IsUnreadable text e)
     × (e.kind ≡ edn_kind.NoMemory → edn_sound.IsSoundAt e.place text)
-IsTextFault text (Forms f) = IsShort text × (ds : List Datum) × Spells ds text × IsFoundIn ds f
+IsReasonTextFault text (Forms f) = IsShort text × (ds : List Datum) × Spells ds text
+    × IsReasonFaultIn ds f

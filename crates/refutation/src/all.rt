@@ -4,12 +4,12 @@ ghost use Rattle.std.specs.Prelude.{◌≡◌, ◌≢◌, true, All, Any, Contai
 ghost use Rattle.std.specs.List.{AllZip};
 ghost use Rattle.model.specs.Linearizable.{IsLinearizable};
 ghost use Rattle.model.specs.Orders.{events};
-ghost use Rattle.events.specs.Events.{kind_at, denoted};
+ghost use Rattle.events.specs.Events.{kind_of_object, denoted};
 ghost use Rattle.events.specs.Operations.{ObjectCalls, calls_of};
-ghost use Rattle.refutation.specs.Refutations.{is_impossible, IsAnswerOn, IsAnswer};
+ghost use Rattle.refutation.specs.Refutations.{shows_impossible, IsReasonAnswerOn, IsReasonAnswer};
 
 use crate::reason::Reason;
-use crate::refuting::{Refutation, refute};
+use crate::refuting::{ReasonAnswer, refute};
 use events::{History, ObjectHistory, split};
 use locality::linearizable_has_orders;
 use std::alloc::{AllocError, Global};
@@ -20,11 +20,11 @@ fn refute_among(
     objects: &[ObjectHistory],
     reason: &Reason,
     limit: u64,
-) -> Result<Refutation, AllocError>
-    ensures on { IfOk result (λ r. r ≢ Refutation.OtherObject → (o : ObjectCalls)
+) -> Result<ReasonAnswer, AllocError>
+    ensures on { IfOk result (λ r. r ≢ ReasonAnswer.OtherObject → (o : ObjectCalls)
         × Contains objects.now o × (o.object ≡ reason.now.object)
-        × IsAnswerOn o.kind (calls_of o.ops) reason.now r) }
-    ensures other_object { IfOk result (λ r. r ≡ Refutation.OtherObject
+        × IsReasonAnswerOn o.kind (calls_of o.ops) reason.now r) }
+    ensures other_object { IfOk result (λ r. r ≡ ReasonAnswer.OtherObject
         → All (λ o. o.object ≢ reason.now.object) objects.now) }
 {
     for object in objects {
@@ -32,7 +32,7 @@ fn refute_among(
             return refute(alloc, object, reason, limit);
         }
     }
-    Ok(Refutation::OtherObject)
+    Ok(ReasonAnswer::OtherObject)
 }
 
 /// Checks each reason against its object, in order. A search takes at most `limit` steps. The
@@ -44,12 +44,12 @@ pub fn refute_all(
     history: &History,
     reasons: &[Reason],
     limit: u64,
-) -> Result<Vec<Refutation>, AllocError>
+) -> Result<Vec<ReasonAnswer>, AllocError>
     // Each is the answer to its reason on the object that has the reason's number.
-    ensures each { IfOk result (λ v. AllZip (IsAnswer history.now) reasons.now v.items) }
+    ensures each { IfOk result (λ v. AllZip (IsReasonAnswer history.now) reasons.now v.items) }
     // If one is impossible the history is not linearizable.
-    ensures impossible { IfOk result (λ v. Any (λ r. is_impossible r ≡ true) v.items
-        → IsLinearizable (kind_at history.now) (events (denoted history.now)) → ⊥) }
+    ensures impossible { IfOk result (λ v. Any (λ r. shows_impossible r ≡ true) v.items
+        → IsLinearizable (kind_of_object history.now) (events (denoted history.now)) → ⊥) }
 {
     // These two do nothing. The first says that the events denote a well-formed history, the second
     // that each object of a linearizable one has a valid order.

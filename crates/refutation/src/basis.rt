@@ -34,7 +34,7 @@ fn read_counted(entries: &[(Name, Form)]) -> Option<Counted>
 
 /// Reads the number of the event from which on it is counted. No form is 0, the beginning.
 fn read_start(form: Option<&Form>) -> Option<u32>
-    ensures { result ≡ spec.start_in (option_map (λ f. view f.now) form.entry) }
+    ensures { result ≡ spec.start_number (option_map (λ f. view f.now) form.entry) }
 {
     match form {
         None => Some(0),
@@ -45,7 +45,7 @@ fn read_start(form: Option<&Form>) -> Option<u32>
 /// Reads a count of a content: the content, and `:from`.
 fn read_count(entries: &[(Name, Form)]) -> Option<Basis>
     ensures { result ≡ spec.count_with (spec.counted_of (entries_of (pair_views entries.now)))
-        (spec.start_in (value_at (codes "from") (entries_of (pair_views entries.now)))) }
+        (spec.start_number (value_at (codes "from") (entries_of (pair_views entries.now)))) }
 {
     let counted = read_counted(entries)?;
     let from = read_start(value_at(entries, b"from"))?;
@@ -57,7 +57,7 @@ fn read_count(entries: &[(Name, Form)]) -> Option<Basis>
 fn read_ahead(removal: Option<&Form>, from: Option<&Form>) -> Option<Basis>
     ensures { result ≡ spec.ahead_with
         (spec.number_in (option_map (λ f. view f.now) removal.entry))
-        (spec.start_in (option_map (λ f. view f.now) from.entry)) }
+        (spec.start_number (option_map (λ f. view f.now) from.entry)) }
 {
     let number = number(removal)?;
     let from = read_start(from)?;

@@ -14,11 +14,11 @@ pub enum ReasonFaultKind {
 }
 
 impl ReasonFaultKind {
-    ghost use Rattle.refutation.specs.Faults.{number_of};
+    ghost use Rattle.refutation.specs.Faults.{reason_fault_number};
 
     /// The number after the letter N.
     pub fn number(self) -> u8
-        ensures { result ≡ number_of self }
+        ensures { result ≡ reason_fault_number self }
     {
         match self {
             ReasonFaultKind::NotAReason => 1,

@@ -10,12 +10,12 @@ ghost use Rattle.model.specs.Linearizable.{IsLinearizable};
 ghost use Rattle.model.specs.Objects.{kind_of};
 ghost use Rattle.model.specs.Orders.{Call, IsHistory, Numbered, calls_on, events};
 ghost use Rattle.events.specs.Operations.{ObjectCalls, calls_of};
-ghost use Rattle.search.specs.Outcomes.{IsNoneValid};
+ghost use Rattle.search.specs.Outcomes.{HasNoValidOrder};
 ghost use Rattle.projection.specs.declared.cutting.Cut.{Cut};
 ghost use Rattle.projection.specs.Cuts.{NamesPart};
 ghost use Rattle.projection.specs.Listed.{listed};
 ghost use Rattle.refutation.specs.Alone.{alone};
-ghost use Rattle.refutation.specs.Refutations.{HasNoValidOrder, IsNamedPart};
+ghost use Rattle.refutation.specs.Refutations.{PartHasNoValidOrder, IsNamedPart};
 
 use locality::{linearizable_has_orders, named_objects};
 use projection::{listed_is_valid, one_part};
@@ -36,7 +36,7 @@ pub fn one_named_part()
 /// its object, of the part's kind, has exactly the part's calls, whatever else it has.
 pub fn part_is_not_linearizable()
     ensures { (part : ObjectCalls) (kinds : ℕ → Kind) (h : List Numbered)
-        → HasNoValidOrder part
+        → PartHasNoValidOrder part
         → IsHistory h
         → kinds part.object ≡ part.kind
         → calls_on part.object h ≡ calls_of part.ops
@@ -58,7 +58,7 @@ pub fn part_alone_is_not_linearizable()
         (part : ObjectCalls)
         → IsHistory h
         → IsNamedPart cuts x whole (calls_on x h) part
-        → (HasNoValidOrder part
+        → (PartHasNoValidOrder part
         ↔ (IsLinearizable (λ y. part.kind) (events (alone x (calls_of part.ops))) → ⊥)) }
 {
     // The first says that a linearizable history has orders, the second that one with orders is
@@ -75,14 +75,14 @@ pub fn listed_is_not_linearizable()
         → IsHistory h
         → All (λ e. kind_of e.op ≡ kind) (calls_on x h)
         → IsNamedPart cuts x kind (calls_on x h) part
-        → HasNoValidOrder part
-        → IsNoneValid kind (listed (calls_of part.ops) (calls_on x h)) }
+        → PartHasNoValidOrder part
+        → HasNoValidOrder kind (listed (calls_of part.ops) (calls_on x h)) }
     ensures not_linearizable { (cuts : List Cut) (x : ℕ) (kind : Kind) (h : List Numbered)
         (part : ObjectCalls)
         → IsHistory h
         → All (λ e. kind_of e.op ≡ kind) (calls_on x h)
         → IsNamedPart cuts x kind (calls_on x h) part
-        → HasNoValidOrder part
+        → PartHasNoValidOrder part
         → IsLinearizable (λ y. kind) (events (alone x (listed (calls_of part.ops) (calls_on x h))))
         → ⊥ }
 {

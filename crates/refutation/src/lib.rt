@@ -27,6 +27,6 @@ pub use laws::{
 };
 pub use reader::{read_reasons, reason_in};
 pub use reason::{Basis, Reason, Trial};
-pub use refuting::{Doubt, Refutation, refute};
+pub use refuting::{ReasonAnswer, WhyNotShown, refute};
 pub use text_reader::read_reasons_text;
 pub use writer::write_reasons;

@@ -5,7 +5,7 @@ ghost use Rattle.edn_reader.specs.View.{view, views};
 ghost use Rattle.refutation.specs.declared.reason.Reason.{Reason};
 ghost use Rattle.refutation.specs.Denotes as spec;
 ghost use Rattle.refutation.specs.Denotes.{Denotes};
-ghost use Rattle.refutation.specs.Faults.{IsFault, IsFirstFault, IsSoundBefore};
+ghost use Rattle.refutation.specs.Faults.{IsReasonFault, IsFirstFault, AreReasonsSoundBefore};
 
 use crate::Reason;
 use crate::basis::read_basis;
@@ -20,7 +20,7 @@ use std::alloc::{AllocError, Global};
 /// An error: an allocation failed.
 #[tactic(auto, using(edn_reader::proofs::Pairs::map_view))]
 pub fn reason_in(alloc: Global, form: &Form) -> Result<Option<Reason>, AllocError>
-    ensures { IfOk result (λ o. option_map spec.seen o ≡ spec.reason_in (view form.now)) }
+    ensures { IfOk result (λ o. option_map spec.reason_seen o ≡ spec.reason_in (view form.now)) }
 {
     let Form::Map(entries) = form else {
         return Ok(None);
@@ -45,9 +45,9 @@ pub fn reason_in(alloc: Global, form: &Form) -> Result<Option<Reason>, AllocErro
 
 /// The reason that a form is, or why there is none.
 fn next_reason(alloc: Global, form: &Form) -> Result<Reason, ReasonFaultKind>
-    ensures own { IfOk result (λ r. spec.reason_in (view form.now) ≡ Some (spec.seen r)) }
+    ensures own { IfOk result (λ r. spec.reason_in (view form.now) ≡ Some (spec.reason_seen r)) }
     ensures fault { IfErr result (λ k. k ≢ ReasonFaultKind.NoMemory →
-        IsFault [] (view form.now) k) }
+        IsReasonFault [] (view form.now) k) }
 {
     match reason_in(alloc, form) {
         Ok(Some(reason)) => Ok(reason),
@@ -69,7 +69,7 @@ pub fn read_reasons(alloc: Global, forms: &[Form]) -> Result<Vec<Reason>, Reason
         → (rs : List Reason) → Denotes (views forms.now) rs → ⊥) }
     // An allocation failed when nothing was wrong before this form.
     ensures memory { IfErr result (λ e. e.kind ≡ ReasonFaultKind.NoMemory
-        → IsSoundBefore (views forms.now) e.form) }
+        → AreReasonsSoundBefore (views forms.now) e.form) }
 {
     let mut reasons = Vec::new(alloc);
     for (place, form) in forms.iter().enumerate() {

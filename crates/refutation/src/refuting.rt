@@ -3,21 +3,21 @@
 ghost use Rattle.std.specs.Prelude.{◌≡◌, ◌≢◌, true, List, None, IfOk, IfSome};
 ghost use Rattle.model.specs.Orders.{Call};
 ghost use Rattle.events.specs.Operations.{calls_of};
-ghost use Rattle.search.specs.Outcomes.{IsNoneValid};
+ghost use Rattle.search.specs.Outcomes.{HasNoValidOrder};
 ghost use Rattle.projection.specs.Cuts.{NamesPart};
-ghost use Rattle.refutation.specs.Refutations.{is_impossible, IfImpossible, IfNotShown};
-ghost use Rattle.refutation.specs.Refutations.{IfPart, IsDoubt, IsNamedPart};
-ghost use Rattle.refutation.specs.Refutations.{HasNoValidOrder, IsShownBy};
+ghost use Rattle.refutation.specs.Refutations.{shows_impossible, IfShownImpossible, IfNotShown};
+ghost use Rattle.refutation.specs.Refutations.{IfPart, IsWhyNotShown, IsNamedPart};
+ghost use Rattle.refutation.specs.Refutations.{PartHasNoValidOrder, IsShownBy};
 
 use crate::reason::{Basis, Reason, Trial};
 use events::ObjectHistory;
 use projection::{Count, is_blocked, is_overdrawn, part_by};
-use search::{Attempt, Outcome, find_order_of_any_size};
+use search::{OrderOutcome, OrderSearch, find_order_of_any_size};
 use std::alloc::{AllocError, Global};
 
 /// Why a reason does not hold.
 #[derive(Debug, Drop)]
-pub enum Doubt {
+pub enum WhyNotShown {
     /// The part has this valid order.
     Possible(Vec<i64>),
     /// The count is not exceeded: in the part the content was not removed more often than it can
@@ -31,11 +31,14 @@ pub enum Doubt {
 
 /// The answer to a reason.
 #[derive(Debug, Drop)]
-pub enum Refutation {
+pub enum ReasonAnswer {
     /// No order of the object's operations is valid, since none of this part is.
     Impossible(ObjectHistory),
     /// That is not shown by this part.
-    NotShown { part: ObjectHistory, doubt: Doubt },
+    NotShown {
+        part: ObjectHistory,
+        why_not: WhyNotShown,
+    },
     /// One of the cuts names no closed part.
     NoPart,
     /// The reason is of another object.
@@ -43,57 +46,67 @@ pub enum Refutation {
 }
 
 /// Searches a part. Returns None if no order of it is valid.
-fn doubt_of_search(alloc: Global, part: &ObjectHistory, trial: Trial, limit: u64) -> Option<Doubt>
-    ensures shown { result ≡ None → IsNoneValid part.now.kind (calls_of part.now.ops) }
-    ensures doubt { IfSome result (IsDoubt (Basis.Search trial) part.now) }
+fn why_not_shown_by_search(
+    alloc: Global,
+    part: &ObjectHistory,
+    trial: Trial,
+    limit: u64,
+) -> Option<WhyNotShown>
+    ensures shown { result ≡ None → HasNoValidOrder part.now.kind (calls_of part.now.ops) }
+    ensures why_not { IfSome result (IsWhyNotShown (Basis.Search trial) part.now) }
 {
     let limit = Basis::Search(trial).steps(limit);
-    let Attempt { outcome, .. } = find_order_of_any_size(alloc, part, trial.first, limit);
+    let OrderSearch { outcome, .. } = find_order_of_any_size(alloc, part, trial.first, limit);
     match outcome {
-        Outcome::Found(order) => Some(Doubt::Possible(order)),
-        Outcome::Impossible => None,
+        OrderOutcome::Found(order) => Some(WhyNotShown::Possible(order)),
+        OrderOutcome::Impossible => None,
         // A search of any size is not too large.
-        Outcome::OutOfSteps | Outcome::TooLarge => Some(Doubt::OutOfSteps),
-        Outcome::NoMemory => Some(Doubt::NoMemory),
+        OrderOutcome::OutOfSteps | OrderOutcome::TooLarge => Some(WhyNotShown::OutOfSteps),
+        OrderOutcome::NoMemory => Some(WhyNotShown::NoMemory),
     }
 }
 
 /// Counts over a part. Returns None if the count is exceeded, so that no order of the part is
 /// valid.
-fn doubt_of_count(part: &ObjectHistory, count: Count) -> Option<Doubt>
+fn why_not_shown_by_count(part: &ObjectHistory, count: Count) -> Option<WhyNotShown>
     ensures exceeded { result ≡ None → IsShownBy (Basis.Counting count) part.now }
-    ensures shown { result ≡ None → IsNoneValid part.now.kind (calls_of part.now.ops) }
-    ensures doubt { IfSome result (IsDoubt (Basis.Counting count) part.now) }
+    ensures shown { result ≡ None → HasNoValidOrder part.now.kind (calls_of part.now.ops) }
+    ensures why_not { IfSome result (IsWhyNotShown (Basis.Counting count) part.now) }
 {
     if is_overdrawn(part, count) {
         return None;
     }
-    Some(Doubt::NotExceeded)
+    Some(WhyNotShown::NotExceeded)
 }
 
 /// Counts what was ahead of a removal in a part. Returns None if the count is exceeded, so that no
 /// order of the part is valid.
-fn doubt_of_ahead(part: &ObjectHistory, number: u32, from: u32) -> Option<Doubt>
+fn why_not_shown_by_ahead(part: &ObjectHistory, number: u32, from: u32) -> Option<WhyNotShown>
     ensures exceeded { result ≡ None → IsShownBy (Basis.Ahead number from) part.now }
-    ensures shown { result ≡ None → IsNoneValid part.now.kind (calls_of part.now.ops) }
-    ensures doubt { IfSome result (IsDoubt (Basis.Ahead number from) part.now) }
+    ensures shown { result ≡ None → HasNoValidOrder part.now.kind (calls_of part.now.ops) }
+    ensures why_not { IfSome result (IsWhyNotShown (Basis.Ahead number from) part.now) }
 {
     if is_blocked(part, number, from) {
         return None;
     }
-    Some(Doubt::NotExceeded)
+    Some(WhyNotShown::NotExceeded)
 }
 
 /// Checks a basis on a part. Returns None if it shows that no order of the part is valid.
-fn doubt_of(alloc: Global, part: &ObjectHistory, basis: Basis, limit: u64) -> Option<Doubt>
+fn why_not_shown(
+    alloc: Global,
+    part: &ObjectHistory,
+    basis: Basis,
+    limit: u64,
+) -> Option<WhyNotShown>
     ensures basis { result ≡ None → IsShownBy basis part.now }
-    ensures shown { result ≡ None → IsNoneValid part.now.kind (calls_of part.now.ops) }
-    ensures doubt { IfSome result (IsDoubt basis part.now) }
+    ensures shown { result ≡ None → HasNoValidOrder part.now.kind (calls_of part.now.ops) }
+    ensures why_not { IfSome result (IsWhyNotShown basis part.now) }
 {
     match basis {
-        Basis::Search(trial) => doubt_of_search(alloc, part, trial, limit),
-        Basis::Counting(count) => doubt_of_count(part, count),
-        Basis::Ahead { number, from } => doubt_of_ahead(part, number, from),
+        Basis::Search(trial) => why_not_shown_by_search(alloc, part, trial, limit),
+        Basis::Counting(count) => why_not_shown_by_count(part, count),
+        Basis::Ahead { number, from } => why_not_shown_by_ahead(part, number, from),
     }
 }
 
@@ -107,33 +120,33 @@ pub fn refute(
     history: &ObjectHistory,
     reason: &Reason,
     limit: u64,
-) -> Result<Refutation, AllocError>
+) -> Result<ReasonAnswer, AllocError>
     // The answer is impossible only if no order of the whole is valid.
-    ensures impossible { IfOk result (λ r. is_impossible r ≡ true
-        → IsNoneValid history.now.kind (calls_of history.now.ops)) }
+    ensures impossible { IfOk result (λ r. shows_impossible r ≡ true
+        → HasNoValidOrder history.now.kind (calls_of history.now.ops)) }
     // The part that is returned is the one that the reason names.
     ensures part { IfOk result (λ r. IfPart r (IsNamedPart reason.now.cuts.items
         history.now.object history.now.kind (calls_of history.now.ops))) }
     // The answer is impossible only if the basis shows it of that part: a count is exceeded. No
     // order of the part is valid.
-    ensures shown { IfOk result (λ r. IfImpossible r (λ part.
-        IsShownBy reason.now.basis part × HasNoValidOrder part)) }
-    ensures not_shown { IfOk result (λ r. IfNotShown r (IsDoubt reason.now.basis)) }
-    ensures no_part { IfOk result (λ r. r ≡ Refutation.NoPart → (part : List Call)
+    ensures shown { IfOk result (λ r. IfShownImpossible r (λ part.
+        IsShownBy reason.now.basis part × PartHasNoValidOrder part)) }
+    ensures not_shown { IfOk result (λ r. IfNotShown r (IsWhyNotShown reason.now.basis)) }
+    ensures no_part { IfOk result (λ r. r ≡ ReasonAnswer.NoPart → (part : List Call)
         → NamesPart reason.now.cuts.items (calls_of history.now.ops) part → ⊥) }
-    ensures other_object { IfOk result (λ r. r ≡ Refutation.OtherObject
+    ensures other_object { IfOk result (λ r. r ≡ ReasonAnswer.OtherObject
         → reason.now.object ≢ history.now.object) }
-    ensures own_object { IfOk result (λ r. r ≢ Refutation.OtherObject
+    ensures own_object { IfOk result (λ r. r ≢ ReasonAnswer.OtherObject
         → reason.now.object ≡ history.now.object) }
 {
     if reason.object != history.object() {
-        return Ok(Refutation::OtherObject);
+        return Ok(ReasonAnswer::OtherObject);
     }
     let Some(part) = part_by(alloc, history, &reason.cuts)? else {
-        return Ok(Refutation::NoPart);
+        return Ok(ReasonAnswer::NoPart);
     };
-    match doubt_of(alloc, &part, reason.basis, limit) {
-        None => Ok(Refutation::Impossible(part)),
-        Some(doubt) => Ok(Refutation::NotShown { part, doubt }),
+    match why_not_shown(alloc, &part, reason.basis, limit) {
+        None => Ok(ReasonAnswer::Impossible(part)),
+        Some(why_not) => Ok(ReasonAnswer::NotShown { part, why_not }),
     }
 }

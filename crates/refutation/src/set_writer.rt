@@ -124,7 +124,7 @@ fn write_some_numbers<S: Sink>(numbers: &BTreeSet<u32>, sink: &mut S) -> Result<
 pub(crate) fn write_numbers<S: Sink>(numbers: &BTreeSet<u32>, sink: &mut S) -> Result<(), Failed>
     requires { S.broken sink.old ≡ false }
     ensures sent { Writes result (S.sent sink.old) (S.sent sink.new) (S.broken sink.new)
-        (text.numbers_text numbers.now.keys) }
+        (text.given_numbers_text numbers.now.keys) }
     ensures keys { OnOk result (AreNumberKeys numbers.now.keys) }
 {
     if numbers.is_empty() {

@@ -5,7 +5,7 @@ ghost use Rattle.edn_reader.specs.Datum.{Datum};
 ghost use Rattle.edn_reader.specs.Sound.{IsShort};
 ghost use Rattle.edn_reader.specs.Spells.{Spells};
 ghost use Rattle.refutation.specs.Denotes.{Denotes};
-ghost use Rattle.refutation.specs.Texts.{IsTextFault};
+ghost use Rattle.refutation.specs.Texts.{IsReasonTextFault};
 
 use crate::Reason;
 use crate::fault::ReasonTextFault;
@@ -19,7 +19,7 @@ pub fn read_reasons_text(alloc: Global, text: &[u8]) -> Result<Vec<Reason>, Reas
     ensures denotes { IfOk result (λ v.
         (ds : List Datum) × Spells ds text.now × Denotes ds v.items) }
     ensures short { OnOk result (IsShort text.now) }
-    ensures fault { IfErr result (IsTextFault text.now) }
+    ensures fault { IfErr result (IsReasonTextFault text.now) }
 {
     let forms = match read_forms(alloc, text) {
         Ok(forms) => forms,

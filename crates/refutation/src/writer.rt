@@ -6,7 +6,7 @@ ghost use Rattle.edn.specs.Sent.{Writes};
 ghost use Rattle.edn_reader.specs.Text.{IsInt64};
 ghost use Rattle.refutation.specs.Denotes.{max_number};
 ghost use Rattle.refutation.specs.Lines as text;
-ghost use Rattle.refutation.specs.Lines.{AreInRange, SpellsReasons};
+ghost use Rattle.refutation.specs.Lines.{AreReasonsInRange, SpellsReasons};
 ghost use Rattle.refutation.specs.Written.{AreTypedSteps, IsTypedCounted, IsTypedBasis};
 ghost use Rattle.refutation.specs.Written.{IsTypedReason};
 
@@ -163,7 +163,7 @@ fn write_open_reason<S: Sink>(reason: &Reason, sink: &mut S) -> Result<(), Faile
 fn write_line<S: Sink>(reason: &Reason, sink: &mut S) -> Result<(), Failed>
     requires { S.broken sink.old ≡ false }
     ensures sent { Writes result (S.sent sink.old) (S.sent sink.new) (S.broken sink.new)
-        (text.line_of reason.now) }
+        (text.reason_line reason.now) }
     ensures typed { OnOk result (IsTypedReason reason.now) }
 {
     write_open_reason(reason, sink)?;
@@ -174,10 +174,10 @@ fn write_line<S: Sink>(reason: &Reason, sink: &mut S) -> Result<(), Failed>
 pub fn write_reasons<S: Sink>(reasons: &[Reason], sink: &mut S) -> Result<(), WriteFault>
     requires working { S.broken sink.old ≡ false }
     ensures sent { Writes result (S.sent sink.old) (S.sent sink.new) (S.broken sink.new)
-        (text.lines_of reasons.now) }
+        (text.reason_lines reasons.now) }
     // What went out reads back as these reasons.
-    ensures spelled { OnOk result (AreInRange reasons.now →
-        SpellsReasons reasons.now (text.lines_of reasons.now)) }
+    ensures spelled { OnOk result (AreReasonsInRange reasons.now →
+        SpellsReasons reasons.now (text.reason_lines reasons.now)) }
     ensures device { IfErr result (λ e. e ≡ WriteFault.Device) }
 {
     for reason in reasons {

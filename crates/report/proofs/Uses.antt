@@ -18,8 +18,9 @@ use Rattle.events.specs.declared.event.Action.TheVariants.{Invoke}
 use Rattle.events.specs.declared.event.Event.{Event}
 use Rattle.events.specs.Events.{denoted, denoted_by, fails, next_event}
 use Rattle.report.specs.Counts.{Use, use_by, uses, with_new, first_seen, same_kind, objects_in}
-use Rattle.report.specs.Counts.{kinds_in, operations_in, operations_of, objects_of, count_of}
-use Rattle.report.specs.Invoked.{invocations, invocation_by, is_of, operation_count, object_numbers, count_in, AreSeen}
+use Rattle.report.specs.Counts.{kinds_in, operations_in, operations_of_kind, objects_of, count_of}
+use Rattle.report.specs.Invoked.{invocations, invocation_by, is_of, operation_count, object_numbers, kind_count}
+use Rattle.report.specs.Invoked.{AreSeen}
 use Rattle.report.specs.declared.counting.Invoked.{Invoked}
 
 -- ---- one element more
@@ -187,21 +188,21 @@ pub operations_are : (es : List Event) → operation_count None (invocations es)
 operations_are es = count_is None es ∙ ap length (filter-everything (calls_in (denoted es)))
 
 pub operations_of_are : (k : Kind) (es : List Event) → operation_count (Some k) (invocations es)
-    ≡ length (operations_of k es)
+    ≡ length (operations_of_kind k es)
 operations_of_are k es = count_is (Some k) es
 
 map-same : {X Y : Type 0} (f g : X → Y) (xs : List X) → ((x : X) → f x ≡ g x) → map f xs ≡ map g xs
 map-same f g [] h = refl
 map-same f g (x ∷ xs) h = ap (λ y. y ∷ map f xs) (h x) ∙ ap (λ ys. g x ∷ ys) (map-same f g xs h)
 
-count_is_of : (es : List Event) (k : Kind) → count_in (invocations es) k ≡ count_of es k
+count_is_of : (es : List Event) (k : Kind) → kind_count (invocations es) k ≡ count_of es k
 count_is_of es k =
     let objects : length (object_numbers (Some k) (invocations es))
     ≡ length (objects_of k es) = ap length (objects_of_are k es) in
     let operations = operations_of_are k es in
     cc (objects, operations)
 
-pub counts_are : (es : List Event) → map (count_in (invocations es))
+pub counts_are : (es : List Event) → map (kind_count (invocations es))
     (first_seen same_kind (map (λ (i : Invoked). i.kind) (invocations es))) ≡ map (count_of es) (kinds_in (uses es))
-counts_are es = ap (map (count_in (invocations es))) (kinds_are es)
-    ∙ map-same (count_in (invocations es)) (count_of es) (kinds_in (uses es)) (count_is_of es)
+counts_are es = ap (map (kind_count (invocations es))) (kinds_are es)
+    ∙ map-same (kind_count (invocations es)) (count_of es) (kinds_in (uses es)) (count_is_of es)

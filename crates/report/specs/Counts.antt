@@ -52,8 +52,8 @@ kinds_in us = first_seen same_kind (map (λ u. u.kind) us)
 abbrev pub operations_in : List Event → List ProcessCall
 operations_in es = calls_in (denoted es)
 
-abbrev pub operations_of : Kind → List Event → List ProcessCall
-operations_of k es = filter (λ c. same_kind k (kind_of c.call.op)) (operations_in es)
+abbrev pub operations_of_kind : Kind → List Event → List ProcessCall
+operations_of_kind k es = filter (λ c. same_kind k (kind_of c.call.op)) (operations_in es)
 
 -- the objects that some operation of this kind names
 abbrev pub objects_of : Kind → List Event → List ℕ
@@ -62,7 +62,7 @@ objects_of k es = objects_in (filter (λ u. same_kind k u.kind) (uses es))
 abbrev pub count_of : List Event → Kind → KindCount
 count_of es k =
     record
-    { kind = k; objects = length (objects_of k es); operations = length (operations_of k es) }
+    { kind = k; objects = length (objects_of k es); operations = length (operations_of_kind k es) }
 
 -- the counts are those of these client events
 pub record AreCountsOf (es : List Event) (s : Summary) : Type 0 where

@@ -35,8 +35,8 @@ operation_count k xs = length (filter (λ i. is_of k i && not i.failed) xs)
 abbrev pub object_numbers : Option Kind → List Invoked → List ℕ
 object_numbers k xs = first_seen nat_eq (map (λ i. i.object) (filter (is_of k) xs))
 
-abbrev pub count_in : List Invoked → Kind → KindCount
-count_in xs k =
+abbrev pub kind_count : List Invoked → Kind → KindCount
+kind_count xs k =
     record {
       kind = k;
       objects = length (object_numbers (Some k) xs);

@@ -106,13 +106,14 @@ fault_line (HistoryText e) =
     ++ (text_of_kind e.kind ++ (codes " at byte " ++ (decimal e.place ++ codes "\n")))
 fault_line (HistoryMaps h) =
     codes "malformed history: H"
-    ++ (decimal (history.number_of h.kind) ++ (codes " at map " ++ (decimal h.map ++ codes "\n")))
+    ++ (decimal (history.history_fault_number h.kind)
+    ++ (codes " at map " ++ (decimal h.map ++ codes "\n")))
 fault_line (CertificateText e) =
     codes "malformed certificates: "
     ++ (text_of_kind e.kind ++ (codes " at byte " ++ (decimal e.place ++ codes "\n")))
 fault_line (CertificateForms k) =
     codes "malformed certificates: K"
-    ++ (decimal (certificate.number_of k.kind)
+    ++ (decimal (certificate.certificate_fault_number k.kind)
     ++ (codes " at form " ++ (decimal k.form ++ codes "\n")))
 
 -- ---- all

@@ -12,7 +12,7 @@ ghost use Rattle.events.specs.Events.{IsNamed};
 ghost use Rattle.report.specs.Counts.{same_kind, with_new, first_seen, uses, objects_in};
 ghost use Rattle.report.specs.Counts.{kinds_in, operations_in, count_of, AreCountsOf};
 ghost use Rattle.report.specs.Invoked.{invocations, invocation_by, is_of, operation_count};
-ghost use Rattle.report.specs.Invoked.{object_numbers, count_in, AreSeen};
+ghost use Rattle.report.specs.Invoked.{object_numbers, kind_count, AreSeen};
 ghost use Rattle.report.specs.declared.counting.Invoked.{Invoked};
 
 use crate::verdict::{KindCount, Summary};
@@ -162,7 +162,7 @@ fn count_objects(alloc: Global, kind: Option<Kind>, all: &[Invoked]) -> Result<u
 
 /// The counts of one kind.
 fn count_kind(alloc: Global, kind: Kind, all: &[Invoked]) -> Result<KindCount, AllocError>
-    ensures { IfOk result (λ c. c ≡ count_in all.now kind) }
+    ensures { IfOk result (λ c. c ≡ kind_count all.now kind) }
 {
     Ok(KindCount {
         kind,
@@ -187,8 +187,8 @@ fn note_kind(
     all: &[Invoked],
 ) -> Result<(), AllocError>
     ensures kinds { OnOk result (keys counts.new ≡ with_new same_kind (keys counts.old) kind) }
-    ensures counted { values counts.old ≡ map (count_in all.now) (keys counts.old)
-        → OnOk result (values counts.new ≡ map (count_in all.now) (keys counts.new)) }
+    ensures counted { values counts.old ≡ map (kind_count all.now) (keys counts.old)
+        → OnOk result (values counts.new ≡ map (kind_count all.now) (keys counts.new)) }
 {
     if is_among(counts, kind) {
         return Ok(());
@@ -200,7 +200,7 @@ fn note_kind(
 /// The counts of each kind, in the order of their first invocations.
 fn count_kinds(alloc: Global, all: &[Invoked]) -> Result<IndexMap<Kind, KindCount>, AllocError>
     ensures { IfOk result (λ m. values m
-        ≡ map (count_in all.now) (first_seen same_kind (map (λ i. i.kind) all.now))) }
+        ≡ map (kind_count all.now) (first_seen same_kind (map (λ i. i.kind) all.now))) }
 {
     let mut counts = IndexMap::new(alloc);
     for invoked in all {

@@ -4,17 +4,17 @@ use Rattle.std.proofs.Common.{◌≡◌, ℕ, ◌<◌, ◌≤◌, List, length, 
 use Rattle.std.specs.Prelude.{◌↔◌}
 use Rattle.model.specs.declared.Kind.{Kind}
 use Rattle.model.specs.Orders.{Call, IsValidOrder}
-use Rattle.search.specs.declared.finding.Attempt.{Attempt}
-use Rattle.search.specs.declared.finding.Outcome.{Outcome}
-use Rattle.search.specs.declared.finding.Outcome.TheVariants as outcome
-use Rattle.search.specs.Outcomes.{max_operations, IsNoneValid}
+use Rattle.search.specs.declared.finding.OrderSearch.{OrderSearch}
+use Rattle.search.specs.declared.finding.OrderOutcome.{OrderOutcome}
+use Rattle.search.specs.declared.finding.OrderOutcome.TheVariants as outcome
+use Rattle.search.specs.Outcomes.{max_operations, HasNoValidOrder}
 use Rattle.search.specs.Outcomes as order
-use Rattle.search.specs.declared.found.SearchOutcome.TheVariants.{TooLarge}
-use Rattle.search.specs.Answers.{IsAnswer, IsSoundAnswer, search_for, outcome_for}
+use Rattle.search.specs.declared.found.CertificateOutcome.TheVariants.{TooLarge}
+use Rattle.search.specs.Answers.{IsSearchAnswer, IsSoundAnswer, search_for, outcome_for}
 
-sound_from : (object : ℕ) (kind : Kind) (calls : List Call) (limit : ℕ) (o : Outcome) (steps : ℕ)
+sound_from : (object : ℕ) (kind : Kind) (calls : List Call) (limit : ℕ) (o : OrderOutcome) (steps : ℕ)
     → order.IfFound o (IsValidOrder kind calls)
-    → (o ≡ outcome.Impossible → IsNoneValid kind calls) → steps ≤ limit → (o ≡ outcome.OutOfSteps → steps ≡ limit)
+    → (o ≡ outcome.Impossible → HasNoValidOrder kind calls) → steps ≤ limit → (o ≡ outcome.OutOfSteps → steps ≡ limit)
     → (o ≡ outcome.NoMemory → Any (λ call. IsSome call.returned) calls)
     → IsSoundAnswer object kind calls limit (search_for object (record { outcome = o; steps = steps }))
 sound_from object kind calls limit (outcome.Found order) steps f i s out memory =
@@ -29,17 +29,17 @@ sound_from object kind calls limit outcome.NoMemory steps f i s out memory =
     record { found = tt; impossible = λ e. cc; steps = s; out_of_steps = λ e. cc; memory = λ e. memory refl }
 
 -- what is too large is so in both words
-large_in : (object : ℕ) (o : Outcome) → (outcome_for object o ≡ TooLarge) ↔ (o ≡ outcome.TooLarge)
+large_in : (object : ℕ) (o : OrderOutcome) → (outcome_for object o ≡ TooLarge) ↔ (o ≡ outcome.TooLarge)
 large_in object outcome.TooLarge = (λ e. refl, λ e. refl)
 large_in object outcome = (λ e. cc, λ e. cc)
 
-pub answer_from : (object : ℕ) (kind : Kind) (calls : List Call) (limit : ℕ) (a : Attempt)
+pub answer_from : (object : ℕ) (kind : Kind) (calls : List Call) (limit : ℕ) (a : OrderSearch)
     → order.IfFound a.outcome (IsValidOrder kind calls)
-    → (a.outcome ≡ outcome.Impossible → IsNoneValid kind calls) → a.steps ≤ limit
+    → (a.outcome ≡ outcome.Impossible → HasNoValidOrder kind calls) → a.steps ≤ limit
     → (a.outcome ≡ outcome.OutOfSteps → a.steps ≡ limit)
     → ((a.outcome ≡ outcome.TooLarge) ↔ (max_operations < length calls))
     → (a.outcome ≡ outcome.NoMemory → Any (λ call. IsSome call.returned) calls)
-    → IsAnswer object kind calls limit (search_for object a)
+    → IsSearchAnswer object kind calls limit (search_for object a)
 answer_from object kind calls limit a f i s out large memory = record {
   sound = sound_from object kind calls limit a.outcome a.steps f i s out memory;
   too_large = (λ l. large.0 ((large_in object a.outcome).0 l), λ l. (large_in object a.outcome).1 (large.1 l));

@@ -8,43 +8,44 @@ use Rattle.model.specs.Orders.{Numbered, Call, IsHistory, events, calls_on}
 use Rattle.model.proofs.Lists.{in_from_contains, all_at}
 use Rattle.locality.specs.Locality.{HasValidOrder}
 use Rattle.events.specs.declared.event.Event.{Event}
-use Rattle.events.specs.Events.{kind_at, denoted}
+use Rattle.events.specs.Events.{kind_of_object, denoted}
 use Rattle.certificate.specs.declared.Certificate.{Certificate}
 use Rattle.checker.proofs.Collected.{Certifies, AreOnAll}
-use Rattle.search.specs.Outcomes.{IsNoneValid}
+use Rattle.search.specs.Outcomes.{HasNoValidOrder}
 use Rattle.search.specs.declared.found.Search.{Search}
-use Rattle.search.specs.declared.found.SearchOutcome.{SearchOutcome}
-use Rattle.search.specs.declared.found.SearchOutcome.TheVariants.{Impossible, OutOfSteps, TooLarge, NoMemory}
-use Rattle.search.specs.declared.found.SearchOutcome.TheVariants as found
-use Rattle.search.specs.Answers.{certificate_in, IfFound, IsCertificateOf, IsAnswer}
+use Rattle.search.specs.declared.found.CertificateOutcome.{CertificateOutcome}
+use Rattle.search.specs.declared.found.CertificateOutcome.TheVariants.{Impossible, OutOfSteps, TooLarge, NoMemory}
+use Rattle.search.specs.declared.found.CertificateOutcome.TheVariants as found
+use Rattle.search.specs.Answers.{certificate_found, IfFound, IsCertificateOf, IsSearchAnswer}
 
 -- an answer within this limit
 abbrev pub IsWithin : ℕ → ℕ → Kind → List Call → Search → Type 0
-IsWithin limit object kind calls s = IsAnswer object kind calls limit s
+IsWithin limit object kind calls s = IsSearchAnswer object kind calls limit s
 
 -- what holds of a certificate that was found
-if_found : (f : SearchOutcome) (P : Certificate → Type 0) (c : Certificate) → IfFound f P
-    → certificate_in f ≡ Some c → P c
+if_found : (f : CertificateOutcome) (P : Certificate → Type 0) (c : Certificate) → IfFound f P
+    → certificate_found f ≡ Some c → P c
 if_found (found.Found d) P c h e = subst P (same_Some d c e) h
 if_found f P c h e = absurd (cc e)
 
 -- an order that is found is a certificate of its object
 pub certifies : (Is : ℕ → Kind → List Call → Search → Type 0)
     → ((x : ℕ) (kind : Kind) (calls : List Call) (s : Search) → Is x kind calls s
-    → IfFound s.found (IsCertificateOf x kind calls)) → Certifies (λ s. certificate_in s.found) Is
+    → IfFound s.found (IsCertificateOf x kind calls)) → Certifies (λ s. certificate_found s.found) Is
 certifies Is found x kind calls s c h e = if_found s.found (IsCertificateOf x kind calls) c (found x kind calls s h) e
 
 -- an object of which no order is valid, against locality
 pub not_linearizable : (es : List Event) (Is : ℕ → Kind → List Call → Search → Type 0) (answers : List (ℕ × Search))
     → ((x : ℕ) (kind : Kind) (calls : List Call) (s : Search) → Is x kind calls s → s.found ≡ Impossible
-    → IsNoneValid kind calls)
+    → HasNoValidOrder kind calls)
     → ((kinds : ℕ → Kind) (h : List Numbered) → IsHistory h → IsLinearizable kinds (events h) → (x : ℕ)
     → HasValidOrder kinds h x)
     → IsHistory (denoted es) → AreOnAll es Is answers → Any (λ a. a.1.found ≡ Impossible) answers
-    → IsLinearizable (kind_at es) (events (denoted es)) → ⊥
+    → IsLinearizable (kind_of_object es) (events (denoted es)) → ⊥
 not_linearizable es Is answers none orders h all some lin =
     let a : ℕ × Search = some.1 in
-    let answer = all_at (λ (a : ℕ × Search). Is a.0 (kind_at es a.0) (calls_on a.0 (denoted es)) a.1) answers all.each
+    let answer = all_at (λ (a : ℕ × Search). Is a.0 (kind_of_object es a.0) (calls_on a.0 (denoted es)) a.1) answers
+    all.each
     a (in_from_contains answers a (some.0, some.2, some.3)) in
-    let o = orders (kind_at es) (denoted es) h lin a.0 in
-    none a.0 (kind_at es a.0) (calls_on a.0 (denoted es)) a.1 answer some.4 o.0 o.1
+    let o = orders (kind_of_object es) (denoted es) h lin a.0 in
+    none a.0 (kind_of_object es a.0) (calls_on a.0 (denoted es)) a.1 answer some.4 o.0 o.1

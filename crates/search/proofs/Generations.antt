@@ -12,7 +12,7 @@ use Rattle.search.specs.declared.dead.Dead.{Dead}
 use Rattle.search.specs.Arranged.{call_at}
 use Rattle.search.specs.Continuations.{IsDeadPair, IsDeadAt}
 use Rattle.search.specs.Links.{next_without}
-use Rattle.search.specs.Remembered.{HasPair, IsKept, IsRemembered, IsRememberedIfSome}
+use Rattle.search.specs.Remembered.{HasPair, AreDeadKept, IsRemembered, IsRememberedIfSome}
 use Rattle.search.specs.Searching.{places, Position, Turn, IsPairDead, AreDead, AreAllDead, IsWalk}
 use Rattle.search.proofs.Steps.{hit}
 
@@ -20,7 +20,7 @@ pub none_dead : (t : Trials) (pairs : List Pair) → pairs ≡ [] → AreDead t 
 none_dead t [] e = λ k d l. absurd (omega arith)
 none_dead t (p ∷ pairs) e = absurd (cc e)
 
-pub kept_dead : (t : Trials) (before kept : Dead) → AreAllDead t before → IsKept before kept → AreAllDead t kept
+pub kept_dead : (t : Trials) (before kept : Dead) → AreAllDead t before → AreDeadKept before kept → AreAllDead t kept
 kept_dead t before kept all is_kept = elim is_kept [
   | inl e ↦ rw e all
   | inr o ↦ record {

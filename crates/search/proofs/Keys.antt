@@ -15,7 +15,7 @@ use Rattle.search.specs.declared.step.Step.{Step}
 use Rattle.search.specs.declared.step.Undo.{Undo}
 use Rattle.search.specs.declared.step.Undo.TheVariants.{SetKey}
 use Rattle.search.specs.Undoing.{undone, IsStep}
-use Rattle.search.specs.Kinds.Map.{key_of, value_in}
+use Rattle.search.specs.Kinds.Map.{map_key, value_of_reply}
 
 looked : (m : Table) (q k : ℤ) (x : Option ℤ) (r : Ordering) → r ≡ int_cmp q k
     → cond (is_eq r) (get m k) (cond (is_eq r) x (get m q)) ≡ get m q
@@ -69,7 +69,7 @@ Leaves m op n r = next (table m) (map_op op) ≡ answer (table n) r
 
 -- the key of the operation gets back what it had
 abbrev sets_back : Table → MapOp → Content → Content
-sets_back m op c = undone (SetKey (key_of op) (get m (key_of op))) c
+sets_back m op c = undone (SetKey (map_key op) (get m (map_key op))) c
 
 back_after : (m : Table) (op : MapOp) → sets_back m op (left (next (table m) (map_op op))) ≡ table m
 unfolding left
@@ -86,7 +86,7 @@ unfolding left
 key_back m n op r e = ap (λ x. sets_back m op (left x)) (sym e) ∙ back_after m op
 
 -- the key k had o
-key_step : (m n : Table) (k : ℤ) (o : Option ℤ) (op : MapOp) (r : AnyReply) → key_of op ≡ k → o ≡ get m k
+key_step : (m n : Table) (k : ℤ) (o : Option ℤ) (op : MapOp) (r : AnyReply) → map_key op ≡ k → o ≡ get m k
     → Leaves m op n r
     → IsStep (table m) (map_op op) (table n) record { reply = r; undo = SetKey k o }
 key_step m n k o op r at had e = record {
@@ -95,33 +95,33 @@ key_step m n k o op r at had e = record {
 }
 
 -- the same, where the object was read first
-pub read_step : (m p n : Table) (k : ℤ) (o : Option ℤ) (op : MapOp) (t r : AnyReply) → key_of op ≡ k
-    → Leaves m (Get k) p t → o ≡ value_in t → Leaves p op n r
+pub read_step : (m p n : Table) (k : ℤ) (o : Option ℤ) (op : MapOp) (t r : AnyReply) → map_key op ≡ k
+    → Leaves m (Get k) p t → o ≡ value_of_reply t → Leaves p op n r
     → IsStep (table m) (map_op op) (table n) record { reply = r; undo = SetKey k o }
 read_step m p n k o op t r at read told e =
     let both = same_answer (table p) (table m) t (Value (get m k)) (sym read) in
     let same : p ≡ m = cc (both.0) in
-    key_step m n k o op r at (told ∙ ap value_in both.1) (ap (λ x. next (table x) (map_op op)) (sym same) ∙ e)
+    key_step m n k o op r at (told ∙ ap value_of_reply both.1) (ap (λ x. next (table x) (map_op op)) (sym same) ∙ e)
 
 -- the same, where the reply is what the key had
 told_step : (m n p : Table) (k : ℤ) (o : Option ℤ) (any : AnyOp) (op : MapOp) (r : AnyReply) → any ≡ map_op op
-    → key_of op ≡ k → Leaves m op p (Value (get m k)) → Leaves m op n r → o ≡ value_in r
+    → map_key op ≡ k → Leaves m op p (Value (get m k)) → Leaves m op n r → o ≡ value_of_reply r
     → IsStep (table m) any (table n) record { reply = Value o; undo = SetKey k o }
 told_step m n p k o any op r is at gives e told =
     let value = (same_answer (table n) (table p) r (Value (get m k)) (sym e ∙ gives)).1 in
-    let had : o ≡ get m k = told ∙ ap value_in value in
+    let had : o ≡ get m k = told ∙ ap value_of_reply value in
     let step = key_step m n k o op r at had e in record {
       does = ap (next (table m)) is ∙ e ∙ ap (answer (table n)) (value ∙ ap Value (sym had));
       back = step.back;
     }
 
 pub put_step : (m n : Table) (k v : ℤ) (o : Option ℤ) (any : AnyOp) (r : AnyReply) → any ≡ map_op (Put k v)
-    → Leaves m (Put k v) n r → o ≡ value_in r
+    → Leaves m (Put k v) n r → o ≡ value_of_reply r
     → IsStep (table m) any (table n) record { reply = Value o; undo = SetKey k o }
 put_step m n k v o any r is e told = told_step m n (insert m k v) k o any (Put k v) r is refl refl e told
 
 pub del_step : (m n : Table) (k : ℤ) (o : Option ℤ) (any : AnyOp) (r : AnyReply) → any ≡ map_op (Del k)
-    → Leaves m (Del k) n r → o ≡ value_in r
+    → Leaves m (Del k) n r → o ≡ value_of_reply r
     → IsStep (table m) any (table n) record { reply = Value o; undo = SetKey k o }
 del_step m n k o any r is e told = told_step m n (remove m k) k o any (Del k) r is refl refl e told
 

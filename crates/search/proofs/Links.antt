@@ -7,7 +7,7 @@ use Rattle.std.proofs.lemmas.List.{length-set, get_or-set_same, get_or-set_other
 use Rattle.std.proofs.lemmas.Bool.{cases_eq, cases_order}
 use Rattle.model.proofs.Lists.{In}
 use Rattle.search.specs.Continuations.{IsLeft, Describes}
-use Rattle.search.specs.Links.{IsSlot, IsStop, IsGap, IsForth, IsBack, Linked, next_without, before_without}
+use Rattle.search.specs.Links.{IsSlot, IsStop, IsFilledGap, IsForth, IsBack, Linked, next_without, before_without}
 use Rattle.search.specs.Links.{next_with, before_with, AreWithin, Lists}
 use Rattle.search.specs.Searching.{IsBound}
 
@@ -18,7 +18,7 @@ slot_within n done zero h = omega arith
 slot_within n done (suc k) h = let l = h.0 in omega arith
 
 -- of two slots with the same stop after a gap, neither is less
-same_slot_le : (n : ℕ) (done : List ℕ) (s t q : ℕ) → IsSlot n done t → t ≤ q → IsGap done s q → s < t → ⊥
+same_slot_le : (n : ℕ) (done : List ℕ) (s t q : ℕ) → IsSlot n done t → t ≤ q → IsFilledGap done s q → s < t → ⊥
 same_slot_le n done s zero q h le gap l = omega arith
 same_slot_le n done s (suc k) q h le gap l = h.1 (gap k (omega arith) (omega arith))
 
@@ -64,7 +64,8 @@ stop_more : {n : ℕ} {done : List ℕ} {k q : ℕ} → IsStop n done q → q �
 stop_more h ne = record { within = h.within; left = λ l i. elim i [ inl e ↦ ne e | inr m ↦ h.left l m ] }
 
 -- over k, which is now in the beginning
-gap_joined : (done : List ℕ) {k s q : ℕ} → IsGap done s k → IsGap done (suc k) q → IsGap (k ∷ done) s q
+gap_joined : (done : List ℕ) {k s q : ℕ} → IsFilledGap done s k → IsFilledGap done (suc k) q
+    → IsFilledGap (k ∷ done) s q
 gap_joined done {k} g h j a b = elim (cases_order j k) [
   | inl e ↦ inl e
   | inr o ↦ elim o [ inl l ↦ inr (g j a l) | inr l ↦ inr (h j l b) ]

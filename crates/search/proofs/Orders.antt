@@ -17,13 +17,13 @@ use Rattle.model.proofs.Lists.{pairs_from_all, pairs_filter, pairs_weaker, pairs
 use Rattle.events.specs.declared.operations.Invocation.{Invocation}
 use Rattle.events.specs.Operations.{calls_of}
 use Rattle.search.specs.Arranged.{as_call, call_at}
-use Rattle.search.specs.declared.finding.Outcome.{Outcome}
-use Rattle.search.specs.declared.finding.Outcome.TheVariants.{Found}
+use Rattle.search.specs.declared.finding.OrderOutcome.{OrderOutcome}
+use Rattle.search.specs.declared.finding.OrderOutcome.TheVariants.{Found}
 use Rattle.search.specs.declared.level.Level.{Level}
 use Rattle.search.specs.Outcomes.{IfFound}
 use Rattle.search.specs.declared.trials.Trials.{Trials}
 use Rattle.search.specs.Continuations.{IsLeft, Continues, IsDead}
-use Rattle.search.specs.Searching.{places, IsOrderOf}
+use Rattle.search.specs.Searching.{places, IsOrderOfTrials}
 use Rattle.search.proofs.Calls.{happens, none, calls-filter}
 use Rattle.search.proofs.Deadness.{goes_on_from}
 use Rattle.search.proofs.Steps.{call_read}
@@ -181,7 +181,7 @@ places_within t levels h = all_from_in (λ l. l.place < length t.items.items) le
 
 pub order_found : (t : Trials) (levels : List Level) (order : List ℤ)
     → Continues (length t.items.items) (call_at t.items.items) [] (empty t.kind) (places levels)
-    → order ≡ map (λ l. pos (call_at t.items.items l.place).number) levels → IsOrderOf t order
+    → order ≡ map (λ l. pos (call_at t.items.items l.place).number) levels → IsOrderOfTrials t order
 order_found t levels order h e = record {
   rest = places levels;
   goes_on = h;
@@ -189,12 +189,12 @@ order_found t levels order h e = record {
 }
 
 pub found_valid : (t : Trials) (calls : List Call) (order : List ℤ)
-    → AreListed calls (length t.items.items) (call_at t.items.items) → IsOrderOf t order
+    → AreListed calls (length t.items.items) (call_at t.items.items) → IsOrderOfTrials t order
     → IsValidOrder t.kind calls order
 found_valid t calls order a h =
     valid_from t.kind calls (length t.items.items) (call_at t.items.items) h.rest order a h.goes_on h.numbers
 
-pub IfFound-weaker : (o : Outcome) (P Q : List ℤ → Type 0) → ((order : List ℤ) → P order → Q order) → IfFound o P
+pub IfFound-weaker : (o : OrderOutcome) (P Q : List ℤ → Type 0) → ((order : List ℤ) → P order → Q order) → IfFound o P
     → IfFound o Q
 IfFound-weaker (Found order) P Q f h = f order.items h
 IfFound-weaker o P Q f h = tt

@@ -5,29 +5,29 @@ use Rattle.std.specs.List.{filter_map}
 use Rattle.model.specs.declared.Kind.{Kind}
 use Rattle.model.specs.Orders.{Call, IsValidOrder, calls_on}
 use Rattle.events.specs.declared.event.Event.{Event}
-use Rattle.events.specs.Events.{kind_at, denoted}
+use Rattle.events.specs.Events.{kind_of_object, denoted}
 use Rattle.certificate.specs.declared.Certificate.{Certificate}
 use Rattle.search.specs.Outcomes.{max_operations}
-use Rattle.search.specs.Outcomes.{IsNoneValid}
-use Rattle.search.specs.declared.finding.Attempt.{Attempt}
-use Rattle.search.specs.declared.finding.Outcome.{Outcome}
-use Rattle.search.specs.declared.finding.Outcome.TheVariants as outcome
+use Rattle.search.specs.Outcomes.{HasNoValidOrder}
+use Rattle.search.specs.declared.finding.OrderSearch.{OrderSearch}
+use Rattle.search.specs.declared.finding.OrderOutcome.{OrderOutcome}
+use Rattle.search.specs.declared.finding.OrderOutcome.TheVariants as outcome
 use Rattle.search.specs.declared.found.Search.{Search}
-use Rattle.search.specs.declared.found.SearchOutcome.{SearchOutcome}
-use Rattle.search.specs.declared.found.SearchOutcome.TheVariants.{Impossible, OutOfSteps, TooLarge}
-use Rattle.search.specs.declared.found.SearchOutcome.TheVariants.{NoMemory}
-use Rattle.search.specs.declared.found.SearchOutcome.TheVariants as found
+use Rattle.search.specs.declared.found.CertificateOutcome.{CertificateOutcome}
+use Rattle.search.specs.declared.found.CertificateOutcome.TheVariants.{Impossible, OutOfSteps, TooLarge}
+use Rattle.search.specs.declared.found.CertificateOutcome.TheVariants.{NoMemory}
+use Rattle.search.specs.declared.found.CertificateOutcome.TheVariants as found
 
 -- the certificate that was found, if there is one
-abbrev pub certificate_in : SearchOutcome → Option Certificate
-certificate_in (found.Found c) = Some c
-certificate_in Impossible = None
-certificate_in OutOfSteps = None
-certificate_in TooLarge = None
-certificate_in NoMemory = None
+abbrev pub certificate_found : CertificateOutcome → Option Certificate
+certificate_found (found.Found c) = Some c
+certificate_found Impossible = None
+certificate_found OutOfSteps = None
+certificate_found TooLarge = None
+certificate_found NoMemory = None
 
 -- what an outcome is for the object with this number
-abbrev pub outcome_for : ℕ → Outcome → SearchOutcome
+abbrev pub outcome_for : ℕ → OrderOutcome → CertificateOutcome
 outcome_for object (outcome.Found order) = found.Found (record { object = object; order = order })
 outcome_for object outcome.Impossible = Impossible
 outcome_for object outcome.OutOfSteps = OutOfSteps
@@ -35,11 +35,11 @@ outcome_for object outcome.TooLarge = TooLarge
 outcome_for object outcome.NoMemory = NoMemory
 
 -- what a search for an order is for that object
-abbrev pub search_for : ℕ → Attempt → Search
+abbrev pub search_for : ℕ → OrderSearch → Search
 search_for object a = record { found = outcome_for object a.outcome; steps = a.steps }
 
 -- if a certificate was found, this holds of it
-abbrev pub IfFound : SearchOutcome → (Certificate → Type 0) → Type 0
+abbrev pub IfFound : CertificateOutcome → (Certificate → Type 0) → Type 0
 IfFound (found.Found c) P = P c
 IfFound Impossible P = ⊤
 IfFound OutOfSteps P = ⊤
@@ -47,7 +47,7 @@ IfFound TooLarge P = ⊤
 IfFound NoMemory P = ⊤
 
 abbrev pub IsFound : Search → Type 0
-IsFound s = IsSome (certificate_in s.found)
+IsFound s = IsSome (certificate_found s.found)
 
 -- the certificate is one of the object, and its order is valid
 abbrev pub IsCertificateOf : ℕ → Kind → List Call → Certificate → Type 0
@@ -60,7 +60,7 @@ pub record IsSoundAnswer (object : ℕ) (kind : Kind) (calls : List Call) (limit
     -- what was found is valid
     pub found : IfFound s.found (IsCertificateOf object kind calls)
     -- the answer is impossible only if no order is valid
-    pub impossible : s.found ≡ Impossible → IsNoneValid kind calls
+    pub impossible : s.found ≡ Impossible → HasNoValidOrder kind calls
     -- The number of steps is at most the limit, and is the limit if that was not enough. Nothing
     -- says how many operations were tried.
     pub steps : s.steps ≤ limit
@@ -69,15 +69,17 @@ pub record IsSoundAnswer (object : ℕ) (kind : Kind) (calls : List Call) (limit
     pub memory : s.found ≡ NoMemory → Any (λ call. IsSome call.returned) calls
 
 -- what a search that takes on some calls alone may answer
-pub record IsAnswer (object : ℕ) (kind : Kind) (calls : List Call) (limit : ℕ) (s : Search) : Type 0
+pub record IsSearchAnswer (object : ℕ) (kind : Kind) (calls : List Call) (limit : ℕ) (s : Search) :
+    Type 0
   where
     pub sound : IsSoundAnswer object kind calls limit s
     pub too_large : (s.found ≡ TooLarge) ↔ (max_operations < length calls)
 
 -- an answer on the object with this number, in the history that the events denote
-abbrev pub IsAnswerOn : List Event → ℕ → ℕ → Search → Type 0
-IsAnswerOn es limit x s = IsAnswer x (kind_at es x) (calls_on x (denoted es)) limit s
+abbrev pub IsSearchAnswerOn : List Event → ℕ → ℕ → Search → Type 0
+IsSearchAnswerOn es limit x s = IsSearchAnswer x (kind_of_object es x) (calls_on x (denoted es))
+    limit s
 
 -- the certificates among the answers
-abbrev pub certificates_in : List (ℕ × Search) → List Certificate
-certificates_in answers = filter_map (λ a. certificate_in a.1.found) answers
+abbrev pub certificates_found : List (ℕ × Search) → List Certificate
+certificates_found answers = filter_map (λ a. certificate_found a.1.found) answers

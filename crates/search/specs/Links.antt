@@ -15,18 +15,18 @@ pub record IsStop (n : ℕ) (done : List ℕ) (q : ℕ) : Type 0 where
   pub left : q < n → In q done → ⊥
 
 -- the places from one up to another are in the beginning
-abbrev pub IsGap : List ℕ → ℕ → ℕ → Type 0
-IsGap done s q = (j : ℕ) → s ≤ j → j < q → In j done
+abbrev pub IsFilledGap : List ℕ → ℕ → ℕ → Type 0
+IsFilledGap done s q = (j : ℕ) → s ≤ j → j < q → In j done
 
 pub record IsForth (n : ℕ) (done : List ℕ) (s q : ℕ) : Type 0 where
   pub rises : s ≤ q
   pub stop : IsStop n done q
-  pub gap : IsGap done s q
+  pub gap : IsFilledGap done s q
 
 pub record IsBack (n : ℕ) (done : List ℕ) (s q : ℕ) : Type 0 where
   pub rises : s ≤ q
   pub slot : IsSlot n done s
-  pub gap : IsGap done s q
+  pub gap : IsFilledGap done s q
 
 -- the two lists link the places that are left
 pub record Linked (n : ℕ) (done : List ℕ) (nx pv : List ℕ) : Type 0 where

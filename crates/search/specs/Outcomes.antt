@@ -2,9 +2,9 @@
 use Rattle.std.specs.Prelude.{ℕ, ℤ, ⊤, List}
 use Rattle.model.specs.declared.Kind.{Kind}
 use Rattle.model.specs.Orders.{Call, IsValidOrder}
-use Rattle.search.specs.declared.finding.Outcome.{Outcome}
-use Rattle.search.specs.declared.finding.Outcome.TheVariants.{Found, Impossible, OutOfSteps}
-use Rattle.search.specs.declared.finding.Outcome.TheVariants.{TooLarge, NoMemory}
+use Rattle.search.specs.declared.finding.OrderOutcome.{OrderOutcome}
+use Rattle.search.specs.declared.finding.OrderOutcome.TheVariants.{Found, Impossible, OutOfSteps}
+use Rattle.search.specs.declared.finding.OrderOutcome.TheVariants.{TooLarge, NoMemory}
 
 -- the most operations that `find_order` takes on, those that failed apart
 abbrev pub max_operations : ℕ
@@ -16,7 +16,7 @@ abbrev pub max_places : ℕ
 max_places = 4294967294
 
 -- if an order was found, this holds of it
-abbrev pub IfFound : Outcome → (List ℤ → Type 0) → Type 0
+abbrev pub IfFound : OrderOutcome → (List ℤ → Type 0) → Type 0
 IfFound (Found order) P = P order.items
 IfFound Impossible P = ⊤
 IfFound OutOfSteps P = ⊤
@@ -24,5 +24,5 @@ IfFound TooLarge P = ⊤
 IfFound NoMemory P = ⊤
 
 -- no order of the calls is valid
-abbrev pub IsNoneValid : Kind → List Call → Type 0
-IsNoneValid kind calls = (order : List ℤ) → IsValidOrder kind calls order → ⊥
+abbrev pub HasNoValidOrder : Kind → List Call → Type 0
+HasNoValidOrder kind calls = (order : List ℤ) → IsValidOrder kind calls order → ⊥

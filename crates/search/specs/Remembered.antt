@@ -21,13 +21,13 @@ pub record IsOneOlder (before after : Dead) : Type 0 where
   pub younger : after.younger.pairs.items ≡ []
 
 -- all pairs are still remembered, or all but the older ones
-abbrev pub IsKept : Dead → Dead → Type 0
-IsKept before after = (after ≡ before) ⊎ IsOneOlder before after
+abbrev pub AreDeadKept : Dead → Dead → Type 0
+AreDeadKept before after = (after ≡ before) ⊎ IsOneOlder before after
 
 -- a pair is remembered besides those of `kept`, if none or the older ones were forgotten
 pub record IsRemembered (before : Dead) (pair : Pair) (after : Dead) : Type 0 where
   pub kept : Dead
-  pub is_kept : IsKept before kept
+  pub is_kept : AreDeadKept before kept
   pub older : after.older.pairs.items ≡ kept.older.pairs.items
   pub younger : after.younger.pairs.items ≡ kept.younger.pairs.items ++ pair ∷ []
 

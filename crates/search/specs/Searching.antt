@@ -4,7 +4,7 @@ use Rattle.std.specs.Prelude.{length, map, reverse}
 use Rattle.model.specs.Objects.{Content, empty}
 use Rattle.model.specs.Orders.{Call, Return}
 use Rattle.model.proofs.Lists.{In}
-use Rattle.search.specs.Undoing.{content_of, content_kept, undone}
+use Rattle.search.specs.Undoing.{reversible_content, content_kept, undone}
 use Rattle.search.specs.declared.step.Step.{Step}
 use Rattle.search.specs.declared.level.Level.{Level}
 use Rattle.search.specs.declared.level.Window.{Window}
@@ -115,12 +115,12 @@ IsNoOrder t = IsDead (length t.items.items) (call_at t.items.items) [] (empty t.
 abbrev pub IsDeadHere : Trials → State → Type 0
 IsDeadHere t s =
     IsDead (length t.items.items) (call_at t.items.items) (places (reverse s.levels.items))
-    (content_of s.object)
+    (reversible_content s.object)
 
 abbrev pub IsDeadAtPlace : Trials → State → ℕ → Type 0
 IsDeadAtPlace t s k =
     IsDeadAt (length t.items.items) (call_at t.items.items) (places (reverse s.levels.items))
-    (content_of s.object) k
+    (reversible_content s.object) k
 
 -- this many calls returned
 abbrev pub AreOwed : Trials → ℕ → Type 0
@@ -158,14 +158,14 @@ pub record IsSearchingAt (t : Trials) (s : State) (c : Content) : Type 0 where
   pub dead : AreAllDead t s.dead
 
 abbrev pub IsSearching : Trials → State → Type 0
-IsSearching t s = IsSearchingAt t s (content_of s.object)
+IsSearching t s = IsSearchingAt t s (reversible_content s.object)
 
 -- the content before a step that was done
 abbrev pub content_before : State → Step → Content
-content_before s step = undone step.undo (content_of s.object)
+content_before s step = undone step.undo (reversible_content s.object)
 
 -- the numbers of an order of places that goes on from nothing
-pub record IsOrderOf (t : Trials) (order : List ℤ) : Type 0 where
+pub record IsOrderOfTrials (t : Trials) (order : List ℤ) : Type 0 where
   pub rest : List ℕ
   pub goes_on : IsOrder t rest
   pub numbers : order ≡ map (λ k. pos (call_at t.items.items k).number) rest

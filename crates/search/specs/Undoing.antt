@@ -20,22 +20,22 @@ use Rattle.search.specs.declared.step.Undo.TheVariants.{PutFirst, SetRegister, S
 use Rattle.search.specs.declared.step.Undo.TheVariants.{SetElement, SetCount, SetOwner}
 use Rattle.search.specs.declared.step.Step.{Step}
 
-abbrev pub content_of : Reversible → Content
-content_of (Queue vs) = queue vs.items
-content_of (Stack vs) = stack vs.items
-content_of (Heap vs) = heap vs.items
-content_of (Register v) = register v
-content_of (Map m) = table m
-content_of (Mutex held) = mutex held
-content_of (Set s) = elements s
-content_of (Counter n) = count n
-content_of (Lock o) = owner o
+abbrev pub reversible_content : Reversible → Content
+reversible_content (Queue vs) = queue vs.items
+reversible_content (Stack vs) = stack vs.items
+reversible_content (Heap vs) = heap vs.items
+reversible_content (Register v) = register v
+reversible_content (Map m) = table m
+reversible_content (Mutex held) = mutex held
+reversible_content (Set s) = elements s
+reversible_content (Counter n) = count n
+reversible_content (Lock o) = owner o
 
 abbrev pub content_kept : Kept → Content
 content_kept (kept.Queue vs) = queue vs.items
 content_kept (kept.Stack vs) = stack vs.items
 content_kept (kept.Heap vs) = heap vs.items
-content_kept (kept.Whole object) = content_of object
+content_kept (kept.Whole object) = reversible_content object
 
 -- the values after something was undone
 abbrev pub values_undone : Undo → List ℤ → List ℤ
@@ -67,7 +67,7 @@ pub record IsStep (before : Content) (op : AnyOp) (after : Content) (step : Step
   pub back : undone step.undo after ≡ before
 
 -- the step of an operation that takes the first value, if there is one
-abbrev pub IsTaken : List ℤ → List ℤ → Step → Type 0
-IsTaken [] after step = (after ≡ []) × (step ≡ record { reply = Value None; undo = Nothing })
-IsTaken (v ∷ vs) after step =
+abbrev pub IsValueTaken : List ℤ → List ℤ → Step → Type 0
+IsValueTaken [] after step = (after ≡ []) × (step ≡ record { reply = Value None; undo = Nothing })
+IsValueTaken (v ∷ vs) after step =
     (after ≡ vs) × (step ≡ record { reply = Value (Some v); undo = PutFirst v })

@@ -3,13 +3,13 @@
 ghost use Rattle.std.specs.Prelude.{◌≡◌, ◌<◌, ◌↔◌, ℕ, IfOk, All, AllPairs, Any, Contains, map};
 ghost use Rattle.model.specs.Linearizable.{IsLinearizable};
 ghost use Rattle.model.specs.Orders.{events};
-ghost use Rattle.events.specs.Events.{IsNamed, kind_at, denoted};
+ghost use Rattle.events.specs.Events.{IsNamed, kind_of_object, denoted};
 ghost use Rattle.certificate.specs.Denotes.{AreDistinct};
 ghost use Rattle.checker.specs.Refusals.{AreValid};
-ghost use Rattle.search.specs.Answers.{IsAnswerOn, IsFound, certificates_in};
+ghost use Rattle.search.specs.Answers.{IsSearchAnswerOn, IsFound, certificates_found};
 
 use crate::TryFirst;
-use crate::found::{Search, SearchOutcome};
+use crate::found::{CertificateOutcome, Search};
 use crate::object::search_by;
 use events::{History, split};
 use locality::linearizable_has_orders;
@@ -29,14 +29,14 @@ pub fn search_all(
     // the objects that some invocation names, and no others
     ensures named { IfOk result (λ v. (x : ℕ)
         → Contains (map (λ a. a.0) v.items) x ↔ IsNamed history.now x) }
-    ensures answers { IfOk result (λ v. All (λ a. IsAnswerOn history.now limit a.0 a.1) v.items) }
+    ensures answers { IfOk result (λ v. All (λ a. IsSearchAnswerOn history.now limit a.0 a.1) v.items) }
     // If one is impossible the history is not linearizable.
-    ensures impossible { IfOk result (λ v. Any (λ a. a.1.found ≡ SearchOutcome.Impossible) v.items
-        → IsLinearizable (kind_at history.now) (events (denoted history.now)) → ⊥) }
+    ensures impossible { IfOk result (λ v. Any (λ a. a.1.found ≡ CertificateOutcome.Impossible) v.items
+        → IsLinearizable (kind_of_object history.now) (events (denoted history.now)) → ⊥) }
     // If all are found `check_all` accepts the certificates.
-    ensures distinct { IfOk result (λ v. AreDistinct (certificates_in v.items)) }
+    ensures distinct { IfOk result (λ v. AreDistinct (certificates_found v.items)) }
     ensures valid { IfOk result (λ v. All (λ a. IsFound a.1) v.items
-        → AreValid history.now (certificates_in v.items)) }
+        → AreValid history.now (certificates_found v.items)) }
 {
     search_all_by(alloc, history, TryFirst::LeastNumber, limit)
 }
@@ -52,12 +52,12 @@ pub fn search_all_by(
     // the objects that some invocation names, and no others
     ensures named { IfOk result (λ v. (x : ℕ)
         → Contains (map (λ a. a.0) v.items) x ↔ IsNamed history.now x) }
-    ensures answers { IfOk result (λ v. All (λ a. IsAnswerOn history.now limit a.0 a.1) v.items) }
-    ensures impossible { IfOk result (λ v. Any (λ a. a.1.found ≡ SearchOutcome.Impossible) v.items
-        → IsLinearizable (kind_at history.now) (events (denoted history.now)) → ⊥) }
-    ensures distinct { IfOk result (λ v. AreDistinct (certificates_in v.items)) }
+    ensures answers { IfOk result (λ v. All (λ a. IsSearchAnswerOn history.now limit a.0 a.1) v.items) }
+    ensures impossible { IfOk result (λ v. Any (λ a. a.1.found ≡ CertificateOutcome.Impossible) v.items
+        → IsLinearizable (kind_of_object history.now) (events (denoted history.now)) → ⊥) }
+    ensures distinct { IfOk result (λ v. AreDistinct (certificates_found v.items)) }
     ensures valid { IfOk result (λ v. All (λ a. IsFound a.1) v.items
-        → AreValid history.now (certificates_in v.items)) }
+        → AreValid history.now (certificates_found v.items)) }
 {
     // These two do nothing. The first says that the events denote a well-formed history, the second
     // that each object of a linearizable one has a valid order.

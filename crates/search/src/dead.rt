@@ -2,8 +2,8 @@
 //! of memory: the oldest are forgotten, and what begins with them may then be searched again.
 
 ghost use Rattle.std.specs.Prelude.{◌≡◌, ◌⊎◌, [], IsTrue, IfOk, OnOk};
-ghost use Rattle.search.specs.Undoing.{content_of};
-ghost use Rattle.search.specs.Remembered.{HasPair, IsKept, IsRemembered};
+ghost use Rattle.search.specs.Undoing.{reversible_content};
+ghost use Rattle.search.specs.Remembered.{HasPair, AreDeadKept, IsRemembered};
 ghost use Rattle.search.specs.Remembered.{IsRememberedIfSome};
 
 use crate::Reversible;
@@ -72,9 +72,9 @@ impl Dead {
     /// pair.
     pub fn holds(&self, hash: u64, high: u32, not_done: &NotDone, object: &Reversible) -> bool
         ensures { IsTrue result →
-            HasPair self.now.older.pairs.items not_done.now.next.items high (content_of object.now)
+            HasPair self.now.older.pairs.items not_done.now.next.items high (reversible_content object.now)
             ⊎ HasPair self.now.younger.pairs.items not_done.now.next.items high
-            (content_of object.now) }
+            (reversible_content object.now) }
     {
         self.younger.holds(hash, high, not_done, object)
             || self.older.holds(hash, high, not_done, object)
@@ -83,7 +83,7 @@ impl Dead {
     /// Makes room for a pair that takes this many bytes. If the younger pairs would take more than
     /// `MOST_BYTES`, it forgets the older ones, and the younger ones become the older ones.
     fn make_room(&mut self, alloc: Global, bytes: usize)
-        ensures { IsKept self.old self.new }
+        ensures { AreDeadKept self.old self.new }
     {
         if self.younger.bytes.saturating_add(bytes) > MOST_BYTES {
             self.older = std::mem::replace(&mut self.younger, Pairs::new(alloc));

@@ -5,8 +5,8 @@ ghost use Rattle.std.specs.Prelude.{map, pos, count_by, is_some};
 ghost use Rattle.model.specs.Orders.{IsValidOrder};
 ghost use Rattle.events.specs.Operations.{calls_of, return_of};
 ghost use Rattle.search.specs.Arranged.{call_at};
-ghost use Rattle.search.specs.Outcomes.{IfFound, IsNoneValid, max_operations, max_places};
-ghost use Rattle.search.specs.Searching.{AreTrials, AreOwed, IsNoOrder, IsOrderOf};
+ghost use Rattle.search.specs.Outcomes.{IfFound, HasNoValidOrder, max_operations, max_places};
+ghost use Rattle.search.specs.Searching.{AreTrials, AreOwed, IsNoOrder, IsOrderOfTrials};
 
 use crate::level::Level;
 use crate::trials::{Trials, TryFirst, call_count, return_count};
@@ -16,7 +16,7 @@ use std::alloc::{AllocError, Global};
 
 /// How a search ends.
 #[derive(Debug, Drop)]
-pub enum Outcome {
+pub enum OrderOutcome {
     /// An order that is valid.
     Found(Vec<i64>),
     /// No order is valid.
@@ -31,8 +31,8 @@ pub enum Outcome {
 /// How a search ended, and its number of steps. Each operation that is tried is a step; no clause
 /// says that they are counted so, only that their number is within the limit.
 #[derive(Debug, Drop)]
-pub struct Attempt {
-    pub outcome: Outcome,
+pub struct OrderSearch {
+    pub outcome: OrderOutcome,
     pub steps: u64,
 }
 
@@ -62,22 +62,22 @@ fn search_from_start(
     left: usize,
     limit: u64,
     steps: &mut u64,
-) -> Result<Outcome, AllocError>
+) -> Result<OrderOutcome, AllocError>
     requires trials { AreTrials trials.now }
     requires counts { AreOwed trials.now left }
     requires owed { 0 < left }
     requires steps { steps.old ≤ limit }
     ensures steps { steps.new ≤ limit }
-    ensures found { IfOk result (λ o. IfFound o (IsOrderOf trials.now)) }
-    ensures impossible { IfOk result (λ o. o ≡ Outcome.Impossible → IsNoOrder trials.now) }
-    ensures out_of_steps { IfOk result (λ o. o ≡ Outcome.OutOfSteps → steps.new ≡ limit) }
-    ensures decided { IfOk result (λ o. (o ≢ Outcome.TooLarge) × (o ≢ Outcome.NoMemory)) }
+    ensures found { IfOk result (λ o. IfFound o (IsOrderOfTrials trials.now)) }
+    ensures impossible { IfOk result (λ o. o ≡ OrderOutcome.Impossible → IsNoOrder trials.now) }
+    ensures out_of_steps { IfOk result (λ o. o ≡ OrderOutcome.OutOfSteps → steps.new ≡ limit) }
+    ensures decided { IfOk result (λ o. (o ≢ OrderOutcome.TooLarge) × (o ≢ OrderOutcome.NoMemory)) }
 {
     let mut state = State::begin(alloc, trials, left)?;
     match state.run(alloc, trials, limit, steps)? {
-        Ending::Done => Ok(Outcome::Found(order_of(alloc, &trials.items, &state.levels)?)),
-        Ending::Impossible => Ok(Outcome::Impossible),
-        Ending::OutOfSteps => Ok(Outcome::OutOfSteps),
+        Ending::Done => Ok(OrderOutcome::Found(order_of(alloc, &trials.items, &state.levels)?)),
+        Ending::Impossible => Ok(OrderOutcome::Impossible),
+        Ending::OutOfSteps => Ok(OrderOutcome::OutOfSteps),
     }
 }
 
@@ -90,7 +90,7 @@ fn search_operations(
     left: usize,
     limit: u64,
     steps: &mut u64,
-) -> Result<Outcome, AllocError>
+) -> Result<OrderOutcome, AllocError>
     requires few { length (calls_of history.now.ops) ≤ max_places }
     requires counts { left ≡ count_by (λ o. is_some (return_of o.«end»)) history.now.ops }
     requires owed { 0 < left }
@@ -98,10 +98,10 @@ fn search_operations(
     ensures steps { steps.new ≤ limit }
     ensures found { IfOk result (λ o. IfFound o
         (IsValidOrder history.now.kind (calls_of history.now.ops))) }
-    ensures impossible { IfOk result (λ o. o ≡ Outcome.Impossible →
-        IsNoneValid history.now.kind (calls_of history.now.ops)) }
-    ensures out_of_steps { IfOk result (λ o. o ≡ Outcome.OutOfSteps → steps.new ≡ limit) }
-    ensures decided { IfOk result (λ o. (o ≢ Outcome.TooLarge) × (o ≢ Outcome.NoMemory)) }
+    ensures impossible { IfOk result (λ o. o ≡ OrderOutcome.Impossible →
+        HasNoValidOrder history.now.kind (calls_of history.now.ops)) }
+    ensures out_of_steps { IfOk result (λ o. o ≡ OrderOutcome.OutOfSteps → steps.new ≡ limit) }
+    ensures decided { IfOk result (λ o. (o ≢ OrderOutcome.TooLarge) × (o ≢ OrderOutcome.NoMemory)) }
 {
     // This does nothing. It says that the operations are those of an object's history.
     history.ops();
@@ -114,22 +114,27 @@ fn search_operations(
 /// remembered. More than 4,096 operations are too large.
 ///
 /// That a limit is enough is not promised.
-pub fn find_order(alloc: Global, history: &ObjectHistory, first: TryFirst, limit: u64) -> Attempt
+pub fn find_order(
+    alloc: Global,
+    history: &ObjectHistory,
+    first: TryFirst,
+    limit: u64,
+) -> OrderSearch
     ensures found { IfFound result.outcome
         (IsValidOrder history.now.kind (calls_of history.now.ops)) }
-    ensures impossible { result.outcome ≡ Outcome.Impossible
-        → IsNoneValid history.now.kind (calls_of history.now.ops) }
+    ensures impossible { result.outcome ≡ OrderOutcome.Impossible
+        → HasNoValidOrder history.now.kind (calls_of history.now.ops) }
     ensures steps { result.steps ≤ limit }
-    ensures out_of_steps { result.outcome ≡ Outcome.OutOfSteps → result.steps ≡ limit }
-    ensures too_large { (result.outcome ≡ Outcome.TooLarge)
+    ensures out_of_steps { result.outcome ≡ OrderOutcome.OutOfSteps → result.steps ≡ limit }
+    ensures too_large { (result.outcome ≡ OrderOutcome.TooLarge)
         ↔ (max_operations < length (calls_of history.now.ops)) }
     // The answer is NoMemory only if some operation returned.
-    ensures memory { result.outcome ≡ Outcome.NoMemory
+    ensures memory { result.outcome ≡ OrderOutcome.NoMemory
         → Any (λ call. IsSome call.returned) (calls_of history.now.ops) }
 {
     if call_count(history.ops()) > MOST {
-        return Attempt {
-            outcome: Outcome::TooLarge,
+        return OrderSearch {
+            outcome: OrderOutcome::TooLarge,
             steps: 0,
         };
     }
@@ -144,36 +149,36 @@ pub fn find_order_of_any_size(
     history: &ObjectHistory,
     first: TryFirst,
     limit: u64,
-) -> Attempt
+) -> OrderSearch
     ensures found { IfFound result.outcome
         (IsValidOrder history.now.kind (calls_of history.now.ops)) }
-    ensures impossible { result.outcome ≡ Outcome.Impossible
-        → IsNoneValid history.now.kind (calls_of history.now.ops) }
+    ensures impossible { result.outcome ≡ OrderOutcome.Impossible
+        → HasNoValidOrder history.now.kind (calls_of history.now.ops) }
     ensures steps { result.steps ≤ limit }
-    ensures out_of_steps { result.outcome ≡ Outcome.OutOfSteps → result.steps ≡ limit }
-    ensures any_size { result.outcome ≢ Outcome.TooLarge }
+    ensures out_of_steps { result.outcome ≡ OrderOutcome.OutOfSteps → result.steps ≡ limit }
+    ensures any_size { result.outcome ≢ OrderOutcome.TooLarge }
     // The answer is NoMemory only if some operation returned.
-    ensures memory { result.outcome ≡ Outcome.NoMemory
+    ensures memory { result.outcome ≡ OrderOutcome.NoMemory
         → Any (λ call. IsSome call.returned) (calls_of history.now.ops) }
 {
     let operations = history.ops();
     if call_count(operations) > MOST_PLACES {
-        return Attempt {
-            outcome: Outcome::OutOfSteps,
+        return OrderSearch {
+            outcome: OrderOutcome::OutOfSteps,
             steps: limit,
         };
     }
     let left = return_count(operations);
     if left == 0 {
-        return Attempt {
-            outcome: Outcome::Found(Vec::new(alloc)),
+        return OrderSearch {
+            outcome: OrderOutcome::Found(Vec::new(alloc)),
             steps: 0,
         };
     }
     let mut steps = 0;
     let outcome = match search_operations(alloc, history, first, left, limit, &mut steps) {
         Ok(outcome) => outcome,
-        Err(_) => Outcome::NoMemory,
+        Err(_) => OrderOutcome::NoMemory,
     };
-    Attempt { outcome, steps }
+    OrderSearch { outcome, steps }
 }

@@ -4,7 +4,7 @@ use certificate::Certificate;
 
 /// What a search has found.
 #[derive(Debug, Drop)]
-pub enum SearchOutcome {
+pub enum CertificateOutcome {
     /// A certificate, whose order is valid.
     Found(Certificate),
     /// No order of the operations is valid.
@@ -21,6 +21,6 @@ pub enum SearchOutcome {
 /// clause says that they are counted so, only that their number is within the limit.
 #[derive(Debug, Drop)]
 pub struct Search {
-    pub found: SearchOutcome,
+    pub found: CertificateOutcome,
     pub steps: u64,
 }

@@ -1,7 +1,7 @@
 //! What an object contained, kept to compare it with what the object contains later.
 
 ghost use Rattle.std.specs.Prelude.{◌≡◌, ◌↔◌, IsTrue, IfOk, IfSome};
-ghost use Rattle.search.specs.Undoing.{content_of, content_kept};
+ghost use Rattle.search.specs.Undoing.{reversible_content, content_kept};
 
 use crate::reversible::Reversible;
 use std::alloc::{AllocError, Global};
@@ -55,7 +55,7 @@ impl Kept {
     ///
     /// An error: an allocation failed.
     pub fn of(alloc: Global, object: &Reversible) -> Result<Kept, AllocError>
-        ensures { IfOk result (λ kept. content_kept kept ≡ content_of object.now) }
+        ensures { IfOk result (λ kept. content_kept kept ≡ reversible_content object.now) }
     {
         let narrow = match object {
             Reversible::Queue(values) => narrowed(alloc, values)?.map(Kept::Queue),
@@ -71,7 +71,7 @@ impl Kept {
 
     /// Whether the object contains now what was kept.
     pub fn is_in(&self, object: &Reversible) -> bool
-        ensures { IsTrue result ↔ (content_kept self.now ≡ content_of object.now) }
+        ensures { IsTrue result ↔ (content_kept self.now ≡ reversible_content object.now) }
     {
         match (self, object) {
             (Kept::Queue(narrow), Reversible::Queue(values)) => are_values(narrow, values),

@@ -23,8 +23,8 @@ mod trials;
 mod walk;
 
 pub use all::{search_all, search_all_by};
-pub use finding::{Attempt, Outcome, find_order, find_order_of_any_size};
-pub use found::{Search, SearchOutcome};
+pub use finding::{OrderOutcome, OrderSearch, find_order, find_order_of_any_size};
+pub use found::{CertificateOutcome, Search};
 pub use kept::Kept;
 pub use object::{search, search_by};
 pub use reversible::Reversible;

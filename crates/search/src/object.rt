@@ -2,34 +2,34 @@
 
 ghost use Rattle.std.specs.Prelude.{◌≡◌, ◌<◌, ◌≤◌, ◌↔◌, length, Any, IsSome};
 ghost use Rattle.events.specs.Operations.{calls_of};
-ghost use Rattle.search.specs.Outcomes.{IsNoneValid, max_operations};
-ghost use Rattle.search.specs.Answers.{IfFound, IsCertificateOf, IsAnswer};
+ghost use Rattle.search.specs.Outcomes.{HasNoValidOrder, max_operations};
+ghost use Rattle.search.specs.Answers.{IfFound, IsCertificateOf, IsSearchAnswer};
 ghost use Rattle.search.specs.Answers.{search_for, outcome_for};
 
-use crate::found::{Search, SearchOutcome};
-use crate::{Attempt, Outcome, TryFirst, find_order};
+use crate::found::{CertificateOutcome, Search};
+use crate::{OrderOutcome, OrderSearch, TryFirst, find_order};
 use certificate::Certificate;
 use events::ObjectHistory;
 use std::alloc::Global;
 
 /// What was found, for the object with this number.
-fn found_of(object: u32, outcome: Outcome) -> SearchOutcome
+fn found_of(object: u32, outcome: OrderOutcome) -> CertificateOutcome
     ensures { result ≡ outcome_for object outcome }
 {
     match outcome {
-        Outcome::Found(order) => SearchOutcome::Found(Certificate { object, order }),
-        Outcome::Impossible => SearchOutcome::Impossible,
-        Outcome::OutOfSteps => SearchOutcome::OutOfSteps,
-        Outcome::TooLarge => SearchOutcome::TooLarge,
-        Outcome::NoMemory => SearchOutcome::NoMemory,
+        OrderOutcome::Found(order) => CertificateOutcome::Found(Certificate { object, order }),
+        OrderOutcome::Impossible => CertificateOutcome::Impossible,
+        OrderOutcome::OutOfSteps => CertificateOutcome::OutOfSteps,
+        OrderOutcome::TooLarge => CertificateOutcome::TooLarge,
+        OrderOutcome::NoMemory => CertificateOutcome::NoMemory,
     }
 }
 
 /// The answer for the object with this number.
-fn answer_of(object: u32, attempt: Attempt) -> Search
+fn answer_of(object: u32, attempt: OrderSearch) -> Search
     ensures { result ≡ search_for object attempt }
 {
-    let Attempt { outcome, steps } = attempt;
+    let OrderSearch { outcome, steps } = attempt;
     let found = found_of(object, outcome);
     Search { found, steps }
 }
@@ -43,14 +43,14 @@ pub fn search(alloc: Global, history: &ObjectHistory, limit: u64) -> Search
     ensures found { IfFound result.found
         (IsCertificateOf history.now.object history.now.kind (calls_of history.now.ops)) }
     // No order is valid, and so the history is not linearizable.
-    ensures impossible { result.found ≡ SearchOutcome.Impossible
-        → IsNoneValid history.now.kind (calls_of history.now.ops) }
+    ensures impossible { result.found ≡ CertificateOutcome.Impossible
+        → HasNoValidOrder history.now.kind (calls_of history.now.ops) }
     ensures steps { result.steps ≤ limit }
-    ensures out_of_steps { result.found ≡ SearchOutcome.OutOfSteps → result.steps ≡ limit }
-    ensures too_large { (result.found ≡ SearchOutcome.TooLarge)
+    ensures out_of_steps { result.found ≡ CertificateOutcome.OutOfSteps → result.steps ≡ limit }
+    ensures too_large { (result.found ≡ CertificateOutcome.TooLarge)
         ↔ (max_operations < length (calls_of history.now.ops)) }
     // The answer is NoMemory only if some operation returned.
-    ensures memory { result.found ≡ SearchOutcome.NoMemory
+    ensures memory { result.found ≡ CertificateOutcome.NoMemory
         → Any (λ call. IsSome call.returned) (calls_of history.now.ops) }
 {
     search_by(alloc, history, TryFirst::LeastNumber, limit)
@@ -58,7 +58,7 @@ pub fn search(alloc: Global, history: &ObjectHistory, limit: u64) -> Search
 
 /// Searches as `search` does; `first` chooses which operation is tried first.
 pub fn search_by(alloc: Global, history: &ObjectHistory, first: TryFirst, limit: u64) -> Search
-    ensures { IsAnswer history.now.object history.now.kind (calls_of history.now.ops) limit result }
+    ensures { IsSearchAnswer history.now.object history.now.kind (calls_of history.now.ops) limit result }
 {
     answer_of(history.object(), find_order(alloc, history, first, limit))
 }

@@ -1,7 +1,7 @@
 //! Pairs of operations done and content, found by a hash.
 
 ghost use Rattle.std.specs.Prelude.{◌≡◌, [], ◌∷◌, ◌++◌, IsTrue, OnOk};
-ghost use Rattle.search.specs.Undoing.{content_of, content_kept};
+ghost use Rattle.search.specs.Undoing.{reversible_content, content_kept};
 ghost use Rattle.search.specs.Links.{Lists};
 ghost use Rattle.search.specs.Remembered.{HasPair};
 
@@ -45,7 +45,7 @@ fn is_pair(pair: &Pair, hash: u64, high: u32, not_done: &NotDone, object: &Rever
     ensures high { IsTrue result → pair.now.high ≡ high }
     ensures not_done { IsTrue result →
         Lists not_done.now.next.items 0 pair.now.not_done.items high }
-    ensures same { IsTrue result → content_kept pair.now.content ≡ content_of object.now }
+    ensures same { IsTrue result → content_kept pair.now.content ≡ reversible_content object.now }
 {
     if pair.hash != hash || pair.high != high {
         return false;
@@ -71,7 +71,7 @@ impl Pairs {
     /// Whether a pair is remembered.
     pub fn holds(&self, hash: u64, high: u32, not_done: &NotDone, object: &Reversible) -> bool
         ensures { IsTrue result →
-            HasPair self.now.pairs.items not_done.now.next.items high (content_of object.now) }
+            HasPair self.now.pairs.items not_done.now.next.items high (reversible_content object.now) }
     {
         let first = number_at(&self.heads, slot_of(&self.heads, hash));
         let mut rest = (first as usize).min(self.pairs.len());

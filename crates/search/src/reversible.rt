@@ -2,7 +2,7 @@
 
 ghost use Rattle.std.specs.Prelude.{◌≡◌, ◌↔◌, IsTrue, IsSome, IfOk, OnOk};
 ghost use Rattle.model.specs.Objects.{empty, next};
-ghost use Rattle.search.specs.Undoing.{content_of, undone, IsStep};
+ghost use Rattle.search.specs.Undoing.{reversible_content, undone, IsStep};
 
 use crate::digest::Digest;
 use crate::kinds::{
@@ -35,7 +35,7 @@ pub enum Reversible {
 impl Reversible {
     /// The object of this kind that contains nothing. It takes no memory.
     pub fn empty(alloc: Global, kind: Kind) -> Reversible
-        ensures { content_of result ≡ empty kind }
+        ensures { reversible_content result ≡ empty kind }
     {
         match kind {
             Kind::Queue => Reversible::Queue(VecDeque::new(alloc)),
@@ -52,7 +52,7 @@ impl Reversible {
 
     /// Whether the object can do the operation now.
     pub fn is_possible(&self, op: &AnyOp) -> bool
-        ensures { IsTrue result ↔ IsSome (next (content_of self.now) op.now) }
+        ensures { IsTrue result ↔ IsSome (next (reversible_content self.now) op.now) }
     {
         match self {
             Reversible::Queue(values) => Queues::is_possible(values, op),
@@ -69,8 +69,8 @@ impl Reversible {
 
     /// Does the operation. If an allocation fails, the object may contain anything.
     pub fn apply(&mut self, op: &AnyOp) -> Result<Step, AllocError>
-        requires { IsSome (next (content_of self.old) op.now) }
-        ensures { IfOk result (IsStep (content_of self.old) op.now (content_of self.new)) }
+        requires { IsSome (next (reversible_content self.old) op.now) }
+        ensures { IfOk result (IsStep (reversible_content self.old) op.now (reversible_content self.new)) }
     {
         match self {
             Reversible::Queue(values) => Queues::step(values, op),
@@ -87,7 +87,7 @@ impl Reversible {
 
     /// Undoes what an operation did. If an allocation fails, the object may contain anything.
     pub fn undo(&mut self, undo: Undo) -> Result<(), AllocError>
-        ensures { OnOk result (content_of self.new ≡ undone undo (content_of self.old)) }
+        ensures { OnOk result (reversible_content self.new ≡ undone undo (reversible_content self.old)) }
     {
         match self {
             Reversible::Queue(values) => Queues::undo(values, undo),
@@ -149,7 +149,7 @@ impl Reversible {
 
     /// Another object that contains the same.
     pub fn try_copy(&self) -> Result<Reversible, AllocError>
-        ensures { IfOk result (λ copy. content_of copy ≡ content_of self.now) }
+        ensures { IfOk result (λ copy. reversible_content copy ≡ reversible_content self.now) }
     {
         Ok(match self {
             Reversible::Queue(values) => Reversible::Queue(values.clone()?),
@@ -166,7 +166,7 @@ impl Reversible {
 
     /// Whether both are of one kind and contain the same.
     pub fn same(&self, other: &Reversible) -> bool
-        ensures { IsTrue result ↔ (content_of self.now ≡ content_of other.now) }
+        ensures { IsTrue result ↔ (reversible_content self.now ≡ reversible_content other.now) }
     {
         match (self, other) {
             (Reversible::Queue(a), Reversible::Queue(b)) => a == b,

@@ -6,7 +6,7 @@ ghost use Rattle.std.specs.Prelude.{if◌then◌else◌, get_or};
 ghost use Rattle.model.specs.Objects.{next};
 ghost use Rattle.model.specs.Orders.{Return};
 ghost use Rattle.events.specs.Operations.{return_of, Agrees};
-ghost use Rattle.search.specs.Undoing.{content_of};
+ghost use Rattle.search.specs.Undoing.{reversible_content};
 ghost use Rattle.search.specs.Arranged.{call_at, no_return};
 ghost use Rattle.search.specs.Links.{Linked};
 ghost use Rattle.search.specs.Outcomes.{max_places};
@@ -174,7 +174,7 @@ impl State {
             ≤ self.old.window.least }
         requires does { next (content_before self.old step)
             (call_at trials.now.items.items self.old.at).op
-            ≡ Some (content_of self.old.object, step.reply) }
+            ≡ Some (reversible_content self.old.object, step.reply) }
         requires agrees { Agrees (call_at trials.now.items.items self.old.at).returned step.reply }
         ensures search { IfOk result (λ over. over ≡ false → IsSearching trials.now self.new) }
         ensures over { IfOk result (λ over. over ≡ true →
@@ -224,7 +224,7 @@ impl State {
         requires in_time { (call_at trials.now.items.items self.old.at).number
             ≤ self.old.window.least }
         requires possible { IsSome
-            (next (content_of self.old.object) (call_at trials.now.items.items self.old.at).op) }
+            (next (reversible_content self.old.object) (call_at trials.now.items.items self.old.at).op) }
         ensures search { IfOk result (λ over. over ≡ false → IsSearching trials.now self.new) }
         ensures over { IfOk result (λ over. over ≡ true →
             IsOrder trials.now (places self.new.levels.items)) }

@@ -6,7 +6,7 @@ use events::split;
 use history::read_history_text;
 use judging::{In, check_over, judge};
 use report::Verdict;
-use search::{SearchOutcome, search, search_all};
+use search::{CertificateOutcome, search, search_all};
 use std::test::Fail;
 
 /// Two values are enqueued at the same time, and the second goes out.
@@ -24,7 +24,7 @@ fn certificates_that_are_found_are_judged(rt: HostRuntime) -> Result<(), Fail> {
     let history = read_history_text(alloc, AT_ONCE).map_err(|_| Fail::new("a history is refused"))?;
     let mut certificates = Vec::new(alloc);
     for (_, answer) in search_all(alloc, &history, 6)? {
-        if let SearchOutcome::Found(certificate) = answer.found {
+        if let CertificateOutcome::Found(certificate) = answer.found {
             certificates.push(certificate)?;
         }
     }

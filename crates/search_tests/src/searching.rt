@@ -3,7 +3,7 @@
 
 use events::{History, ObjectHistory, split};
 use history::read_history_text;
-use search::{Search, SearchOutcome, TryFirst, search, search_all, search_by};
+use search::{CertificateOutcome, Search, TryFirst, search, search_all, search_by};
 use std::alloc::Global;
 use std::test::Fail;
 
@@ -136,9 +136,10 @@ const ROWS: [(&[u8], u64, &[(u32, Wanted, u64)]); 21] = [
 
 fn is_wanted(answer: &Search, wanted: Wanted, steps: u64) -> bool {
     let is_found = match (&answer.found, wanted) {
-        (SearchOutcome::Found(certificate), Order(order)) => certificate.order.as_slice() == order,
-        (SearchOutcome::Impossible, Impossible) => true,
-        (SearchOutcome::OutOfSteps, OutOfSteps) => true,
+        (CertificateOutcome::Found(certificate), Order(order)) => certificate.order.as_slice()
+            == order,
+        (CertificateOutcome::Impossible, Impossible) => true,
+        (CertificateOutcome::OutOfSteps, OutOfSteps) => true,
         _ => false,
     };
     is_found && answer.steps == steps

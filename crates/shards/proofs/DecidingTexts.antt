@@ -5,12 +5,12 @@ use Rattle.edn_reader.specs.Datum.{Datum}
 use Rattle.edn_reader.specs.Spells.{Spells}
 use Rattle.edn_reader.proofs.Progress.{one_reading_of}
 use Rattle.events.specs.declared.event.Event.{Event}
-use Rattle.history.specs.Denotes.{events_from}
+use Rattle.history.specs.Denotes.{events_of_forms}
 use Rattle.shards.specs.Shards.{AreRenumbered, AreShards, DenoteLinearizable, events_on, renamed}
-use Rattle.shards.proofs.Deciding.{decided_by_shards}
+use Rattle.shards.proofs.WholeAndShards.{decided_by_shards}
 use Rattle.judging.specs.Texts.{IsLinearizableText, IsNotLinearizableText}
 use Rattle.history.proofs.MapLimit.{at_any_length}
-use Rattle.events.specs.Events.{denoted, kind_at}
+use Rattle.events.specs.Events.{denoted, kind_of_object}
 use Rattle.events.proofs.WellFormed.{denoted_is_history}
 use Rattle.locality.specs.Locality.{HasValidOrder}
 use Rattle.locality.proofs.OneKind.{named_kinds}
@@ -37,7 +37,7 @@ module _ {shard_of name : ℕ → ℕ} {whole : List ℕ} {shards : ℕ → List
   own_forms s = own_forms_on (objects_of shard_of s) h.maps
 
   abbrev own_events : ℕ → List Event
-  own_events s = events_from 0 (own_forms s)
+  own_events s = events_of_forms 0 (own_forms s)
 
   faultless_in : (s : ℕ) → IsFaultlessAtAnyLength (own_forms s)
   faultless_in s = own_faultless shard_of name h.maps h.each h.faultless s h.apart
@@ -54,7 +54,7 @@ module _ {shard_of name : ℕ → ℕ} {whole : List ℕ} {shards : ℕ → List
   }
 
   abbrev whole_events : List Event
-  whole_events = events_from 0 (forms_of h)
+  whole_events = events_of_forms 0 (forms_of h)
 
   whole_denoted : TextDenotes whole whole_events
   whole_denoted = record {
@@ -71,11 +71,13 @@ module _ {shard_of name : ℕ → ℕ} {whole : List ℕ} {shards : ℕ → List
 
   -- a text denotes what its one list of forms denotes
   pub whole_is : (es : List Event) → TextDenotes whole es → es ≡ whole_events
-  whole_is es d = d.denoted.events ∙ ap (events_from 0) (one_reading_of d.forms (forms_of h) whole d.spelled h.spelled)
+  whole_is es d = d.denoted.events ∙ ap (events_of_forms 0)
+      (one_reading_of d.forms (forms_of h) whole d.spelled h.spelled)
 
   pub own_is : (s : ℕ) (es : List Event) → TextDenotes (shards s) es → es ≡ own_events s
   own_is s es d =
-      d.denoted.events ∙ ap (events_from 0) (one_reading_of d.forms (own_forms s) (shards s) d.spelled (own_spelled s))
+      d.denoted.events ∙ ap (events_of_forms 0) (one_reading_of d.forms (own_forms s) (shards s) d.spelled
+      (own_spelled s))
 
   pub shard_is : (es : List Event) → TextDenotes whole es → (s : ℕ)
       → IsShardOf (λ x. shard_of x == s) name es (shards s)
@@ -138,8 +140,9 @@ nothing_linearizable = record {
     spelled = nothing_spelled;
     denoted = record { faultless = nothing_faulty; events = refl };
   };
-  linearizable = named_kinds (kind_at []) (denoted []) (denoted_is_history [] (proper_at_any_length [] nothing_faulty))
-      (all_from_in (λ (c : ProcessCall). HasValidOrder (kind_at []) (denoted []) c.object) [] (λ c i. absurd i));
+  linearizable = named_kinds (kind_of_object []) (denoted [])
+      (denoted_is_history [] (proper_at_any_length [] nothing_faulty))
+      (all_from_in (λ (c : ProcessCall). HasValidOrder (kind_of_object []) (denoted []) c.object) [] (λ c i. absurd i));
 }
 
 judged : (text : List ℕ) → (text ≡ []) ⊎ IsLinearizableText text → IsLinearizableAtAnyLength text
@@ -157,7 +160,7 @@ refuted text n l =
     let same : l.denoted.forms ≡ n.history_text.forms =
     one_reading_of l.denoted.forms n.history_text.forms text l.denoted.spelled n.history_text.spelled in
     n.not_linearizable (subst DenoteLinearizable
-    (l.denoted.denoted.events ∙ (ap (events_from 0) same ∙ sym n.history_text.denoted.events)) l.linearizable)
+    (l.denoted.denoted.events ∙ (ap (events_of_forms 0) same ∙ sym n.history_text.denoted.events)) l.linearizable)
 
 pub refuted_by_shard : (shard_of name : ℕ → ℕ) (whole : List ℕ) (shards : ℕ → List ℕ)
     → IsSplit shard_of name whole shards

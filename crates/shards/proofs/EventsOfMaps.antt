@@ -12,7 +12,7 @@ use Rattle.history.specs.Views.{Says}
 use Rattle.history.specs.declared.client_map.ClientMap as client
 use Rattle.history.specs.declared.client_map.OperationMap.{OperationMap}
 use Rattle.history.specs.declared.client_map.OperationMap.TheVariants.{OfClient, Ignored, Neither}
-use Rattle.history.specs.Denotes.{action_of, event_with, event_of, events_from}
+use Rattle.history.specs.Denotes.{action_of, event_of_map, event_of, events_of_forms}
 use Rattle.history.specs.Faults.{IsFaultlessAtAnyLength}
 use Rattle.history.specs.declared.fault.HistoryFaultKind.TheVariants.{BadValue}
 use Rattle.history.proofs.FirstFaults.{bad_stands}
@@ -26,17 +26,18 @@ pub record IsEventOf (d : Datum) (place : ℕ) (e : Event) : Type 0 where
   pub object : map.object ≡ e.object
   pub number : e.number ≡ place
 
-own_events : (ds : List Datum) (d : Datum) (es : List Event) → events_from 0 (ds ++ d ∷ []) ≡ events_from 0 ds ++ es
+own_events : (ds : List Datum) (d : Datum) (es : List Event) → events_of_forms 0 (ds ++ d ∷ []) ≡ events_of_forms 0 ds
+    ++ es
     → event_of (0 + length ds) (client_of d) ≡ es
 own_events ds d es q =
-    append_cancel_left (events_from 0 ds) (event_of (0 + length ds) (client_of d)) es (sym (events_push 0 ds d) ∙ q)
+    append_cancel_left (events_of_forms 0 ds) (event_of (0 + length ds) (client_of d)) es (sym (events_push 0 ds d) ∙ q)
 
 pub event_is : (ds : List Datum) (d : Datum) (e : Event)
-    → events_from 0 (ds ++ d ∷ []) ≡ events_from 0 ds ++ e ∷ [] → IsEventOf d (length ds) e
+    → events_of_forms 0 (ds ++ d ∷ []) ≡ events_of_forms 0 ds ++ e ∷ [] → IsEventOf d (length ds) e
 event_is ds d e q = go (client_of d) refl (own_events ds d (e ∷ []) q)
   where
     with_action : (m : ClientMap) (a : Option Action) → client_of d ≡ Some m
-        → event_with (0 + length ds) m a ≡ e ∷ [] → IsEventOf d (length ds) e
+        → event_of_map (0 + length ds) m a ≡ e ∷ [] → IsEventOf d (length ds) e
     with_action m None r s = absurd (cc s)
     with_action m (Some a) r s =
         let own : Event =
@@ -51,11 +52,11 @@ event_is ds d e q = go (client_of d) refl (own_events ds d (e ∷ []) q)
     go (Some m) r s = with_action m (action_of m.type m) r s
 
 pub no_client : (ds : List Datum) (d : Datum) → IsFaultlessAtAnyLength (ds ++ d ∷ [])
-    → events_from 0 (ds ++ d ∷ []) ≡ events_from 0 ds ++ [] → client_of d ≡ None
+    → events_of_forms 0 (ds ++ d ∷ []) ≡ events_of_forms 0 ds ++ [] → client_of d ≡ None
 no_client ds d faultless q = go (client_of d) refl (own_events ds d [] q)
   where
     with_action : (m : ClientMap) (a : Option Action) → client_of d ≡ Some m → action_of m.type m ≡ a
-        → event_with (0 + length ds) m a ≡ [] → Some m ≡ None
+        → event_of_map (0 + length ds) m a ≡ [] → Some m ≡ None
     with_action m None r t s = absurd (faultless ds [] d BadValue refl (m, r, bad_stands m.type m t))
     with_action m (Some a) r t s = absurd (cc s)
 

@@ -11,8 +11,8 @@ use Rattle.shards.specs.Dividing.{Files}
 use Rattle.shards.specs.Folders.{AddsFiles, lines_for}
 use Rattle.shards.specs.LargeObjects.{maps_on}
 use Rattle.shards.specs.ShardTexts.{SpelledMap}
-use Rattle.shards.specs.Taking.{AreTaken, AreTakenAfter, Flushes, no_lines, with_more, waiting_maps, waiting_places}
-use Rattle.shards.specs.Taking.{count_in, forms_of}
+use Rattle.shards.specs.Taking.{AreMapsTaken, AreTakenAfter, Flushes, no_lines, with_more, waiting_maps, waiting_places}
+use Rattle.shards.specs.Taking.{maps_in, forms_of}
 use Rattle.shards.specs.Tallies.{IsTally}
 use Rattle.shards.proofs.WaitingLines.{at_written, at_others, at_read}
 
@@ -51,8 +51,8 @@ pub taken_flushed : (count : ℕ) (old new : Divider) (maps : List SpelledMap) (
     (files files_after : Option Files) (i : ℕ) (w v : Waiting) → i < length old.waiting.items
     → w ≡ get_or old.waiting.items i w → new.waiting.items ≡ set old.waiting.items i v → new.shards ≡ old.shards
     → new.reader ≡ old.reader → new.tally ≡ old.tally → (f : Flushes i w v files files_after)
-    → AreTaken count old maps written
-    → AreTaken count new maps (with_more written (lines_for i f.maps f.places))
+    → AreMapsTaken count old maps written
+    → AreMapsTaken count new maps (with_more written (lines_for i f.maps f.places))
 taken_flushed count old new maps written files files_after i w v l is set_is shards reader tally f h =
     let before : List Waiting = old.waiting.items in
     record {
@@ -90,10 +90,10 @@ taken_flushed count old new maps written files files_after i w v l is set_is sha
       ];
       counts = λ s k. elim (cases_eq s i) [
         | inl q ↦
-            ap (count_in new.waiting.items) q ∙ (ap (λ ws. count_in ws i) set_is
+            ap (maps_in new.waiting.items) q ∙ (ap (λ ws. maps_in ws i) set_is
             ∙ (at_written (λ x. x.count) 0 before i v l ∙ (f.count ∙ (sym (at_read (λ x. x.count) 0 before i w l is)
-            ∙ (ap (count_in before) (sym q) ∙ h.counts s k)))))
-        | inr ne ↦ ap (λ ws. count_in ws s) set_is ∙ (at_others (λ x. x.count) 0 before i v s ne ∙ h.counts s k)
+            ∙ (ap (maps_in before) (sym q) ∙ h.counts s k)))))
+        | inr ne ↦ ap (λ ws. maps_in ws s) set_is ∙ (at_others (λ x. x.count) 0 before i v s ne ∙ h.counts s k)
       ];
     }
 
@@ -113,7 +113,8 @@ flushed_more count old new maps written first files files_after i w v l is set_i
 }
   where
     regroup : (count : ℕ) (d : Divider) (maps : List SpelledMap) (a b c : Files)
-        → AreTaken count d maps (with_more (with_more a b) c) → AreTaken count d maps (with_more a (with_more b c))
+        → AreMapsTaken count d maps (with_more (with_more a b) c)
+        → AreMapsTaken count d maps (with_more a (with_more b c))
     regroup count d maps a b c t = record {
       shards = t.shards;
       read = t.read;
@@ -130,7 +131,7 @@ flushed_more count old new maps written first files files_after i w v l is set_i
     }
 
 pub none_flushed : (count : ℕ) (d : Divider) (maps : List SpelledMap) (written : Files) (files : Option Files)
-    → AreTaken count d maps written → AreTakenAfter count d maps written files files
+    → AreMapsTaken count d maps written → AreTakenAfter count d maps written files files
 none_flushed count d maps written files t = record {
   more = no_lines;
   adds = adds_nothing files;

@@ -3,7 +3,7 @@
 use Rattle.std.proofs.Common.{◌≡◌, ℕ, ◌==◌, ◌^◌, ◌≤◌, List, [], ◌∷◌, length, map, refl, ap, sym, ◌∙◌, arith}
 use Rattle.std.proofs.lemmas.List.{length-map}
 use Rattle.events.specs.declared.event.Event.{Event}
-use Rattle.history.specs.Denotes.{events_from}
+use Rattle.history.specs.Denotes.{events_of_forms}
 use Rattle.shards.specs.Dividing.{Files, IsDivided, numbered_by, places_from, table_text, with_numbers}
 use Rattle.shards.specs.Forms.{forms_on}
 use Rattle.shards.specs.Shards.{events_on, renamed, renamed_event}
@@ -34,5 +34,5 @@ keeps_numbers shard_of name whole files es own d few all s part ns small table =
     (table ∙ d.tables s) in
     ap (λ xs. with_numbers xs own) are
     ∙ (ap (with_numbers places) (own_is d.split s own part ∙ own_events_are name has d.split.maps d.split.each)
-    ∙ (renamed_numbers name places (events_from 0 (forms_on has forms))
+    ∙ (renamed_numbers name places (events_of_forms 0 (forms_on has forms))
     ∙ ap (renamed name) (numbers_kept has forms ∙ ap (events_on has) (sym (whole_is d.split es all)))))

@@ -2,7 +2,7 @@ pub mod Proper
 pub mod Renumbered
 pub mod RenamedObjects
 pub mod Naming
-pub mod Deciding
+pub mod WholeAndShards
 pub mod WorkedShards
 pub mod FewerMaps
 pub mod FewerForms
@@ -19,7 +19,7 @@ pub mod LinesMore
 pub mod EventsOfMaps
 pub mod WaitingLines
 pub mod FittingObjects
-pub mod Tallied
+pub mod LargeObjects
 pub mod TakingMaps
 pub mod RenamedTexts
 pub mod Flushing

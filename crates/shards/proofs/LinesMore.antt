@@ -6,14 +6,14 @@ use Rattle.std.proofs.lemmas.List.{append-nil}
 use Rattle.std.proofs.lemmas.List.Elements.{filter-append}
 use Rattle.edn_reader.specs.Datum.{Datum}
 use Rattle.shards.specs.Forms.{is_on}
-use Rattle.shards.specs.ShardTexts.{SpelledMap, lines_of}
+use Rattle.shards.specs.ShardTexts.{SpelledMap, map_lines}
 use Rattle.shards.specs.Dividing.{places_from, table_text}
 
 pub lines_push : (ms : List SpelledMap) (m : SpelledMap)
-    → lines_of (ms ++ m ∷ []) ≡ lines_of ms ++ (m.text ++ 10 ∷ [])
+    → map_lines (ms ++ m ∷ []) ≡ map_lines ms ++ (m.text ++ 10 ∷ [])
 lines_push [] m = refl
 lines_push (x ∷ ms) m =
-    ap (λ t. x.text ++ 10 ∷ t) (lines_push ms m) ∙ sym (append_assoc x.text (10 ∷ lines_of ms) (m.text ++ 10 ∷ []))
+    ap (λ t. x.text ++ 10 ∷ t) (lines_push ms m) ∙ sym (append_assoc x.text (10 ∷ map_lines ms) (m.text ++ 10 ∷ []))
 
 pub table_push : (ns : List ℕ) (n : ℕ) → table_text (ns ++ n ∷ []) ≡ table_text ns ++ (decimal n ++ 10 ∷ [])
 table_push [] n = refl

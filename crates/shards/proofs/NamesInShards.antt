@@ -4,7 +4,7 @@ use Rattle.std.proofs.Common.{◌≡◌, ℕ, ◌+◌, ◌-◌, ◌*◌, ◌/◌
 use Rattle.std.proofs.lemmas.Bool.{cases_lt}
 use Rattle.std.proofs.lemmas.Nat.{mod_below, div-add-mod', div-mul-add, mod-mul-add}
 use Rattle.std.proofs.Math.Nat.{add_comm, add-mod_right, add-mod-mod, mod-eq_of_lt, mod-mod}
-use Rattle.shards.specs.Dividing.{IsObjectOf, most_names, name_in_shard, object_named, shard_among}
+use Rattle.shards.specs.Dividing.{IsObjectOfShard, most_names, name_in_shard, object_named, shard_among}
 
 -- the upper part, where it is less than the number of the shards
 upper_with : (q b count : ℕ) → q < count → b < count → ((q + b) % count + (count - b)) % count ≡ q
@@ -67,7 +67,7 @@ named_parts most q name k =
     )
 
 pub object_there : (count shard name : ℕ) → shard < count → name < most_names
-    → IsObjectOf count shard name (object_named count shard name)
+    → IsObjectOfShard count shard name (object_named count shard name)
 object_there count shard name l k =
     let some : 0 < count = omega (arith, l) in
     let r : ℕ = name % most_names % count in

@@ -7,7 +7,7 @@ use Rattle.std.proofs.lemmas.Bool.{ne_eqb}
 use Rattle.std.proofs.lemmas.Nat.{mod_below}
 use Rattle.history.specs.Maps.{ClientMap, client_of}
 use Rattle.shards.specs.Forms.{is_on}
-use Rattle.shards.specs.ShardTexts.{SpelledMap, lines_of}
+use Rattle.shards.specs.ShardTexts.{SpelledMap, map_lines}
 use Rattle.shards.specs.Dividing.{Files, IsDivided, most_names, name_in_shard, shard_among}
 
 module _ (count : ℕ) (some : 0 < count) (s : ℕ) (past : count ≤ s) where
@@ -32,4 +32,4 @@ module _ (count : ℕ) (some : 0 < count) (s : ℕ) (past : count ≤ s) where
 
   pub empty_past : (whole : List ℕ) (files : Files)
       → IsDivided (shard_among count) name_in_shard whole files → files.texts s ≡ []
-  empty_past whole files h = h.split.texts s ∙ ap lines_of (none_of h.split.maps)
+  empty_past whole files h = h.split.texts s ∙ ap map_lines (none_of h.split.maps)

@@ -24,11 +24,11 @@ use Rattle.shards.specs.Folders.{AddsFiles, AddsShards}
 use Rattle.shards.specs.LargeObjects.{AreLarge, maps_on}
 use Rattle.shards.specs.ShardTexts.{SpelledMap}
 use Rattle.shards.specs.SplitFaults.{BeginsWith, EndsPiece, HasTextFault, IsFoundAmong, IsSplitFault, NeedsMoreShards}
-use Rattle.shards.specs.Taking.{AreTaken, AreTakenOf, AreTakenAfter, IsPieceFault, NoneWait, forms_of, with_more}
+use Rattle.shards.specs.Taking.{AreMapsTaken, AreTakenOf, AreTakenAfter, IsPieceFault, NoneWait, forms_of, with_more}
 use Rattle.shards.specs.Tallies.{IsTally}
 use Rattle.shards.specs.UnderWay.{AreUnderWay, EndsInsideForm, IsFaultFrom, IsFaultIn, PassesPiece, ReadsOn, StaysAs}
 use Rattle.shards.specs.UnderWay.{too_long_at}
-use Rattle.judging.proofs.Consuming.{one_more_consumed}
+use Rattle.judging.proofs.ReadSoFar.{one_more_consumed}
 use Rattle.shards.proofs.FittingObjects.{apart_where_fit}
 use Rattle.shards.proofs.Flushing.{adds_both}
 
@@ -75,7 +75,7 @@ stays count d e p q text written same stay h = record {
   parts = h.parts ∙ ap (λ xs. h.front ++ xs) (sym stay.text);
   start = stay.start ∙ h.start;
   lines = h.lines;
-  taken = subst (λ x. AreTaken count x h.maps written) (sym same) h.taken;
+  taken = subst (λ x. AreMapsTaken count x h.maps written) (sym same) h.taken;
 }
 
 -- more of the text was read
@@ -117,7 +117,7 @@ more_so_far count d p q left now left_after files files_after r h = record {
 pub flushed_so_far : (count : ℕ) (d e : Divider) (p q : Pieces) (left left_after : Option (List ℕ))
     (files now files_after : Option Files)
     → ((text : List ℕ) (written : Files) → AreUnderWay count d p text written → AreUnderWay count e q text written)
-    → (f : Divider) → ((maps : List SpelledMap) (written : Files) → AreTaken count e maps written
+    → (f : Divider) → ((maps : List SpelledMap) (written : Files) → AreMapsTaken count e maps written
     → AreTakenAfter count f maps written now files_after)
     → IsDividedSoFar count d p left left_after files now → IsDividedSoFar count f q left left_after files files_after
 flushed_so_far count d e p q left left_after files now files_after divided f flushed h =

@@ -13,7 +13,7 @@ use Rattle.model.proofs.Lists.{pairs_filter, all_from_pairs, pairs_from_all}
 use Rattle.events.specs.declared.event.Action.{Action}
 use Rattle.events.specs.declared.event.Action.TheVariants.{Invoke, Ok, Fail, Info}
 use Rattle.events.specs.declared.event.Event.{Event}
-use Rattle.events.specs.Events.{last_event, kind_at, IsIdle, IsOfKindAt, IsOutstanding, Follows, IsProper}
+use Rattle.events.specs.Events.{last_event, kind_of_object, IsIdle, IsOfKindAt, IsOutstandingCall, Follows, IsProper}
 use Rattle.events.proofs.ProcessRuns.{State, idle, busy, closed, state_by, state_after, MayDo, Runs, last_push}
 use Rattle.events.proofs.ProcessRuns.{runs_from_start}
 use Rattle.shards.specs.Shards.{events_on}
@@ -27,32 +27,32 @@ AreOfKinds kinds es = (e : Event) (op : AnyOp) → In e es → e.action ≡ Invo
 -- an invocation has the kind of its object where those before it on this object have its own
 kind_there : (earlier later : List Event) (e : Event) (op : AnyOp) → e.action ≡ Invoke op
     → ((d : Event) (o : AnyOp) → In d earlier → d.object ≡ e.object → d.action ≡ Invoke o → kind_of o ≡ kind_of op)
-    → kind_at (earlier ++ e ∷ later) e.object ≡ kind_of op
+    → kind_of_object (earlier ++ e ∷ later) e.object ≡ kind_of op
 kind_there [] later e op q same = grind arith
 kind_there (d ∷ earlier) later e op q same =
     let rest = kind_there earlier later e op q (λ c o i. same c o (inr i)) in
     let own = λ (o : AnyOp). same d o (inl refl) in
     grind (arith, nat_tests)
 
-pub proper_of_kinds : (es : List Event) → IsProper es → AreOfKinds (kind_at es) es
+pub proper_of_kinds : (es : List Event) → IsProper es → AreOfKinds (kind_of_object es) es
 proper_of_kinds es proper e op i q =
     let parts = in_split e es i in
     let follows : Follows parts.0 e.process e.object (Invoke op) =
     subst (Follows parts.0 e.process e.object) q (proper.each parts.0 parts.1 e parts.2) in
-    let there : kind_at (parts.0 ++ e ∷ parts.1) e.object ≡ kind_of op =
+    let there : kind_of_object (parts.0 ++ e ∷ parts.1) e.object ≡ kind_of op =
     kind_there parts.0 parts.1 e op q (λ d o j. follows.1 d o (contains_from_in parts.0 d j)) in
-    sym (ap (λ (whole : List Event). kind_at whole e.object) parts.2 ∙ there)
+    sym (ap (λ (whole : List Event). kind_of_object whole e.object) parts.2 ∙ there)
 
 -- ---- from runs to a proper list
 
 idle_after : (last : Option Event) → state_after last ≡ idle → IsIdle last
 idle_after last q = grind arith
 
-outstanding : (last : Option Event) (x : ℕ) (op : AnyOp) → state_after last ≡ busy x op → IsOutstanding last x op
+outstanding : (last : Option Event) (x : ℕ) (op : AnyOp) → state_after last ≡ busy x op → IsOutstandingCall last x op
 outstanding None x op q = absurd (cc q)
 outstanding (Some e) x op q = go e.action refl q
   where
-    go : (a : Action) → e.action ≡ a → state_by e.object a ≡ busy x op → IsOutstanding (Some e) x op
+    go : (a : Action) → e.action ≡ a → state_by e.object a ≡ busy x op → IsOutstandingCall (Some e) x op
     go (Invoke o) r s = let y : e.object ≡ x = cc in let same : o ≡ op = cc in (e, refl, y, r ∙ ap Invoke same)
     go (Ok v) r s = absurd (cc s)
     go Fail r s = absurd (cc s)
@@ -170,7 +170,7 @@ runs_on has p s (e ∷ es) runs = go (has e.object) refl (λ t. runs_on has p t 
         own false q = later s (runs.1 q)
 
 pub proper_on : (has : ℕ → Bool) (es : List Event) → IsProper es → IsProper (events_on has es)
-proper_on has es proper = proper_from (kind_at es) (events_on has es)
+proper_on has es proper = proper_from (kind_of_object es) (events_on has es)
     (all_from_pairs (λ a b. a.number < b.number) (events_on has es) (pairs_filter (λ a b. a.number < b.number)
     (λ e. has e.object) es (pairs_from_all (λ a b. a.number < b.number) es proper.rising)))
     (λ p. runs_on has p idle es (runs_from_start es p proper))

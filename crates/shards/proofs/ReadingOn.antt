@@ -4,7 +4,7 @@ use Rattle.std.proofs.lemmas.List.{append-nil}
 use Rattle.std.proofs.Math.Seq.{take-append_seam}
 use Rattle.std.specs.Io.KnownBytes.{Consumes}
 use Rattle.edn.specs.Given.{GivesBytes}
-use Rattle.judging.proofs.Consuming.{nothing_consumed, one_more_consumed}
+use Rattle.judging.proofs.ReadSoFar.{nothing_consumed, one_more_consumed}
 
 -- what was read of the source since it had so much left, and how the text has grown by it
 pub record IsMore (left left_after : Option (List ℕ)) (text text_after : List ℕ) : Type 0 where

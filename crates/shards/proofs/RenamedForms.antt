@@ -12,7 +12,7 @@ use Rattle.events.specs.declared.event.Action.{Action}
 use Rattle.events.specs.declared.event.Event.{Event}
 use Rattle.events.specs.Events.{IsNamed}
 use Rattle.history.specs.Maps.{ClientMap, client_of, clients}
-use Rattle.history.specs.Denotes.{action_of, event_with, event_of, events_from}
+use Rattle.history.specs.Denotes.{action_of, event_of_map, event_of, events_of_forms}
 use Rattle.history.specs.Faults.{IsFaultlessAtAnyLength}
 use Rattle.history.specs.declared.fault.HistoryFaultKind.TheVariants.{BadValue}
 use Rattle.history.proofs.FirstFaults.{bad_stands}
@@ -77,18 +77,18 @@ have_actions ds faultless d m i q none =
     faultless parts.0 parts.1 d BadValue parts.2 (m, q, bad_stands m.type m none)
 
 event_in : (ds : List Datum) (k : ℕ) → HaveActions ds → (m : ClientMap) → In m (clients ds)
-    → (e : Event) × In e (events_from k ds) × (e.object ≡ m.object)
+    → (e : Event) × In e (events_of_forms k ds) × (e.object ≡ m.object)
 event_in [] k have m i = absurd i
 event_in (d ∷ ds) k have m i = go (client_of d) refl i (λ j. event_in ds (k + 1) (λ x c l. have x c (inr l)) m j)
   where
     later : List Event
-    later = events_from (k + 1) ds
+    later = events_of_forms (k + 1) ds
 
     Found : List Event → Type 0
     Found es = (e : Event) × In e es × (e.object ≡ m.object)
 
     with_action : (c : ClientMap) (a : Option Action) → client_of d ≡ Some c → action_of c.type c ≡ a → m ≡ c
-        → Found (event_with k c a ++ later)
+        → Found (event_of_map k c a ++ later)
     with_action c None q r s = absurd (have d c (inl refl) q r)
     with_action c (Some a) q r s = (
       record { number = k; process = c.process; object = c.object; action = a },
@@ -101,19 +101,20 @@ event_in (d ∷ ds) k have m i = go (client_of d) refl i (λ j. event_in ds (k +
     go None q j rest = rest j
     go (Some c) q j rest = elim j [
       | inl s ↦ with_action c (action_of c.type c) q refl s
-      | inr l ↦ let f = rest l in (f.0, in_right f.0 (event_with k c (action_of c.type c)) later f.1, f.2)
+      | inr l ↦ let f = rest l in (f.0, in_right f.0 (event_of_map k c (action_of c.type c)) later f.1, f.2)
     ]
 
 -- the object of each map of a client is named
 map_named : (ds : List Datum) → IsFaultlessAtAnyLength ds → (m : ClientMap) → In m (clients ds)
-    → IsNamed (events_from 0 ds) m.object
+    → IsNamed (events_of_forms 0 ds) m.object
 map_named ds faultless m i =
     let e = event_in ds 0 (have_actions ds faultless) m i in
-    subst (IsNamed (events_from 0 ds)) e.2
-    (named_in (events_from 0 ds) (proper_at_any_length ds faultless) e.0 e.1)
+    subst (IsNamed (events_of_forms 0 ds)) e.2
+    (named_in (events_of_forms 0 ds) (proper_at_any_length ds faultless) e.0 e.1)
 
 maps_apart : (shard_of name : ℕ → ℕ) (ds : List Datum) → IsFaultlessAtAnyLength ds
-    → AreApart shard_of name (events_from 0 ds) → (s : ℕ) → AreMapsApart name (on (λ x. shard_of x == s) (clients ds))
+    → AreApart shard_of name (events_of_forms 0 ds) → (s : ℕ)
+    → AreMapsApart name (on (λ x. shard_of x == s) (clients ds))
 maps_apart shard_of name ds faultless apart s x y i j q =
     let test = λ (m : ClientMap). shard_of m.object == s in
     apart x.object y.object (map_named ds faultless x (in_filter test x (clients ds) i))
@@ -123,7 +124,7 @@ maps_apart shard_of name ds faultless apart s x y i j q =
 
 pub own_faultless : (shard_of name : ℕ → ℕ) (ms : List SpelledMap) → All (IsSpelled name) ms
     → IsFaultlessAtAnyLength (map (λ m. m.form) ms) → (s : ℕ)
-    → AreApart shard_of name (events_from 0 (map (λ m. m.form) ms))
+    → AreApart shard_of name (events_of_forms 0 (map (λ m. m.form) ms))
     → IsFaultlessAtAnyLength (own_forms_on (λ x. shard_of x == s) ms)
 own_faultless shard_of name ms each faultless s apart =
     let ds = map (λ (m : SpelledMap). m.form) ms in
@@ -139,14 +140,14 @@ own_faultless shard_of name ms each faultless s apart =
 -- ---- events
 
 event_renamed : (name : ℕ → ℕ) (k : ℕ) (m n : ClientMap) (a : Option Action) → IsRenamed name m n
-    → event_with k n a ≡ renamed name (event_with k m a)
+    → event_of_map k n a ≡ renamed name (event_of_map k m a)
 event_renamed name k m n None r = refl
 event_renamed name k m n (Some a) r =
     ap (λ p. record { number = k; process = p; object = n.object; action = a } ∷ []) r.process
     ∙ ap (λ x. record { number = k; process = m.process; object = x; action = a } ∷ []) r.object
 
 events_renamed : (name : ℕ → ℕ) (ds es : List Datum) → AreRenamedForms name ds es → (k : ℕ)
-    → events_from k es ≡ renamed name (events_from k ds)
+    → events_of_forms k es ≡ renamed name (events_of_forms k ds)
 events_renamed name [] [] h k = refl
 events_renamed name (d ∷ ds) (e ∷ es) h k =
     let m = h.0.0 in
@@ -158,12 +159,12 @@ events_renamed name (d ∷ ds) (e ∷ es) h k =
       events_renamed name ds es h.1 (k + 1),
       same_action name m n r,
       event_renamed name k m n (action_of m.type m) r,
-      map-append (renamed_event name) (event_with k m (action_of m.type m)) (events_from (k + 1) ds),
+      map-append (renamed_event name) (event_of_map k m (action_of m.type m)) (events_of_forms (k + 1) ds),
     )
 events_renamed name ds es h k = absurd h
 
 pub own_events_are : (name : ℕ → ℕ) (has : ℕ → Bool) (ms : List SpelledMap) → All (IsSpelled name) ms
-    → events_from 0 (own_forms_on has ms) ≡ renamed name (events_from 0 (forms_on has (map (λ m. m.form) ms)))
+    → events_of_forms 0 (own_forms_on has ms) ≡ renamed name (events_of_forms 0 (forms_on has (map (λ m. m.form) ms)))
 own_events_are name has ms each = events_renamed name (forms_on has (map (λ m. m.form) ms)) (own_forms_on has ms)
     (own_renamed name has ms each) 0
 
@@ -174,11 +175,11 @@ said_renamed name [] = refl
 said_renamed name (e ∷ es) = ap (λ ts. (e.process, name e.object, e.action) ∷ ts) (said_renamed name es)
 
 pub own_said : (name : ℕ → ℕ) (has : ℕ → Bool) (ms : List SpelledMap) → All (IsSpelled name) ms
-    → map said (events_from 0 (own_forms_on has ms))
-    ≡ map said (renamed name (events_on has (events_from 0 (map (λ m. m.form) ms))))
+    → map said (events_of_forms 0 (own_forms_on has ms))
+    ≡ map said (renamed name (events_on has (events_of_forms 0 (map (λ m. m.form) ms))))
 own_said name has ms each =
     let ds = map (λ (m : SpelledMap). m.form) ms in
     ap (map said) (own_events_are name has ms each)
-    ∙ (said_renamed name (events_from 0 (forms_on has ds))
+    ∙ (said_renamed name (events_of_forms 0 (forms_on has ds))
     ∙ (ap (map (λ (t : ℕ × ℕ × Action). (t.0, name t.1, t.2))) (said_on has ds 0 0)
-    ∙ sym (said_renamed name (events_on has (events_from 0 ds)))))
+    ∙ sym (said_renamed name (events_on has (events_of_forms 0 ds)))))

@@ -9,7 +9,7 @@ use Rattle.seq_objects.specs.Values.{op_with, reply_with}
 use Rattle.events.specs.declared.event.Action.TheVariants.{Invoke, Ok}
 use Rattle.history.specs.Maps.{ClientMap, MapType, invoke, ok, fail, info, op_in, plain_value, reply_in}
 use Rattle.history.specs.Denotes.{action_of}
-use Rattle.history.specs.Faults.{last_map, Differs, IsClosed, IsOutstanding, ClientFault, HasBadValue}
+use Rattle.history.specs.Faults.{last_map, CompletionDiffers, IsProcessClosed, HasOutstanding, ClientFault, HasBadValue}
 use Rattle.history.specs.declared.fault.HistoryFaultKind.{HistoryFaultKind}
 use Rattle.history.specs.declared.fault.HistoryFaultKind.TheVariants.{NotAnOperation, UnknownF, BadValue, MixedKinds}
 use Rattle.history.specs.declared.fault.HistoryFaultKind.TheVariants.{Busy, Stray, Mismatch, AfterInfo, TooMany}
@@ -91,8 +91,8 @@ module _ (name : ℕ → ℕ) where
   last_after m (Some n) h = (n, refl, h)
 
   module _ (ms ns : List ClientMap) (h : AreRenamedMaps name ms ns) where
-    outstanding_before : (p q : ℕ) (o : ClientMap) → q ≡ p → IsOutstanding ns q o
-        → (m : ClientMap) × IsOutstanding ms p m × IsRenamed name m o
+    outstanding_before : (p q : ℕ) (o : ClientMap) → q ≡ p → HasOutstanding ns q o
+        → (m : ClientMap) × HasOutstanding ms p m × IsRenamed name m o
     outstanding_before p q o same out =
         let last = last_before (last_map p ms) o
         (subst (AreBoth name (last_map p ms)) (ap (λ k. last_map k ns) (sym same) ∙ out.last)
@@ -102,14 +102,14 @@ module _ (name : ℕ → ℕ) where
           last.2,
         )
 
-    outstanding_after : (p q : ℕ) (o : ClientMap) → q ≡ p → IsOutstanding ms p o
-        → (n : ClientMap) × IsOutstanding ns q n
+    outstanding_after : (p q : ℕ) (o : ClientMap) → q ≡ p → HasOutstanding ms p o
+        → (n : ClientMap) × HasOutstanding ns q n
     outstanding_after p q o same out =
         let last = last_after o (last_map q ns)
         (subst (λ x. AreBoth name x (last_map q ns)) (ap (λ k. last_map k ms) same ∙ out.last) (both_last q ms ns h)) in
         (last.0, record { last = last.1; invoked = last.2.type ∙ out.invoked })
 
-    closed_before : (p q : ℕ) → q ≡ p → IsClosed ns q → IsClosed ms p
+    closed_before : (p q : ℕ) → q ≡ p → IsProcessClosed ns q → IsProcessClosed ms p
     closed_before p q same c =
         let m = in_before ms ns h c.map (in_from_contains ns c.map c.stands) in
         record {
@@ -119,7 +119,7 @@ module _ (name : ℕ → ℕ) where
           unknown = sym m.2.type ∙ c.unknown;
         }
 
-    closed_after : (p q : ℕ) → q ≡ p → IsClosed ms p → IsClosed ns q
+    closed_after : (p q : ℕ) → q ≡ p → IsProcessClosed ms p → IsProcessClosed ns q
     closed_after p q same c =
         let n = in_after ms ns h c.map (in_from_contains ms c.map c.stands) in
         record {
@@ -165,7 +165,7 @@ fine_renamed : (name : ℕ → ℕ) (ms ns : List ClientMap) (m n : ClientMap) �
     → IsRenamed name m n → IsApart name ms m → IsFine ms m → IsFine ns n
 fine_renamed name ms ns m n h r apart fine = go
   where
-    differs : (o x : ClientMap) → IsRenamed name o x → Differs x n → Differs o m
+    differs : (o x : ClientMap) → IsRenamed name o x → CompletionDiffers x n → CompletionDiffers o m
     differs o x s d = elim d [
       | inl ne ↦ inl (λ e. ne (s.function ∙ (e ∙ sym r.function)))
       | inr ne ↦ inr (λ e. ne (s.object ∙ (ap name e ∙ sym r.object)))

@@ -15,7 +15,7 @@ use Rattle.locality.proofs.OneKind.{named_kinds, orders_of_kinds}
 use Rattle.events.specs.declared.event.Action.{Action}
 use Rattle.events.specs.declared.event.Action.TheVariants.{Invoke, Ok, Fail, Info}
 use Rattle.events.specs.declared.event.Event.{Event}
-use Rattle.events.specs.Events.{denoted, kind_in, kind_at, next_event, IsNamed, IsProper}
+use Rattle.events.specs.Events.{denoted, kind_in_action, kind_of_object, next_event, IsNamed, IsProper}
 use Rattle.events.specs.Operations.{begun, calls_of, end_at, operations_on}
 use Rattle.events.proofs.ProcessRuns.{State, idle, busy, closed, state_by, MayDo, Runs, runs_from_start}
 use Rattle.events.proofs.Calls.{proper_calls}
@@ -107,11 +107,13 @@ operations_same name x (e ∷ es) apart =
     (same_test name e.object x (apart e (inl refl))))
 
 kind_same : (name : ℕ → ℕ) (x : ℕ) (es : List Event) → IsApart name x es
-    → kind_at (renamed name es) (name x) ≡ kind_at es x
+    → kind_of_object (renamed name es) (name x) ≡ kind_of_object es x
 kind_same name x [] apart = refl
 kind_same name x (e ∷ es) apart =
-    ap (λ k. cond (name e.object == name x) (kind_in e.action k) k) (kind_same name x es (λ d i. apart d (inr i)))
-    ∙ ap (λ b. cond b (kind_in e.action (kind_at es x)) (kind_at es x)) (same_test name e.object x (apart e (inl refl)))
+    ap (λ k. cond (name e.object == name x) (kind_in_action e.action k) k)
+    (kind_same name x es (λ d i. apart d (inr i)))
+    ∙ ap (λ b. cond b (kind_in_action e.action (kind_of_object es x)) (kind_of_object es x))
+    (same_test name e.object x (apart e (inl refl)))
 
 -- ---- renamed events are proper
 
@@ -147,7 +149,7 @@ module _ (name : ℕ → ℕ) (es : List Event) (proper : IsProper es) (own : Ha
   apart_at e i d j = own d.object e.object (named_in es proper d j) (named_in es proper e i)
 
   pub renamed_proper : IsProper (renamed name es)
-  renamed_proper = proper_from (kind_at (renamed name es)) (renamed name es)
+  renamed_proper = proper_from (kind_of_object (renamed name es)) (renamed name es)
       (all_from_pairs (λ a b. a.number < b.number) (renamed name es)
       (pairs_map (λ a b. a.number < b.number) (renamed_event name) es
       (pairs_from_all (λ a b. a.number < b.number) es proper.rising)))
@@ -156,7 +158,7 @@ module _ (name : ℕ → ℕ) (es : List Event) (proper : IsProper es) (own : Ha
       let e = in_map (renamed_event name) f es i in
       proper_of_kinds es proper e.0 op e.1 (sym (ap (λ (x : Event). x.action) e.2) ∙ q)
       ∙ (sym (kind_same name e.0.object es (apart_at e.0 e.1))
-      ∙ ap (λ (x : Event). kind_at (renamed name es) x.object) (sym e.2)))
+      ∙ ap (λ (x : Event). kind_of_object (renamed name es) x.object) (sym e.2)))
 
 -- ---- orders
 
@@ -164,13 +166,13 @@ abbrev pub Ordered : Kind → List Call → Type 0
 Ordered kind calls = (order : List ℤ) × IsValidOrderOf (any kind) calls order
 
 abbrev pub OrderedAt : List Event → ℕ → Type 0
-OrderedAt es x = Ordered (kind_at es x) (calls_on x (denoted es))
+OrderedAt es x = Ordered (kind_of_object es x) (calls_on x (denoted es))
 
 -- an order of the same calls, for the same kind
-pub ordered_same : (es fs : List Event) (x y : ℕ) → kind_at es x ≡ kind_at fs y
+pub ordered_same : (es fs : List Event) (x y : ℕ) → kind_of_object es x ≡ kind_of_object fs y
     → calls_on x (denoted es) ≡ calls_on y (denoted fs) → OrderedAt es x → OrderedAt fs y
 ordered_same es fs x y kind calls o =
-    subst (λ k. Ordered k (calls_on y (denoted fs))) kind (subst (Ordered (kind_at es x)) calls o)
+    subst (λ k. Ordered k (calls_on y (denoted fs))) kind (subst (Ordered (kind_of_object es x)) calls o)
 
 -- an event on an object, if there is one
 event_on : (x : ℕ) (es : List Event)
@@ -212,7 +214,7 @@ module _ (name : ℕ → ℕ) (es : List Event) (proper : IsProper es) (own : Ha
   others_proper : IsProper others
   others_proper = renamed_proper name es proper own
 
-  kinds_at : (e : Event) → In e es → kind_at others (name e.object) ≡ kind_at es e.object
+  kinds_at : (e : Event) → In e es → kind_of_object others (name e.object) ≡ kind_of_object es e.object
   kinds_at e i = kind_same name e.object es (apart_at name es proper own e i)
 
   calls_at : (e : Event) → In e es → calls_on (name e.object) (denoted others) ≡ calls_on e.object (denoted es)
@@ -223,9 +225,9 @@ module _ (name : ℕ → ℕ) (es : List Event) (proper : IsProper es) (own : Ha
 
   pub renamed_linearizable : DenoteLinearizable es → DenoteLinearizable others
   renamed_linearizable l =
-      let orders = orders_of_kinds (kind_at es) (denoted es) (denoted_is_history es proper) l in
-      named_kinds (kind_at others) (denoted others) (denoted_is_history others others_proper)
-      (all_from_in (λ (c : ProcessCall). HasValidOrder (kind_at others) (denoted others) c.object)
+      let orders = orders_of_kinds (kind_of_object es) (denoted es) (denoted_is_history es proper) l in
+      named_kinds (kind_of_object others) (denoted others) (denoted_is_history others others_proper)
+      (all_from_in (λ (c : ProcessCall). HasValidOrder (kind_of_object others) (denoted others) c.object)
       (calls_in (denoted others))
       (λ c i.
       let f = called_in others others_proper c i in
@@ -236,9 +238,11 @@ module _ (name : ℕ → ℕ) (es : List Event) (proper : IsProper es) (own : Ha
 
   pub linearizable_renamed : DenoteLinearizable others → DenoteLinearizable es
   linearizable_renamed l =
-      let orders = orders_of_kinds (kind_at others) (denoted others) (denoted_is_history others others_proper) l in
-      named_kinds (kind_at es) (denoted es) (denoted_is_history es proper)
-      (all_from_in (λ (c : ProcessCall). HasValidOrder (kind_at es) (denoted es) c.object) (calls_in (denoted es))
+      let orders = orders_of_kinds (kind_of_object others) (denoted others) (denoted_is_history others others_proper)
+      l in
+      named_kinds (kind_of_object es) (denoted es) (denoted_is_history es proper)
+      (all_from_in (λ (c : ProcessCall). HasValidOrder (kind_of_object es) (denoted es) c.object)
+      (calls_in (denoted es))
       (λ c i.
       let e = called_in es proper c i in
       subst (OrderedAt es) e.2

@@ -12,7 +12,8 @@ use Rattle.model.specs.Orders.{Numbered, events}
 use Rattle.model.proofs.Lists.{In}
 use Rattle.events.specs.declared.event.Action.{Action}
 use Rattle.events.specs.declared.event.Event.{Event}
-use Rattle.events.specs.Events.{next_event, is_fail, fails, denoted_by, denoted, kind_in, kind_at, IsProper}
+use Rattle.events.specs.Events.{next_event, is_fail, fails, denoted_by, denoted, kind_in_action, kind_of_object}
+use Rattle.events.specs.Events.{IsProper}
 use Rattle.events.proofs.ProcessRuns.{State, idle, state_by, MayDo, Runs, runs_from_start}
 use Rattle.shards.specs.Shards.{said, AreRenumbered, DenoteLinearizable}
 use Rattle.shards.proofs.Proper.{proper_of_kinds, proper_from}
@@ -52,20 +53,20 @@ runs_same p es fs same s h = absurd same
 pub proper_renumbered : (es others : List Event) → IsProper es → AreRenumbered es others → IsProper others
 proper_renumbered es others proper renumbered =
     let same = same_from es others (sym renumbered.same) in
-    proper_from (kind_at es) others renumbered.rising
+    proper_from (kind_of_object es) others renumbered.rising
     (λ p. runs_same p es others same idle (runs_from_start es p proper))
     (λ f op i q.
     let e = in_same es others same f i in
-    proper_of_kinds es proper e.0 op e.1 (ap (λ t. t.2) e.2 ∙ q) ∙ ap (λ t. kind_at es t.1) e.2)
+    proper_of_kinds es proper e.0 op e.1 (ap (λ t. t.2) e.2 ∙ q) ∙ ap (λ t. kind_of_object es t.1) e.2)
 
 -- ---- what it denotes
 
 -- each object has the same kind
-pub kinds_same : (x : ℕ) (es fs : List Event) → AreSame es fs → kind_at es x ≡ kind_at fs x
+pub kinds_same : (x : ℕ) (es fs : List Event) → AreSame es fs → kind_of_object es x ≡ kind_of_object fs x
 kinds_same x [] [] same = refl
 kinds_same x (e ∷ es) (f ∷ fs) same =
-    ap (λ k. cond (e.object == x) (kind_in e.action k) k) (kinds_same x es fs same.1)
-    ∙ ap (λ t. cond (t.1 == x) (kind_in t.2 (kind_at fs x)) (kind_at fs x)) same.0
+    ap (λ k. cond (e.object == x) (kind_in_action e.action k) k) (kinds_same x es fs same.1)
+    ∙ ap (λ t. cond (t.1 == x) (kind_in_action t.2 (kind_of_object fs x)) (kind_of_object fs x)) same.0
 kinds_same x es fs same = absurd same
 
 -- each operation that is outstanding fails in both or in neither
@@ -121,5 +122,5 @@ with_kinds kinds others h same l = record {
 }
 
 pub linearizable_same : (es fs : List Event) → AreSame es fs → DenoteLinearizable es → DenoteLinearizable fs
-linearizable_same es fs same l = subst (IsLinearizable (kind_at fs)) (history_same es fs same)
-    (with_kinds (kind_at es) (kind_at fs) (events (denoted es)) (λ x. kinds_same x es fs same) l)
+linearizable_same es fs same l = subst (IsLinearizable (kind_of_object fs)) (history_same es fs same)
+    (with_kinds (kind_of_object es) (kind_of_object fs) (events (denoted es)) (λ x. kinds_same x es fs same) l)

@@ -15,7 +15,7 @@ use Rattle.edn_reader.proofs.Decimals.{decimal_is}
 use Rattle.events.specs.declared.event.Action.{Action}
 use Rattle.events.specs.declared.event.Event.{Event}
 use Rattle.history.specs.Maps.{ClientMap, client_of}
-use Rattle.history.specs.Denotes.{action_of, event_with, event_of, events_from}
+use Rattle.history.specs.Denotes.{action_of, event_of_map, event_of, events_of_forms}
 use Rattle.shards.specs.Dividing.{numbered_by, places_from, table_text, with_numbers}
 use Rattle.shards.specs.Forms.{forms_on, is_on}
 use Rattle.shards.specs.Shards.{events_on}
@@ -82,8 +82,8 @@ places_small n has (d ∷ ds) most h = All-append (λ k. k < most) (place_if (is
 
 -- the event of a map that is kept gets its place
 event_placed : (has : ℕ → Bool) (before later : List ℕ) (n : ℕ) (m : ClientMap) (a : Option Action)
-    → has m.object ≡ true → with_numbers (before ++ n ∷ later) (event_with (length before) m a)
-    ≡ events_on has (event_with n m a)
+    → has m.object ≡ true → with_numbers (before ++ n ∷ later) (event_of_map (length before) m a)
+    ≡ events_on has (event_of_map n m a)
 event_placed has before later n m None own = refl
 event_placed has before later n m (Some a) own =
     let e : Event = record { number = n; process = m.process; object = m.object; action = a } in
@@ -92,7 +92,7 @@ event_placed has before later n m (Some a) own =
 
 -- the event of a map that is not kept is on none of the objects
 event_left : (has : ℕ → Bool) (n : ℕ) (m : ClientMap) (a : Option Action) → has m.object ≡ false
-    → events_on has (event_with n m a) ≡ []
+    → events_on has (event_of_map n m a) ≡ []
 event_left has n m None other = refl
 event_left has n m (Some a) other =
     let e : Event = record { number = n; process = m.process; object = m.object; action = a } in
@@ -113,41 +113,41 @@ form_placed has before later n (Some m) own = event_placed has before later n m 
 
 -- the events of the forms that are kept, after forms with these places
 numbers_after : (has : ℕ → Bool) (before : List ℕ) (n : ℕ) (ds : List Datum)
-    → with_numbers (before ++ places_from n has ds) (events_from (length before) (forms_on has ds))
-    ≡ events_on has (events_from n ds)
+    → with_numbers (before ++ places_from n has ds) (events_of_forms (length before) (forms_on has ds))
+    ≡ events_on has (events_of_forms n ds)
 numbers_after has before n [] = refl
 numbers_after has before n (d ∷ ds) = go (is_on has d) refl (numbers_after has before (n + 1) ds)
     (numbers_after has (before ++ n ∷ []) (n + 1) ds)
   where
-    rest : events_on has (event_of n (client_of d) ++ events_from (n + 1) ds)
-        ≡ events_on has (event_of n (client_of d)) ++ events_on has (events_from (n + 1) ds)
-    rest = filter-append (λ (e : Event). has e.object) (event_of n (client_of d)) (events_from (n + 1) ds)
+    rest : events_on has (event_of n (client_of d) ++ events_of_forms (n + 1) ds)
+        ≡ events_on has (event_of n (client_of d)) ++ events_on has (events_of_forms (n + 1) ds)
+    rest = filter-append (λ (e : Event). has e.object) (event_of n (client_of d)) (events_of_forms (n + 1) ds)
 
     go : (b : Bool) → is_on has d ≡ b
-        → with_numbers (before ++ places_from (n + 1) has ds) (events_from (length before) (forms_on has ds))
-        ≡ events_on has (events_from (n + 1) ds)
+        → with_numbers (before ++ places_from (n + 1) has ds) (events_of_forms (length before) (forms_on has ds))
+        ≡ events_on has (events_of_forms (n + 1) ds)
         → with_numbers ((before ++ n ∷ []) ++ places_from (n + 1) has ds)
-        (events_from (length (before ++ n ∷ [])) (forms_on has ds)) ≡ events_on has (events_from (n + 1) ds)
+        (events_of_forms (length (before ++ n ∷ [])) (forms_on has ds)) ≡ events_on has (events_of_forms (n + 1) ds)
         → with_numbers (before ++ (place_if b n ++ places_from (n + 1) has ds))
-        (events_from (length before) (cond b (d ∷ forms_on has ds) (forms_on has ds)))
-        ≡ events_on has (event_of n (client_of d) ++ events_from (n + 1) ds)
+        (events_of_forms (length before) (cond b (d ∷ forms_on has ds) (forms_on has ds)))
+        ≡ events_on has (event_of n (client_of d) ++ events_of_forms (n + 1) ds)
     go false q skipped kept =
         skipped
-        ∙ sym (rest ∙ ap (λ es. es ++ events_on has (events_from (n + 1) ds)) (form_left has n (client_of d) q))
+        ∙ sym (rest ∙ ap (λ es. es ++ events_on has (events_of_forms (n + 1) ds)) (form_left has n (client_of d) q))
     go true q skipped kept =
         let later = places_from (n + 1) has ds in
         let own = before ++ n ∷ later in
         let forms = forms_on has ds in
         let k = length before in
-        map-append (numbered_by own) (event_of k (client_of d)) (events_from (k + 1) forms)
-        ∙ (ap (λ es. es ++ with_numbers own (events_from (k + 1) forms))
+        map-append (numbered_by own) (event_of k (client_of d)) (events_of_forms (k + 1) forms)
+        ∙ (ap (λ es. es ++ with_numbers own (events_of_forms (k + 1) forms))
         (form_placed has before later n (client_of d) q)
         ∙ (ap (λ es. events_on has (event_of n (client_of d)) ++ es)
-        (ap (λ ns. with_numbers ns (events_from (k + 1) forms)) (sym (append_assoc before (n ∷ []) later))
-        ∙ (ap (λ j. with_numbers ((before ++ n ∷ []) ++ later) (events_from j forms)) (sym (length_push before n))
+        (ap (λ ns. with_numbers ns (events_of_forms (k + 1) forms)) (sym (append_assoc before (n ∷ []) later))
+        ∙ (ap (λ j. with_numbers ((before ++ n ∷ []) ++ later) (events_of_forms j forms)) (sym (length_push before n))
         ∙ kept))
         ∙ sym rest))
 
 pub numbers_kept : (has : ℕ → Bool) (ds : List Datum)
-    → with_numbers (places_from 0 has ds) (events_from 0 (forms_on has ds)) ≡ events_on has (events_from 0 ds)
+    → with_numbers (places_from 0 has ds) (events_of_forms 0 (forms_on has ds)) ≡ events_on has (events_of_forms 0 ds)
 numbers_kept has ds = numbers_after has [] 0 ds

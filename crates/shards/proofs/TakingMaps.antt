@@ -25,18 +25,19 @@ use Rattle.shards.specs.declared.fault.PieceFault.TheVariants.{Malformed, FewSha
 use Rattle.shards.specs.declared.waiting.Waiting.{Waiting}
 use Rattle.shards.specs.Forms.{is_on}
 use Rattle.shards.specs.LargeObjects.{maps_on}
-use Rattle.shards.specs.ShardTexts.{IsSpelled, SaysRenamed, SpelledMap, lines_of, maps_of_shard}
-use Rattle.shards.specs.Dividing.{Files, Fits, FitsAmong, most_names, name_in_shard, places_from, shard_among}
+use Rattle.shards.specs.ShardTexts.{IsSpelled, SaysRenamed, SpelledMap, map_lines, maps_of_shard}
+use Rattle.shards.specs.Dividing.{Files, ObjectFits, FitsAmong, most_names, name_in_shard, places_from, shard_among}
 use Rattle.shards.specs.Dividing.{table_text}
 use Rattle.history.specs.Faults.{IsFaultlessAtAnyLength}
 use Rattle.shards.specs.SplitFaults.{IsFoundAmong, NeedsMoreShards, most_maps}
-use Rattle.shards.specs.Taking.{AddsLine, AddsMap, AreTaken, AreTakenOf, AreTakenWith, IsMapFoundAmong, IsPieceFault}
-use Rattle.shards.specs.Taking.{count_in, forms_of, waiting_maps, waiting_places}
+use Rattle.shards.specs.Taking.{AddsLine, AddsMap, AreMapsTaken, AreTakenOf, AreTakenWith, IsMapFoundAmong}
+use Rattle.shards.specs.Taking.{IsPieceFault}
+use Rattle.shards.specs.Taking.{maps_in, forms_of, waiting_maps, waiting_places}
 use Rattle.shards.specs.Tallies.{CountsOne, IsTally}
 use Rattle.shards.proofs.BareMaps.{bare_spells}
 use Rattle.shards.proofs.LinesMore.{lines_push, table_push, filter_kept, filter_left, places_kept, places_left}
 use Rattle.shards.proofs.EventsOfMaps.{on_object, on_none}
-use Rattle.shards.proofs.Tallied.{tally_same}
+use Rattle.shards.proofs.LargeObjects.{tally_same}
 
 pub forms_push : (maps : List SpelledMap) (m : SpelledMap) → forms_of (maps ++ m ∷ []) ≡ forms_of maps ++ m.form ∷ []
 forms_push maps m = map-append (λ (x : SpelledMap). x.form) maps (m ∷ [])
@@ -51,16 +52,16 @@ module _ (count s : ℕ) (maps : List SpelledMap) (m : SpelledMap) where
   on x = is_on has x.form
 
   abbrev own_text : List SpelledMap → List ℕ
-  own_text ms = lines_of (maps_of_shard (shard_among count) s ms)
+  own_text ms = map_lines (maps_of_shard (shard_among count) s ms)
 
   abbrev own_table : List SpelledMap → List ℕ
   own_table ms = table_text (places_from 0 has (forms_of ms))
 
   text_kept : on m ≡ true → own_text (maps ++ m ∷ []) ≡ own_text maps ++ (m.text ++ 10 ∷ [])
-  text_kept q = ap lines_of (filter_kept on maps m q) ∙ lines_push (maps_of_shard (shard_among count) s maps) m
+  text_kept q = ap map_lines (filter_kept on maps m q) ∙ lines_push (maps_of_shard (shard_among count) s maps) m
 
   text_left : on m ≡ false → own_text (maps ++ m ∷ []) ≡ own_text maps
-  text_left q = ap lines_of (filter_left on maps m q)
+  text_left q = ap map_lines (filter_left on maps m q)
 
   places_push : places_from 0 has (forms_of (maps ++ m ∷ [])) ≡ places_from 0 has (forms_of maps ++ m.form ∷ [])
   places_push = ap (places_from 0 has) (forms_push maps m)
@@ -113,7 +114,7 @@ says_by k x d e c client on_object name h =
 
 -- the map of no client
 pub taken_unseen : (count : ℕ) (old new : Divider) (maps : List SpelledMap) (written : Files) (d : Datum)
-    → AreTaken count old maps written → AreReadAtAnyLength new.reader (forms_of maps ++ d ∷ [])
+    → AreMapsTaken count old maps written → AreReadAtAnyLength new.reader (forms_of maps ++ d ∷ [])
     → client_of d ≡ None → new.shards ≡ old.shards → new.tally ≡ old.tally
     → new.waiting.items ≡ old.waiting.items
     → AreTakenWith d count new maps written
@@ -125,7 +126,7 @@ taken_unseen count old new maps written d h read none shards tally same =
         shards = shards ∙ h.shards;
         read = read_more maps m new read;
         each = All-push (IsSpelled name_in_shard) maps m h.each (λ c q. absurd (cc (q, none)));
-        fit = All-push (Fits count) maps m h.fit (λ c q. absurd (cc (q, none)));
+        fit = All-push (ObjectFits count) maps m h.fit (λ c q. absurd (cc (q, none)));
         tally = subst (λ t. IsTally t (maps_on (maps ++ m ∷ []))) (sym tally)
             (tally_same old.tally (maps_on maps) (maps_on (maps ++ m ∷ [])) h.tally
             (λ y. ap length (filter_left (λ k. is_on (λ z. z == y) k.form) maps m (on_none (λ z. z == y) d none))));
@@ -169,8 +170,8 @@ module _ (count : ℕ) (old new : Divider) (maps : List SpelledMap) (written : F
     on_other : OnObject → (s : ℕ) → s ≢ i → is_on (λ y. shard_among count y == s) m.form ≡ false
     on_other own s ne = seen own s ∙ ne_eqb i s (λ q. ne (sym q))
 
-    text_more : OnObject → AreTaken count old maps written → AddsLine i m.text place before after → (s : ℕ)
-        → written.texts s ++ waiting_maps after s ≡ lines_of (maps_of_shard (shard_among count) s (maps ++ m ∷ []))
+    text_more : OnObject → AreMapsTaken count old maps written → AddsLine i m.text place before after → (s : ℕ)
+        → written.texts s ++ waiting_maps after s ≡ map_lines (maps_of_shard (shard_among count) s (maps ++ m ∷ []))
     text_more own h a s = elim (cases_eq s i) [
       | inl q ↦ cc (
         a.maps,
@@ -181,7 +182,7 @@ module _ (count : ℕ) (old new : Divider) (maps : List SpelledMap) (written : F
       | inr ne ↦ cc (a.other_maps s ne, h.texts s, text_left count s maps m (on_other own s ne))
     ]
 
-    table_more : OnObject → AreTaken count old maps written → AddsLine i m.text place before after
+    table_more : OnObject → AreMapsTaken count old maps written → AddsLine i m.text place before after
         → place ≡ length (forms_of maps) → (s : ℕ) → written.tables s ++ waiting_places after s
         ≡ table_text (places_from 0 (λ y. shard_among count y == s) (forms_of (maps ++ m ∷ [])))
     table_more own h a is s = elim (cases_eq s i) [
@@ -194,22 +195,22 @@ module _ (count : ℕ) (old new : Divider) (maps : List SpelledMap) (written : F
       | inr ne ↦ cc (a.other_places s ne, h.tables s, table_left count s maps m (on_other own s ne))
     ]
 
-    count_more : OnObject → AreTaken count old maps written → AddsLine i m.text place before after → (s : ℕ)
-        → s < count → count_in after s ≡ length (maps_of_shard (shard_among count) s (maps ++ m ∷ []))
+    count_more : OnObject → AreMapsTaken count old maps written → AddsLine i m.text place before after → (s : ℕ)
+        → s < count → maps_in after s ≡ length (maps_of_shard (shard_among count) s (maps ++ m ∷ []))
     count_more own h a s l = elim (cases_eq s i) [
       | inl q ↦ cc (a.count, h.counts s l, count_kept count s maps m (on_own own s q))
       | inr ne ↦ cc (a.other_counts s ne, h.counts s l, count_left count s maps m (on_other own s ne))
     ]
 
-    taken_line : AreTaken count old maps written → AreReadAtAnyLength new.reader (forms_of maps ++ m.form ∷ [])
+    taken_line : AreMapsTaken count old maps written → AreReadAtAnyLength new.reader (forms_of maps ++ m.form ∷ [])
         → IsSpelled name_in_shard m → OnObject → x / most_names < count → place ≡ length (forms_of maps)
         → new.shards ≡ old.shards → CountsOne x old.tally new.tally → AddsLine i m.text place before after
-        → AreTaken count new (maps ++ m ∷ []) written
+        → AreMapsTaken count new (maps ++ m ∷ []) written
     taken_line h read spells own fits is shards counts a = record {
       shards = shards ∙ h.shards;
       read = read_more maps m new read;
       each = All-push (IsSpelled name_in_shard) maps m h.each spells;
-      fit = All-push (Fits count) maps m h.fit
+      fit = All-push (ObjectFits count) maps m h.fit
           (λ c q. subst (λ y. y / most_names < count)
           (sym (ap (λ (k : ClientMap). k.object) (same_Some c own.0 (sym q ∙ own.1)) ∙ own.2)) fits);
       tally = counts (maps_on maps) (maps_on (maps ++ m ∷ [])) h.tally (on_one x maps m own.0 own.1 own.2)
@@ -220,7 +221,7 @@ module _ (count : ℕ) (old new : Divider) (maps : List SpelledMap) (written : F
     }
 
 pub taken_map : (count : ℕ) (old new : Divider) (maps : List SpelledMap) (written : Files) (d : Datum)
-    (c : ClientMap) (place : ℕ) → AreTaken count old maps written
+    (c : ClientMap) (place : ℕ) → AreMapsTaken count old maps written
     → AreReadAtAnyLength new.reader (forms_of maps ++ d ∷ []) → client_of d ≡ Some c
     → c.object / most_names < old.shards → place ≡ length (forms_of maps) → new.shards ≡ old.shards
     → CountsOne c.object old.tally new.tally
@@ -271,14 +272,14 @@ pub record AreTakenUpTo (i : ℕ) (ds : List Datum) (count : ℕ) (d : Divider) 
     (written : Files) : Type 0 where
   pub more : List SpelledMap
   pub are : forms_of more ≡ take i ds
-  pub taken : AreTaken count d (maps ++ more) written
+  pub taken : AreMapsTaken count d (maps ++ more) written
 
 pub none_taken : (ds : List Datum) (count : ℕ) (d : Divider) (maps : List SpelledMap) (written : Files)
-    → AreTaken count d maps written → AreTakenUpTo 0 ds count d maps written
+    → AreMapsTaken count d maps written → AreTakenUpTo 0 ds count d maps written
 none_taken ds count d maps written h = record {
   more = [];
   are = refl;
-  taken = subst (λ xs. AreTaken count d xs written) (sym (append-nil maps)) h;
+  taken = subst (λ xs. AreMapsTaken count d xs written) (sym (append-nil maps)) h;
 }
 
 -- one more was taken
@@ -286,7 +287,7 @@ pub map_taken : (count : ℕ) (mid new : Divider) (maps : List SpelledMap) (writ
     (ds : List Datum) (i : ℕ) (z : MapText) (text : List ℕ) → AreMapTexts ms ds → i < length ms
     → text ≡ skip (get_or ms i z).text.now
     → ((more : List SpelledMap) (d : Datum) → Says (get_or ms i z).said d → Spells (d ∷ []) text
-    → AreTaken count mid more written → AreTakenWith d count new more written)
+    → AreMapsTaken count mid more written → AreTakenWith d count new more written)
     → AreTakenUpTo i ds count mid maps written → AreTakenUpTo (i + 1) ds count new maps written
 map_taken count mid new maps written ms ds i z text h l bare take_one t =
     let n = next_map ms ds i z h l in
@@ -297,7 +298,7 @@ map_taken count mid new maps written ms ds i z text h l bare take_one t =
       more = t.more ++ one.0 ∷ [];
       are = forms_push t.more one.0 ∙ (ap (λ d. forms_of t.more ++ d ∷ []) one.1
           ∙ (ap (λ xs. xs ++ n.form ∷ []) t.are ∙ sym n.more));
-      taken = subst (λ xs. AreTaken count new xs written) (append_assoc maps t.more (one.0 ∷ [])) one.2;
+      taken = subst (λ xs. AreMapsTaken count new xs written) (append_assoc maps t.more (one.0 ∷ [])) one.2;
     }
 
 -- all maps of the piece were taken
@@ -371,10 +372,11 @@ unfit_last count ds d c faultless client unfit fit = record {
 }
 
 -- the forms of maps fit where the maps do
-pub forms_fit : (count : ℕ) (maps : List SpelledMap) → All (Fits count) maps → All (FitsAmong count) (forms_of maps)
+pub forms_fit : (count : ℕ) (maps : List SpelledMap) → All (ObjectFits count) maps
+    → All (FitsAmong count) (forms_of maps)
 forms_fit count maps fit = all_from_in (FitsAmong count) (forms_of maps) (λ d i.
     let m = in_map (λ (x : SpelledMap). x.form) d maps i in
-    subst (FitsAmong count) (sym m.2) (all_at (Fits count) maps fit m.0 m.1))
+    subst (FitsAmong count) (sym m.2) (all_at (ObjectFits count) maps fit m.0 m.1))
 
 -- what is found at the next map is found among all maps of the piece
 found_in_all : (maps more : List SpelledMap) (ms : List MapText) (ds : List Datum) (i : ℕ) (z : MapText)
@@ -398,7 +400,7 @@ found_in_all maps more ms ds i z Found longer h l are found =
 pub piece_fault : (count : ℕ) (d : Divider) (maps : List SpelledMap) (written : Files) (piece : List ℕ)
     (ms : List MapText) (ds : List Datum) (i : ℕ) (z : MapText) (f : PieceFault) → AreMapTexts ms ds → Spells ds piece
     → i < length ms → AreTakenUpTo i ds count d maps written
-    → ((more : List SpelledMap) (e : Datum) → Says (get_or ms i z).said e → AreTaken count d more written
+    → ((more : List SpelledMap) (e : Datum) → Says (get_or ms i z).said e → AreMapsTaken count d more written
     → IsMapFoundAmong count (forms_of more ++ e ∷ []) f)
     → IsPieceFault count (forms_of maps) piece f
 piece_fault count d maps written piece ms ds i z (Malformed (Text e)) h spells l t found =

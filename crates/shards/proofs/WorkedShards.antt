@@ -15,14 +15,14 @@ use Rattle.locality.proofs.WrittenOut.{valid_order}
 use Rattle.locality.proofs.WorkedOrders.{returned}
 use Rattle.events.specs.declared.event.Action.TheVariants.{Invoke, Ok}
 use Rattle.events.specs.declared.event.Event.{Event}
-use Rattle.events.specs.Events.{denoted, kind_at, IsProper}
+use Rattle.events.specs.Events.{denoted, kind_of_object, IsProper}
 use Rattle.events.proofs.ProcessRuns.{idle, Runs}
 use Rattle.events.proofs.WellFormed.{denoted_is_history}
 use Rattle.shards.specs.Shards.{events_on, renamed, AreRenumbered, AreShards, DenoteLinearizable}
 use Rattle.shards.specs.WorkedShards.{own_shard, does, one_each, renumbered_shard, shards_of_one_each}
 use Rattle.shards.specs.WorkedShards.{two_at_once, shards_of_two_at_once}
 use Rattle.shards.proofs.Proper.{AreOfKinds, proper_from, proper_on}
-use Rattle.shards.proofs.Deciding.{decided_by_shards}
+use Rattle.shards.proofs.WholeAndShards.{decided_by_shards}
 
 -- one enqueue that returned
 abbrev enqueued : ℕ → ℕ → ℕ → ℕ → ℤ → List Event
@@ -53,11 +53,12 @@ enqueued-proper p n m x v less = proper_from (λ y. Queue) (enqueued p n m x v) 
     ]
 
 -- of events that denote one enqueue the order with its call alone is valid
-one_call : (es : List Event) (x n m : ℕ) (v : ℤ) → IsProper es → kind_at es x ≡ Queue
+one_call : (es : List Event) (x n m : ℕ) (v : ℤ) → IsProper es → kind_of_object es x ≡ Queue
     → map (λ (c : ProcessCall). c.object) (calls_in (denoted es)) ≡ x ∷ []
     → calls_on x (denoted es) ≡ returned n (Enqueue v) m (Some v) ∷ [] → DenoteLinearizable es
-one_call es x n m v proper kind objects calls = named_kinds (kind_at es) (denoted es) (denoted_is_history es proper)
-    (all_from_in (λ (c : ProcessCall). HasValidOrder (kind_at es) (denoted es) c.object) (calls_in (denoted es))
+one_call es x n m v proper kind objects calls = named_kinds (kind_of_object es) (denoted es)
+    (denoted_is_history es proper)
+    (all_from_in (λ (c : ProcessCall). HasValidOrder (kind_of_object es) (denoted es) c.object) (calls_in (denoted es))
     (λ c i. of_one c.object (subst (In c.object) objects
     (in_map_from (λ (d : ProcessCall). d.object) c (calls_in (denoted es)) i))))
   where
@@ -65,22 +66,26 @@ one_call es x n m v proper kind objects calls = named_kinds (kind_at es) (denote
     valid = valid_order Queue (returned n (Enqueue v) m (Some v) ∷ []) (returned n (Enqueue v) m (Some v) ∷ []) refl
         ((0, lit< tt, refl), tt) (λ s. (0, lit< tt, refl), tt) (queue (v ∷ []), Value (Some v), refl, refl, tt)
 
-    order : HasValidOrder (kind_at es) (denoted es) x
+    order : HasValidOrder (kind_of_object es) (denoted es) x
     order = (
       pos n ∷ [],
       subst (λ k. IsValidOrder k (calls_on x (denoted es)) (pos n ∷ [])) (sym kind)
           (subst (λ cs. IsValidOrder Queue cs (pos n ∷ [])) (sym calls) valid),
     )
 
-    of_one : (y : ℕ) → In y (x ∷ []) → HasValidOrder (kind_at es) (denoted es) y
-    of_one y i = elim i [ inl q ↦ subst (HasValidOrder (kind_at es) (denoted es)) (sym q) order | inr j ↦ absurd j ]
+    of_one : (y : ℕ) → In y (x ∷ []) → HasValidOrder (kind_of_object es) (denoted es) y
+    of_one y i = elim i [
+      | inl q ↦ subst (HasValidOrder (kind_of_object es) (denoted es)) (sym q) order
+      | inr j ↦
+          absurd j
+    ]
 
 nothing-proper : IsProper []
 nothing-proper = proper_from (λ y. Queue) [] (λ i j d l m. absurd (omega arith)) (λ p. tt) (λ e op i q. absurd i)
 
 nothing-linearizable : DenoteLinearizable []
 nothing-linearizable =
-    named_kinds (kind_at []) [] (denoted_is_history [] nothing-proper) (λ k d l. absurd (omega arith))
+    named_kinds (kind_of_object []) [] (denoted_is_history [] nothing-proper) (λ k d l. absurd (omega arith))
 
 abbrev pub IsGood : List Event → Type 0
 IsGood es = IsProper es × DenoteLinearizable es

@@ -5,20 +5,20 @@ use Rattle.model.proofs.Lists.{In, in_filter, in_filter_passes, all_at}
 use Rattle.edn_reader.specs.Spells.{Spells}
 use Rattle.edn_reader.proofs.Joined.{joined_spell, nothing_spelled}
 use Rattle.shards.specs.Forms.{is_on}
-use Rattle.shards.specs.ShardTexts.{IsSpelled, SpelledMap, lines_of}
+use Rattle.shards.specs.ShardTexts.{IsSpelled, SpelledMap, map_lines}
 use Rattle.shards.proofs.FewerForms.{client_on}
 use Rattle.shards.proofs.RenamedForms.{own_forms_on}
 
 -- lines spell the own forms of their maps
 lines_spell : (ms : List SpelledMap) → ((m : SpelledMap) → In m ms → Spells (m.own ∷ []) m.text)
-    → Spells (map (λ m. m.own) ms) (lines_of ms)
+    → Spells (map (λ m. m.own) ms) (map_lines ms)
 lines_spell [] h = nothing_spelled
 lines_spell (m ∷ ms) h =
-    joined_spell (m.own ∷ []) (map (λ x. x.own) ms) m.text (lines_of ms) (h m (inl refl))
+    joined_spell (m.own ∷ []) (map (λ x. x.own) ms) m.text (map_lines ms) (h m (inl refl))
     (lines_spell ms (λ x i. h x (inr i)))
 
 pub shard_spells : (name : ℕ → ℕ) (has : ℕ → Bool) (ms : List SpelledMap) → All (IsSpelled name) ms
-    → Spells (own_forms_on has ms) (lines_of (filter (λ m. is_on has m.form) ms))
+    → Spells (own_forms_on has ms) (map_lines (filter (λ m. is_on has m.form) ms))
 shard_spells name has ms each =
     let test = λ (m : SpelledMap). is_on has m.form in
     lines_spell (filter test ms)

@@ -27,7 +27,7 @@ object_named count shard name =
     ((shard + (count - name % most_names % count)) % count) * most_names + name % most_names
 
 -- this object fits, and has this shard and this name
-pub record IsObjectOf (count shard name x : ℕ) : Type 0 where
+pub record IsObjectOfShard (count shard name x : ℕ) : Type 0 where
   pub fits : x / most_names < count
   pub in_shard : shard_among count x ≡ shard
   pub by_name : name_in_shard x ≡ name
@@ -36,8 +36,8 @@ pub record IsObjectOf (count shard name x : ℕ) : Type 0 where
 abbrev pub FitsAmong : ℕ → Datum → Type 0
 FitsAmong count d = (c : ClientMap) → client_of d ≡ Some c → c.object / most_names < count
 
-abbrev pub Fits : ℕ → SpelledMap → Type 0
-Fits count m = FitsAmong count m.form
+abbrev pub ObjectFits : ℕ → SpelledMap → Type 0
+ObjectFits count m = FitsAmong count m.form
 
 -- the places of the maps of clients on some objects, if the first form is in this place
 abbrev pub places_from : ℕ → (ℕ → Bool) → List Datum → List ℕ

@@ -3,7 +3,7 @@ use Rattle.std.specs.Prelude.{⊤, ◌≡◌, ℕ, ◌==◌, ◌<◌, List, [], 
 use Rattle.std.specs.Prelude.{Option, Some, None, if◌then◌else◌}
 use Rattle.std.specs.Io.KnownBytes.{Consumes, IsAtEnd}
 use Rattle.shards.specs.declared.division.Division.{Division}
-use Rattle.shards.specs.Dividing.{Files, Fits, IsDivided, name_in_shard, shard_among}
+use Rattle.shards.specs.Dividing.{Files, ObjectFits, IsDivided, name_in_shard, shard_among}
 use Rattle.shards.specs.LargeObjects.{AreLarge, maps_on}
 use Rattle.shards.specs.ShardTexts.{maps_of_shard}
 
@@ -28,7 +28,7 @@ pub record AddsShards (count : ℕ) (told : Division) (whole : List ℕ)
     (files files_after : Option Files) : Type 0 where
   pub added : Files
   pub divided : IsDivided (shard_among count) name_in_shard whole added
-  pub fits : All (Fits count) divided.split.maps
+  pub fits : All (ObjectFits count) divided.split.maps
   pub adds : AddsFiles files files_after added
   pub each_counted : length told.counts.items ≡ count
   pub counted : (s : ℕ) → s < count

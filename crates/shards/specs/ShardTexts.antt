@@ -4,7 +4,7 @@ use Rattle.edn_reader.specs.Datum.{Datum}
 use Rattle.edn_reader.specs.Spells.{Spells}
 use Rattle.events.specs.declared.event.Event.{Event}
 use Rattle.shards.specs.Shards.{AreApart, AreRenumbered, DenoteLinearizable, events_on, renamed}
-use Rattle.history.specs.Denotes.{DenotesAtAnyLength, events_from}
+use Rattle.history.specs.Denotes.{DenotesAtAnyLength, events_of_forms}
 use Rattle.history.specs.Faults.{IsFaultlessAtAnyLength}
 use Rattle.history.specs.Maps.{ClientMap, client_of, plain_value}
 use Rattle.shards.specs.Forms.{is_on}
@@ -36,9 +36,9 @@ IsSpelled name m = (c : ClientMap) → client_of m.form ≡ Some c
     → SaysRenamed name m.form m.own × Spells (m.own ∷ []) m.text
 
 -- the text of maps, with a line feed after each
-abbrev pub lines_of : List SpelledMap → List ℕ
-lines_of [] = []
-lines_of (m ∷ ms) = m.text ++ 10 ∷ lines_of ms
+abbrev pub map_lines : List SpelledMap → List ℕ
+map_lines [] = []
+map_lines (m ∷ ms) = m.text ++ 10 ∷ map_lines ms
 
 -- the maps of clients on the objects of one shard. `shard_of` says in which shard an object is
 abbrev pub maps_of_shard : (ℕ → ℕ) → ℕ → List SpelledMap → List SpelledMap
@@ -52,8 +52,8 @@ pub record IsSplit (shard_of name : ℕ → ℕ) (whole : List ℕ) (shards : �
   pub spelled : Spells (map (λ m. m.form) maps) whole
   pub each : All (IsSpelled name) maps
   pub faultless : IsFaultlessAtAnyLength (map (λ m. m.form) maps)
-  pub apart : AreApart shard_of name (events_from 0 (map (λ m. m.form) maps))
-  pub texts : (s : ℕ) → shards s ≡ lines_of (maps_of_shard shard_of s maps)
+  pub apart : AreApart shard_of name (events_of_forms 0 (map (λ m. m.form) maps))
+  pub texts : (s : ℕ) → shards s ≡ map_lines (maps_of_shard shard_of s maps)
 
 -- the events that a text denotes, however many maps it has
 pub record TextDenotes (text : List ℕ) (es : List Event) : Type 0 where

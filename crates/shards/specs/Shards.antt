@@ -6,7 +6,7 @@ use Rattle.model.specs.Linearizable.{IsLinearizable}
 use Rattle.model.specs.Orders.{events}
 use Rattle.events.specs.declared.event.Action.{Action}
 use Rattle.events.specs.declared.event.Event.{Event}
-use Rattle.events.specs.Events.{denoted, kind_at, IsNamed}
+use Rattle.events.specs.Events.{denoted, kind_of_object, IsNamed}
 
 -- the events on the objects that pass the test, in order: as H|x of Herlihy and Wing, section 2,
 -- which has those on one object
@@ -44,4 +44,4 @@ AreShards shard_of name es shards =
 -- The history that the events denote is linearizable, if each object is of the kind that its
 -- operations have: the form in which a verdict on a text says it.
 abbrev pub DenoteLinearizable : List Event → Type 0
-DenoteLinearizable es = IsLinearizable (kind_at es) (events (denoted es))
+DenoteLinearizable es = IsLinearizable (kind_of_object es) (events (denoted es))

@@ -9,7 +9,7 @@ use Rattle.edn_reader.specs.Spells.{Spells}
 use Rattle.edn_reader.specs.declared.fault.EdnFault.{EdnFault}
 use Rattle.edn_reader.specs.declared.fault.FaultKind.TheVariants.{TooLong, Unfinished}
 use Rattle.edn_fields.specs.FirstFaults.{IsFirstFaultBy}
-use Rattle.history.specs.Faults.{IsFaultlessAtAnyLength, IsMapFault, number_of}
+use Rattle.history.specs.Faults.{IsFaultlessAtAnyLength, IsMapFault, history_fault_number}
 use Rattle.history.specs.Maps.{ClientMap, client_of}
 use Rattle.history.specs.declared.fault.HistoryFault.{HistoryFault}
 use Rattle.history.specs.declared.fault.HistoryFaultKind.TheVariants.{TooMany}
@@ -28,7 +28,7 @@ most_maps = 4294967295
 -- form that is too many, and those before it have no fault.
 abbrev pub IsFoundAmong : List Datum → HistoryFault → Type 0
 IsFoundAmong ds f =
-    (f.kind ≢ TooMany → IsFirstFaultBy IsMapFault number_of ds f.map f.kind)
+    (f.kind ≢ TooMany → IsFirstFaultBy IsMapFault history_fault_number ds f.map f.kind)
     × (f.kind ≡ TooMany → (f.map ≡ most_maps) × (most_maps < length ds)
     × IsFaultlessAtAnyLength (take most_maps ds))
 
@@ -101,9 +101,9 @@ IsSplitFault count NoMemory left left_after = ⊤
 
 -- if a fault says that its source failed, or its folder, this is so; and neither failed if
 -- something is wrong with the text
-abbrev pub IsFailureOf : SplitFault → Bool → Bool → Type 0
-IsFailureOf Read source folder = source ≡ true
-IsFailureOf Write source folder = folder ≡ true
-IsFailureOf (Malformed fault) source folder = (source ≡ false) × (folder ≡ false)
-IsFailureOf (FewShards x) source folder = (source ≡ false) × (folder ≡ false)
-IsFailureOf NoMemory source folder = ⊤
+abbrev pub IsSplitFailureOf : SplitFault → Bool → Bool → Type 0
+IsSplitFailureOf Read source folder = source ≡ true
+IsSplitFailureOf Write source folder = folder ≡ true
+IsSplitFailureOf (Malformed fault) source folder = (source ≡ false) × (folder ≡ false)
+IsSplitFailureOf (FewShards x) source folder = (source ≡ false) × (folder ≡ false)
+IsSplitFailureOf NoMemory source folder = ⊤

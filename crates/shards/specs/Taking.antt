@@ -13,10 +13,11 @@ use Rattle.shards.specs.declared.divider.Divider.{Divider}
 use Rattle.shards.specs.declared.fault.PieceFault.{PieceFault}
 use Rattle.shards.specs.declared.fault.PieceFault.TheVariants.{Malformed, FewShards}
 use Rattle.shards.specs.declared.waiting.Waiting.{Waiting}
-use Rattle.shards.specs.Dividing.{Files, Fits, name_in_shard, places_from, shard_among, table_text}
+use Rattle.shards.specs.Dividing.{Files, ObjectFits, name_in_shard, places_from, shard_among}
+use Rattle.shards.specs.Dividing.{table_text}
 use Rattle.shards.specs.Folders.{AddsFiles, lines_for}
 use Rattle.shards.specs.LargeObjects.{maps_on}
-use Rattle.shards.specs.ShardTexts.{IsSpelled, SaysRenamed, SpelledMap, lines_of, maps_of_shard}
+use Rattle.shards.specs.ShardTexts.{IsSpelled, SaysRenamed, SpelledMap, map_lines, maps_of_shard}
 use Rattle.shards.specs.SplitFaults.{IsFoundAmong, NeedsMoreShards}
 use Rattle.shards.specs.Tallies.{IsTally}
 
@@ -40,8 +41,8 @@ abbrev pub waiting_places : List Waiting → ℕ → List ℕ
 waiting_places ws s = get_or (map (λ w. w.places.items) ws) s []
 
 -- how many maps a shard has, with those that were written
-abbrev pub count_in : List Waiting → ℕ → ℕ
-count_in ws s = get_or (map (λ w. w.count) ws) s 0
+abbrev pub maps_in : List Waiting → ℕ → ℕ
+maps_in ws s = get_or (map (λ w. w.count) ws) s 0
 
 -- no lines wait, of any shard
 pub record NoneWait (ws : List Waiting) : Type 0 where
@@ -53,10 +54,10 @@ pub record AddsLine (shard : ℕ) (text : List ℕ) (place : ℕ) (old new : Lis
   pub long : length new ≡ length old
   pub maps : waiting_maps new shard ≡ waiting_maps old shard ++ (text ++ 10 ∷ [])
   pub places : waiting_places new shard ≡ waiting_places old shard ++ (decimal place ++ 10 ∷ [])
-  pub count : count_in new shard ≡ count_in old shard + 1
+  pub count : maps_in new shard ≡ maps_in old shard + 1
   pub other_maps : (s : ℕ) → s ≢ shard → waiting_maps new s ≡ waiting_maps old s
   pub other_places : (s : ℕ) → s ≢ shard → waiting_places new s ≡ waiting_places old s
-  pub other_counts : (s : ℕ) → s ≢ shard → count_in new s ≡ count_in old s
+  pub other_counts : (s : ℕ) → s ≢ shard → maps_in new s ≡ maps_in old s
 
 -- A map of a client on this object was added, with its place, to what waits of its shard: as it is
 -- written there.
@@ -86,38 +87,39 @@ with_more files more = record {
 
 -- These maps were taken, and divided into this many shards. Of the files of each shard some lines
 -- were written, and the others wait.
-pub record AreTaken (count : ℕ) (d : Divider) (maps : List SpelledMap) (written : Files) : Type 0
+pub record AreMapsTaken (count : ℕ) (d : Divider) (maps : List SpelledMap) (written : Files) :
+    Type 0
   where
     pub shards : d.shards ≡ count
     pub read : AreReadAtAnyLength d.reader (forms_of maps)
     pub each : All (IsSpelled name_in_shard) maps
-    pub fit : All (Fits count) maps
+    pub fit : All (ObjectFits count) maps
     pub tally : IsTally d.tally (maps_on maps)
     pub texts : (s : ℕ) → written.texts s ++ waiting_maps d.waiting.items s
-        ≡ lines_of (maps_of_shard (shard_among count) s maps)
+        ≡ map_lines (maps_of_shard (shard_among count) s maps)
     pub tables : (s : ℕ) → written.tables s ++ waiting_places d.waiting.items s
         ≡ table_text (places_from 0 (λ x. shard_among count x == s) (forms_of maps))
-    pub counts : (s : ℕ) → s < count → count_in d.waiting.items s
+    pub counts : (s : ℕ) → s < count → maps_in d.waiting.items s
         ≡ length (maps_of_shard (shard_among count) s maps)
 
 -- One map more was taken, of this form.
 abbrev pub AreTakenWith : Datum → ℕ → Divider → List SpelledMap → Files → Type 0
 AreTakenWith d count new maps written =
-    (m : SpelledMap) × (m.form ≡ d) × AreTaken count new (maps ++ m ∷ []) written
+    (m : SpelledMap) × (m.form ≡ d) × AreMapsTaken count new (maps ++ m ∷ []) written
 
 -- A piece spells more maps, and these were taken too.
 pub record AreTakenOf (piece : List ℕ) (count : ℕ) (d : Divider) (maps : List SpelledMap)
     (written : Files) : Type 0 where
   pub more : List SpelledMap
   pub spells : Spells (forms_of more) piece
-  pub taken : AreTaken count d (maps ++ more) written
+  pub taken : AreMapsTaken count d (maps ++ more) written
 
 -- Lines that waited were added to the files.
 pub record AreTakenAfter (count : ℕ) (d : Divider) (maps : List SpelledMap) (written : Files)
     (files files_after : Option Files) : Type 0 where
   pub more : Files
   pub adds : AddsFiles files files_after more
-  pub taken : AreTaken count d maps (with_more written more)
+  pub taken : AreMapsTaken count d maps (with_more written more)
 
 -- a fault of a piece after these forms: it is unreadable, or it spells more forms, in which this
 -- was found
@@ -135,7 +137,7 @@ IsMapFoundAmong count ds (Malformed (Text e)) = ⊥
 IsMapFoundAmong count ds (Malformed (Maps f)) = f.kind ≢ history_kind.NoMemory → IsFoundAmong ds f
 IsMapFoundAmong count ds (FewShards x) = NeedsMoreShards count ds x
 
-abbrev pub IsOfText : PieceFault → Type 0
-IsOfText (Malformed (Text e)) = ⊤
-IsOfText (Malformed (Maps f)) = ⊥
-IsOfText (FewShards x) = ⊥
+abbrev pub IsOfPiece : PieceFault → Type 0
+IsOfPiece (Malformed (Text e)) = ⊤
+IsOfPiece (Malformed (Maps f)) = ⊥
+IsOfPiece (FewShards x) = ⊥

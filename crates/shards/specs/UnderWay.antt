@@ -16,7 +16,7 @@ use Rattle.shards.specs.declared.pieces.Pieces.{Pieces}
 use Rattle.shards.specs.Dividing.{Files}
 use Rattle.shards.specs.ShardTexts.{SpelledMap}
 use Rattle.shards.specs.SplitFaults.{BeginsWith, IsFaultOf, NeedsMoreShards}
-use Rattle.shards.specs.Taking.{AreTaken, forms_of}
+use Rattle.shards.specs.Taking.{AreMapsTaken, forms_of}
 
 -- More was read of a source: what it had left before, and has left after.
 pub record ReadsOn (old new : Pieces) (left left_after : Option (List ℕ)) : Type 0 where
@@ -46,7 +46,7 @@ pub record AreUnderWay (count : ℕ) (d : Divider) (p : Pieces) (text : List ℕ
   pub parts : text ≡ front ++ p.text.items
   pub start : p.start ≡ length front
   pub lines : SpellsBefore front (forms_of maps)
-  pub taken : AreTaken count d maps written
+  pub taken : AreMapsTaken count d maps written
 
 -- the text ends inside a form
 abbrev pub EndsInsideForm : PieceFault → Type 0

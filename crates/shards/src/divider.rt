@@ -34,16 +34,16 @@ pub(crate) struct Divider {
 }
 
 impl Divider {
-    ghost use Rattle.shards.specs.Taking.{AreTaken, AreTakenOf, AreTakenAfter, AreTakenWith};
+    ghost use Rattle.shards.specs.Taking.{AreMapsTaken, AreTakenOf, AreTakenAfter, AreTakenWith};
     ghost use Rattle.shards.specs.Taking.{AddsLine, AddsMap, IsMapFoundAmong, IsPieceFault};
-    ghost use Rattle.shards.specs.Taking.{IsOfText, NoneWait, forms_of, no_lines};
+    ghost use Rattle.shards.specs.Taking.{IsOfPiece, NoneWait, forms_of, no_lines};
     ghost use Rattle.shards.specs.LargeObjects.{AreLarge};
     ghost use Rattle.shards.specs.Tallies.{CountsOne, IsTally};
 
     /// No maps yet.
     pub fn new(alloc: Global, shards: u16) -> Result<Divider, AllocError>
         requires { 0 < shards }
-        ensures { IfOk result (λ d. AreTaken shards d [] no_lines) }
+        ensures { IfOk result (λ d. AreMapsTaken shards d [] no_lines) }
     {
         let waiting = waiting_of(alloc, shards)?;
         Ok(Divider {
@@ -96,12 +96,12 @@ impl Divider {
     fn take_map(&mut self, alloc: Global, said: OperationMap, text: &[u8]) -> Result<(), PieceFault>
         ensures taken { OnOk result
             ((count : ℕ) (maps : List SpelledMap) (written : Files) (d : Datum) → Says said d
-            → Spells (d ∷ []) text.now → AreTaken count self.old maps written
+            → Spells (d ∷ []) text.now → AreMapsTaken count self.old maps written
             → AreTakenWith d count self.new maps written) }
         ensures fault { IfErr result (λ f. (count : ℕ) (maps : List SpelledMap) (written : Files)
-            (d : Datum) → Says said d → AreTaken count self.old maps written
+            (d : Datum) → Says said d → AreMapsTaken count self.old maps written
             → IsMapFoundAmong count (forms_of maps ++ d ∷ []) f) }
-        ensures of_map { IfErr result (λ f. IsOfText f → ⊥) }
+        ensures of_map { IfErr result (λ f. IsOfPiece f → ⊥) }
     {
         let event = match self.reader.take(said) {
             Ok(Some(event)) => event,
@@ -130,12 +130,12 @@ impl Divider {
     pub fn take(&mut self, alloc: Global, piece: &[u8]) -> Result<(), PieceFault>
         ensures taken { OnOk result
             ((count : ℕ) (maps : List SpelledMap) (written : Files)
-            → AreTaken count self.old maps written
+            → AreMapsTaken count self.old maps written
             → AreTakenOf piece.now count self.new maps written) }
         ensures fault { IfErr result (λ f. (count : ℕ) (maps : List SpelledMap) (written : Files)
-            → AreTaken count self.old maps written
+            → AreMapsTaken count self.old maps written
             → IsPieceFault count (forms_of maps) piece.now f) }
-        ensures unchanged { IfErr result (λ f. IsOfText f → self.new ≡ self.old) }
+        ensures unchanged { IfErr result (λ f. IsOfPiece f → self.new ≡ self.old) }
     {
         let maps = match maps_of(alloc, piece) {
             Ok(maps) => maps,
@@ -156,7 +156,7 @@ impl Divider {
         requires { D.broken folder.old ≡ false }
         ensures taken { OnOk result
             ((count : ℕ) (maps : List SpelledMap) (written : Files)
-            → AreTaken count self.old maps written
+            → AreMapsTaken count self.old maps written
             → AreTakenAfter count self.new maps written (D.files folder.old) (D.files folder.new)) }
         ensures usable { OnOk result (D.broken folder.new ≡ false) }
         ensures failed { OnErr result (D.broken folder.new ≡ true) }

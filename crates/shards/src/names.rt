@@ -2,7 +2,7 @@
 
 ghost use Rattle.std.specs.Prelude.{◌≡◌, ◌<◌, ◌/◌, ◌+◌, ◌↔◌, ℕ, IsTrue};
 ghost use Rattle.shards.specs.Dividing as spec;
-ghost use Rattle.shards.specs.Dividing.{IsObjectOf, most_names, name_in_shard, shard_among};
+ghost use Rattle.shards.specs.Dividing.{IsObjectOfShard, most_names, name_in_shard, shard_among};
 
 /// How many objects the text of a shard may name.
 const MOST_NAMES: u32 = 65_536;
@@ -50,7 +50,7 @@ pub fn objects_have_own_names()
     ensures own { (count x : ℕ) → x / most_names < count
         → spec.object_named count (shard_among count x) (name_in_shard x) ≡ x }
     ensures named { (count shard name : ℕ) → shard < count → name < most_names
-        → IsObjectOf count shard name (spec.object_named count shard name) }
+        → IsObjectOfShard count shard name (spec.object_named count shard name) }
 {}
 
 /// Returns how many shards an object needs at least.

@@ -55,7 +55,7 @@ fn last_feed_before_map(text: &[u8]) -> Option<usize>
 
 impl Pieces {
     ghost use Rattle.shards.specs.declared.fault.SplitFault.TheVariants.{Malformed, NoMemory};
-    ghost use Rattle.shards.specs.SplitFaults.{IsFailureOf};
+    ghost use Rattle.shards.specs.SplitFaults.{IsSplitFailureOf};
     ghost use Rattle.shards.specs.UnderWay.{IsOfHost, PassesPiece, ReadsOn, StaysAs, too_long_at};
 
     /// Nothing was read. A piece is cut once this many bytes were read.
@@ -102,7 +102,7 @@ impl Pieces {
             (ReadsOn self.old self.new (F.remaining source.old) (F.remaining source.new)) }
         ensures usable { OnOk result (F.broken source.new ≡ false) }
         ensures fault { IfErr result IsOfHost }
-        ensures failed { IfErr result (λ e. IsFailureOf e (F.broken source.new) false) }
+        ensures failed { IfErr result (λ e. IsSplitFailureOf e (F.broken source.new) false) }
     {
         let mut buffer = vec![in alloc; 0; BUFFER_LENGTH]?;
         while self.text.len() < self.wanted {

@@ -4,7 +4,7 @@ ghost use Rattle.std.specs.Prelude.{◌≡◌, ◌<◌, ℕ, List, Option, false
 ghost use Rattle.std.specs.Io.KnownBytes.{IsAtEnd};
 ghost use Rattle.shards.specs.Dividing.{Files};
 ghost use Rattle.shards.specs.Folders.{AddsFiles, AddsShards, WasDivided};
-ghost use Rattle.shards.specs.SplitFaults.{IsFailureOf, IsSplitFault};
+ghost use Rattle.shards.specs.SplitFaults.{IsSplitFailureOf, IsSplitFault};
 ghost use Rattle.shards.specs.UnderWay.{AreUnderWay, IsFaultIn};
 
 use crate::divider::Divider;
@@ -24,7 +24,7 @@ fn divide_piece(alloc: Global, divider: &mut Divider, pieces: &mut Pieces) -> Re
         → AreUnderWay count divider.old pieces.old text written
         → AreUnderWay count divider.new pieces.new text written) }
     ensures going { OnOk result (pieces.new.is_ended ≡ pieces.old.is_ended) }
-    ensures failed { IfErr result (λ e. IsFailureOf e false false) }
+    ensures failed { IfErr result (λ e. IsSplitFailureOf e false false) }
     ensures fault { IfErr result (λ e. (count : ℕ) (text : List ℕ) (written : Files)
         (left : Option (List ℕ)) → AreUnderWay count divider.old pieces.old text written
         → IsFaultIn count text left e) }
@@ -57,7 +57,7 @@ fn divide_last<D: Folder>(
         → AddsFiles files (D.files folder.old) written
         → AddsShards count told text files (D.files folder.new)) }
     ensures usable { OnOk result (D.broken folder.new ≡ false) }
-    ensures failed { IfErr result (λ e. IsFailureOf e false (D.broken folder.new)) }
+    ensures failed { IfErr result (λ e. IsSplitFailureOf e false (D.broken folder.new)) }
     ensures fault { IfErr result (λ e. (count : ℕ) (text : List ℕ) (written : Files)
         (left : Option (List ℕ)) → AreUnderWay count divider.old pieces.now text written
         → IsAtEnd left → IsFaultIn count text left e) }
@@ -91,7 +91,7 @@ pub fn split_by_pieces<F: Source, D: Folder>(
     ensures usable { OnOk result
         ((F.broken history.new ≡ false) × (D.broken folder.new ≡ false)) }
     ensures failed { IfErr result (λ e.
-        IsFailureOf e (F.broken history.new) (D.broken folder.new)) }
+        IsSplitFailureOf e (F.broken history.new) (D.broken folder.new)) }
     ensures malformed { IfErr result (λ e. IsSplitFault shards e
         (F.remaining history.old) (F.remaining history.new)) }
 {
@@ -137,7 +137,7 @@ pub fn split_over<F: Source, D: Folder>(
     ensures usable { OnOk result
         ((F.broken history.new ≡ false) × (D.broken folder.new ≡ false)) }
     ensures failed { IfErr result (λ e.
-        IsFailureOf e (F.broken history.new) (D.broken folder.new)) }
+        IsSplitFailureOf e (F.broken history.new) (D.broken folder.new)) }
     // The fault of a map is the first of the maps that were read, the last of which is in the piece
     // of the text that has it.
     ensures malformed { IfErr result (λ e. IsSplitFault shards e

@@ -2,7 +2,7 @@
 
 ghost use Rattle.std.specs.Prelude.{◌≡◌, ◌+◌, ◌++◌, ◌∷◌, [], ℕ, false, decimal, vec_len};
 ghost use Rattle.std.specs.Prelude.{true, IfOk, OnOk, OnErr};
-ghost use Rattle.shards.specs.Taking.{Flushes, NoneWait, count_in};
+ghost use Rattle.shards.specs.Taking.{Flushes, NoneWait, maps_in};
 
 use crate::folder::Folder;
 use edn::{Failed, push_natural};
@@ -80,7 +80,7 @@ impl Waiting {
 pub(crate) fn waiting_of(alloc: Global, shards: u16) -> Result<Vec<Waiting>, AllocError>
     ensures long { IfOk result (λ v. vec_len v ≡ shards) }
     ensures none_wait { IfOk result (λ v. NoneWait v.items) }
-    ensures none_counted { IfOk result (λ v. (s : ℕ) → count_in v.items s ≡ 0) }
+    ensures none_counted { IfOk result (λ v. (s : ℕ) → maps_in v.items s ≡ 0) }
 {
     let mut waiting = Vec::new(alloc);
     for _ in 0..shards {

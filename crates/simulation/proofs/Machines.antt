@@ -17,14 +17,14 @@ use Rattle.desk_model.specs.Records.{IsSoundRecord}
 use Rattle.recorder.specs.Records.{Recorded}
 use Rattle.recorder.specs.Histories.{journals_in, logs_in}
 use Rattle.machine.specs.Machines.{State, HasRun, clients_of, world_of}
-use Rattle.machine.specs.Runs.{start_of, TakesPossible, IsWorldOfRun}
+use Rattle.machine.specs.Runs.{start_world, TakesPossible, IsWorldOfRun}
 use Rattle.machine.specs.Steps.{IsLike, HasEnded, steps_in}
 use Rattle.simulation.specs.Schedules.{AnyStep}
 use Rattle.simulation.specs.declared.header.Header.{Header}
 use Rattle.seq_objects.specs.declared.kinds.Kinds.{Kinds}
 use Rattle.seq_objects.specs.Kinds.{kind_in}
 use Rattle.seq_objects.specs.Kinds as mixing
-use Rattle.simulation.specs.Plays.{kinds_of, IsPlayed, Takes}
+use Rattle.simulation.specs.Plays.{header_kinds, IsPlayed, Takes}
 use Rattle.simulation.specs.Simulations.{IsGoingOn}
 
 pub kinds_more : (ks : Kinds) (i : ℕ) (old new : List AnyObject) (o : AnyObject)
@@ -47,25 +47,27 @@ empty_more old new o k so_far is more =
     (is ∙ ap empty (sym (ap kind_with is ∙ kind_of_empty k))))
 
 -- as many objects as there are kinds
-pub count_is : (h : Header) (os : List AnyObject) → map (λ o. kind_with (content_of o)) os ≡ kinds_of h
+pub count_is : (h : Header) (os : List AnyObject) → map (λ o. kind_with (content_of o)) os ≡ header_kinds h
     → length os ≡ h.objects
 count_is h os e = sym (length-map os (λ (x : AnyObject). kind_with (content_of x)))
     ∙ (ap (λ (ks : List Kind). length ks) e ∙ length-map-range_with_len (kind_in h.kinds) 0 h.objects)
 
-module _ (h : Header) (steps : List (ℕ × AnyStep)) (refused : ℕ) (start now : State) (kinds : start.kinds ≡ kinds_of h)
+module _ (h : Header) (steps : List (ℕ × AnyStep)) (refused : ℕ) (start now : State)
+    (kinds : start.kinds ≡ header_kinds h)
     (clients : clients_of start ≡ h.clients) (quota : start.quota ≡ h.quota) (like : IsLike start now) where
   -- of the state after the steps
   on_kinds : (P : List Kind → ℕ → ℕ → Type 0) → P now.kinds (clients_of now) now.quota
-      → P (kinds_of h) h.clients h.quota
+      → P (header_kinds h) h.clients h.quota
   on_kinds P p = subst (λ (ks : List Kind). P ks h.clients h.quota) (like.kinds ∙ kinds)
       (subst (λ (n : ℕ). P now.kinds n h.quota) (like.clients ∙ clients)
       (subst (λ (q : ℕ). P now.kinds (clients_of now) q) (like.quota ∙ quota) p))
 
-  takes_all : world_of start ≡ start_of h.clients
+  takes_all : world_of start ≡ start_world h.clients
       → TakesPossible start.kinds start.quota (world_of start) (steps_in (λ op. op) steps) refused (world_of now)
       → Takes h steps refused (world_of now)
   takes_all at ran =
-      subst (λ (w : World). TakesPossible (kinds_of h) h.quota w (steps_in (λ op. op) steps) refused (world_of now)) at
+      subst (λ (w : World). TakesPossible (header_kinds h) h.quota w (steps_in (λ op. op) steps) refused
+      (world_of now)) at
       (subst (λ (ks : List Kind). TakesPossible ks h.quota (world_of start) (steps_in (λ op. op) steps) refused
       (world_of now))
       kinds
@@ -73,7 +75,7 @@ module _ (h : Header) (steps : List (ℕ × AnyStep)) (refused : ℕ) (start now
       (world_of now))
       quota ran))
 
-  pub is_going_on : world_of start ≡ start_of h.clients
+  pub is_going_on : world_of start ≡ start_world h.clients
       → TakesPossible start.kinds start.quota (world_of start) (steps_in (λ op. op) steps) refused (world_of now)
       → HasRun now
       → (c : ℕ) → c < clients_of now → (world_of now).ended c ≡ false → ((d : ℕ) → d < c → HasEnded now d)
@@ -88,7 +90,7 @@ module _ (h : Header) (steps : List (ℕ × AnyStep)) (refused : ℕ) (start now
     earlier = earlier;
   }
 
-  pub is_played : (r : Recorded AnyOp AnyReply) → world_of start ≡ start_of h.clients
+  pub is_played : (r : Recorded AnyOp AnyReply) → world_of start ≡ start_world h.clients
       → TakesPossible start.kinds start.quota (world_of start) (steps_in (λ op. op) steps) refused (world_of now)
       → HasRun now → ((c : ℕ) → c < clients_of now → HasEnded now c)
       → ((c : ℕ) → journals_in (λ op. op) (λ reply. reply) r c ≡ journal_in (world_of now) c)

@@ -54,7 +54,7 @@ abbrev pub IsFirstFault : List Datum → ScheduleFault → Type 0
 IsFirstFault ds fault = FaultIs ds fault.kind fault.form
 
 -- The number that is printed after the letter S. An allocation failure is never printed.
-abbrev pub number_of : ScheduleFaultKind → ℕ
-number_of NoHeader = 1
-number_of NotAStep = 2
-number_of NoMemory = 3
+abbrev pub schedule_fault_number : ScheduleFaultKind → ℕ
+schedule_fault_number NoHeader = 1
+schedule_fault_number NotAStep = 2
+schedule_fault_number NoMemory = 3

@@ -26,8 +26,8 @@ abbrev pub number_at : List ℕ → ℕ → ℕ → Entries → Option ℕ
 number_at key low high es = number_within low high (natural_in (value_at key es))
 
 -- the number of an object that a map has
-abbrev pub object_at : Entries → Option ℕ
-object_at es = number_at (codes "object") 0 (max_objects - 1) es
+abbrev pub object_of_step : Entries → Option ℕ
+object_of_step es = number_at (codes "object") 0 (max_objects - 1) es
 
 -- the number of a client that a map has for the key
 abbrev pub client_at : List ℕ → Entries → Option ℕ
@@ -76,14 +76,14 @@ call_with x op = None
 abbrev pub draw_with : Option Datum → Entries → Option AnyStep
 draw_with None es = Some (Draw None)
 draw_with (Some d) es =
-    call_with (object_at es)
+    call_with (object_of_step es)
     (option_and_then (λ k. op_named k es) (keyword_in (Some d)))
 
 abbrev pub step_named : List ℕ → Entries → Option AnyStep
 step_named k es =
     if same_bytes k (codes "draw") then draw_with (value_at (codes "f") es) es
     else if same_bytes k (codes "post") then Some Post
-    else if same_bytes k (codes "win") then option_map Win (object_at es)
+    else if same_bytes k (codes "win") then option_map Win (object_of_step es)
     else if same_bytes k (codes "pick") then option_map Pick (client_at (codes "row") es)
     else if same_bytes k (codes "answer") then Some Answer
     else if same_bytes k (codes "put-back") then Some PutBack

@@ -15,7 +15,7 @@ use Rattle.simulation.specs.Faults.{IsFirstFault, IsSoundTo}
 use Rattle.simulation.specs.declared.header.Header.{Header}
 use Rattle.simulation.specs.declared.fault.ScheduleFault.{ScheduleFault}
 use Rattle.simulation.specs.declared.fault.ScheduleFaultKind.TheVariants as form_kind
-use Rattle.simulation.specs.Plays.{IsPlayed, Takes, kinds_of}
+use Rattle.simulation.specs.Plays.{IsPlayed, Takes, header_kinds}
 use Rattle.simulation.specs.declared.playing.PlayFault.{PlayFault}
 use Rattle.simulation.specs.declared.playing.PlayFault.TheVariants as play
 use Rattle.simulation.specs.declared.simulating.SimulationFault.{SimulationFault}
@@ -43,7 +43,7 @@ pub record IsGoingOn (h : Header) (steps : List (ℕ × AnyStep)) (client : ℕ)
   pub world : World
   pub refused : ℕ
   pub takes : Takes h steps refused world
-  pub run : IsWorldOfRun (kinds_of h) h.clients h.quota world
+  pub run : IsWorldOfRun (header_kinds h) h.clients h.quota world
   pub there : client < h.clients
   pub going : world.ended client ≡ false
   pub earlier : (d : ℕ) → d < client → world.ended d ≡ true
@@ -86,11 +86,11 @@ IsOfSteps (NotEnded c) = ⊤
 IsOfSteps NoMemory = ⊤
 
 -- the fault of the simulation if the text has this fault
-abbrev pub IsTextFault : EdnFault → SimulationFault → Type 0
-IsTextFault e (Text g) = (g ≡ e) × (e.kind ≢ edn_kind.NoMemory)
-IsTextFault e (Form f) = ⊥
-IsTextFault e (NotEnded c) = ⊥
-IsTextFault e NoMemory = e.kind ≡ edn_kind.NoMemory
+abbrev pub IsScheduleTextFault : EdnFault → SimulationFault → Type 0
+IsScheduleTextFault e (Text g) = (g ≡ e) × (e.kind ≢ edn_kind.NoMemory)
+IsScheduleTextFault e (Form f) = ⊥
+IsScheduleTextFault e (NotEnded c) = ⊥
+IsScheduleTextFault e NoMemory = e.kind ≡ edn_kind.NoMemory
 
 -- the fault of the simulation if the forms have this fault
 abbrev pub IsFormFault : ScheduleFault → SimulationFault → Type 0

@@ -14,11 +14,11 @@ pub enum ScheduleFaultKind {
 }
 
 impl ScheduleFaultKind {
-    ghost use Rattle.simulation.specs.Faults.{number_of};
+    ghost use Rattle.simulation.specs.Faults.{schedule_fault_number};
 
     /// The number after the letter S. An allocation failure is never printed.
     pub fn number(self) -> u8
-        ensures { result ≡ number_of self }
+        ensures { result ≡ schedule_fault_number self }
     {
         match self {
             ScheduleFaultKind::NoHeader => 1,

@@ -4,8 +4,8 @@ ghost use Rattle.std.specs.Prelude.{◌≡◌, ◌<◌, ◌≤◌, ℕ, length, 
 ghost use Rattle.model.specs.Objects.{empty, kind_with};
 ghost use Rattle.seq_objects.specs.AnyContent.{content_of};
 ghost use Rattle.machine.specs.Machines.{clients_of, world_of};
-ghost use Rattle.machine.specs.Runs.{start_of};
-ghost use Rattle.simulation.specs.Plays.{IsPlayed, kinds_of};
+ghost use Rattle.machine.specs.Runs.{start_world};
+ghost use Rattle.simulation.specs.Plays.{IsPlayed, header_kinds};
 ghost use Rattle.simulation.specs.Simulations.{IsPlayFault};
 ghost use Rattle.simulation.specs.Schedules.{IsWithin};
 
@@ -33,7 +33,7 @@ pub enum PlayFault {
 /// The objects that the header asks for, all empty.
 fn objects_of(alloc: Global, header: &Header) -> Result<Vec<AnyObject>, AllocError>
     ensures kinds { IfOk result (λ v. map (λ o. kind_with (content_of o)) v.items
-        ≡ kinds_of header.now) }
+        ≡ header_kinds header.now) }
     ensures empty { IfOk result (λ v. All (λ o. content_of o
         ≡ empty (kind_with (content_of o))) v.items) }
 {
@@ -48,10 +48,10 @@ fn objects_of(alloc: Global, header: &Header) -> Result<Vec<AnyObject>, AllocErr
 /// objects. It fails only on an allocation failure.
 pub fn machine_of(alloc: Global, header: &Header) -> Result<Machine<AnyObject>, AllocError>
     requires { IsWithin header.now }
-    ensures kinds { IfOk result (λ m. m.kinds ≡ kinds_of header.now) }
+    ensures kinds { IfOk result (λ m. m.kinds ≡ header_kinds header.now) }
     ensures counts { IfOk result (λ m. (clients_of m ≡ header.now.clients)
         × (m.quota ≡ header.now.quota)) }
-    ensures start { IfOk result (λ m. world_of m ≡ start_of header.now.clients) }
+    ensures start { IfOk result (λ m. world_of m ≡ start_world header.now.clients) }
 {
     let objects = objects_of(alloc, header)?;
     Machine::new(alloc, objects, header.clients, header.quota)

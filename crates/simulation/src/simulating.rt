@@ -5,7 +5,7 @@ ghost use Rattle.simulation.specs.Schedules.{AnyStep, IsWithin};
 ghost use Rattle.simulation.specs.declared.header.Header.{Header};
 ghost use Rattle.edn_reader.specs.Sound.{IsShort};
 ghost use Rattle.simulation.specs.Simulations.{DenotesSchedule, IsOfSteps, IsSimulated};
-ghost use Rattle.simulation.specs.Simulations.{IsSimulationFault, IsTextFault, IsFormFault};
+ghost use Rattle.simulation.specs.Simulations.{IsSimulationFault, IsScheduleTextFault, IsFormFault};
 
 use crate::playing::{PlayFault, Played, play};
 use crate::{Schedule, ScheduleFault, ScheduleFaultKind, read_schedule};
@@ -26,7 +26,7 @@ pub enum SimulationFault {
 
 /// What is wrong if this fault of the text was found.
 fn text_fault(fault: EdnFault) -> SimulationFault
-    ensures { IsTextFault fault result }
+    ensures { IsScheduleTextFault fault result }
 {
     match fault.kind {
         FaultKind::NoMemory => SimulationFault::NoMemory,

@@ -38,7 +38,7 @@ fn call_with(object: Option<u32>, op: Option<AnyOp>) -> Option<Step<AnyOp>>
 
 /// The number of an object that the map has.
 fn object_at(entries: &[(Name, Form)]) -> Option<u32>
-    ensures { result ≡ spec.object_at (entries_of (pair_views entries.now)) }
+    ensures { result ≡ spec.object_of_step (entries_of (pair_views entries.now)) }
 {
     number_at(entries, b"object", 0, MAX_OBJECTS - 1)
 }
@@ -63,7 +63,7 @@ fn draw_in(entries: &[(Name, Form)]) -> Option<Step<AnyOp>>
 
 fn win_in(entries: &[(Name, Form)]) -> Option<Step<AnyOp>>
     ensures { result ≡ option_map Step.Win
-        (spec.object_at (entries_of (pair_views entries.now))) }
+        (spec.object_of_step (entries_of (pair_views entries.now))) }
 {
     Some(Step::Win(object_at(entries)?))
 }

@@ -17,7 +17,7 @@ use Rattle.desk_model.specs.Records.{order_of, IsSoundRecord}
 use Rattle.events.specs.declared.event.Action.{Action}
 use Rattle.events.specs.declared.event.Action.TheVariants.{Invoke, Ok, Fail, Info}
 use Rattle.events.specs.declared.event.Event.{Event}
-use Rattle.events.specs.Events.{IsProper, IsNamed, kind_at, kind_in, denoted}
+use Rattle.events.specs.Events.{IsProper, IsNamed, kind_of_object, kind_in_action, denoted}
 use Rattle.events.proofs.WellFormed.{denoted_is_history}
 use Rattle.recorder.specs.Histories.{AreEventsOf}
 use Rattle.recorder.proofs.Same.{same_by_parts}
@@ -32,7 +32,7 @@ use Rattle.transcript.proofs.Denoting.{part_denotes, denotes_once}
 -- the kind of a named object, where each invocation is of its object's kind
 kind_named : (kinds : ℕ → Kind) (es : List Event)
     → ((e : Event) (op : AnyOp) → In e es → e.action ≡ Invoke op → kind_of op ≡ kinds e.object)
-    → (x : ℕ) (f : Event) (o : AnyOp) → In f es → f.object ≡ x → f.action ≡ Invoke o → kind_at es x ≡ kinds x
+    → (x : ℕ) (f : Event) (o : AnyOp) → In f es → f.object ≡ x → f.action ≡ Invoke o → kind_of_object es x ≡ kinds x
 kind_named kinds [] of_kind x f o i on is = absurd i
 kind_named kinds (e ∷ es) of_kind x f o i on is =
     go (e.object == x) refl e.action refl (λ j. kind_named kinds es (λ g p k. of_kind g p (inr k)) x f o j on is)
@@ -43,8 +43,8 @@ kind_named kinds (e ∷ es) of_kind x f o i on is =
       | inr j ↦ j
     ]
 
-    go : (b : Bool) → (e.object == x) ≡ b → (a : Action) → e.action ≡ a → (In f es → kind_at es x ≡ kinds x)
-        → cond b (kind_in a (kind_at es x)) (kind_at es x) ≡ kinds x
+    go : (b : Bool) → (e.object == x) ≡ b → (a : Action) → e.action ≡ a → (In f es → kind_of_object es x ≡ kinds x)
+        → cond b (kind_in_action a (kind_of_object es x)) (kind_of_object es x) ≡ kinds x
     go true q (Invoke op) s later = of_kind e op (inl refl) s ∙ ap kinds (eqb-true e.object x q)
     go true q (Ok r) s later = later (at_head (Ok r) s (λ op t. absurd (cc (t))))
     go true q Fail s later = later (at_head Fail s (λ op t. absurd (cc (t))))
@@ -74,13 +74,13 @@ module _ (kinds : List Kind) (quota : ℕ) (journals : ℕ → List AnyEvent) (l
       (λ c. denotes_once c (journals c) _ _
       (part_denotes c (journals c) es (are.each c) (turns_in kinds quota journals logs s c)) (s.denoted.each c))
 
-  kind_is : (x : ℕ) → IsNamed es x → kind_at es x ≡ world.kind_at kinds x
+  kind_is : (x : ℕ) → IsNamed es x → kind_of_object es x ≡ world.kind_at kinds x
   kind_is x n = kind_named (world.kind_at kinds) es
       (λ e op i q. (among kinds quota journals logs s e.process (Invoked e.number e.object op)
       (invocation_of e.process 0 (journals e.process) e op (own_event journals es are e i) q)).1)
       x n.event n.op (in_from_contains es n.event n.stands) n.on_object n.invokes
 
-  valid_at : (x : ℕ) → IsNamed es x → IsValidOrder (kind_at es x) (calls_on x (denoted es)) (order_of (logs x))
+  valid_at : (x : ℕ) → IsNamed es x → IsValidOrder (kind_of_object es x) (calls_on x (denoted es)) (order_of (logs x))
   valid_at x n = subst (λ (k : Kind). IsValidOrder k (calls_on x (denoted es)) (order_of (logs x))) (sym (kind_is x n))
       (subst (λ (h : List Numbered). IsValidOrder (world.kind_at kinds x) (calls_on x h) (order_of (logs x)))
       (sym history_is) (s.valid x))
@@ -97,7 +97,7 @@ module _ (kinds : List Kind) (quota : ℕ) (journals : ℕ → List AnyEvent) (l
         all_at (λ (d : Certificate). d.order.items ≡ order_of (logs d.object)) cs h.orders c at.1
         ∙ ap (λ y. order_of (logs y)) on in (
           record { certificate = c; stands = contains_from_in cs c at.1; for_object = on },
-          subst (IsValidOrder (kind_at es x) (calls_on x (denoted es))) (sym order) (valid_at x n),
+          subst (IsValidOrder (kind_of_object es x) (calls_on x (denoted es))) (sym order) (valid_at x n),
         );
     none_besides = all_from_in (λ (c : Certificate). IsNamed es c.object) cs
         (λ c i. named_by journals es are c.object

@@ -14,7 +14,7 @@ use Rattle.events.specs.Events.{HasShape}
 use Rattle.recorder.proofs.Journals.{InTurn, none, last, call, Fits}
 use Rattle.transcript.specs.declared.line.Call.{Call}
 use Rattle.transcript.specs.declared.line.Line.{Line}
-use Rattle.transcript.specs.Lines.{event_with, lines_from, lines_of}
+use Rattle.transcript.specs.Lines.{event_of_journal, journal_lines_from, journal_lines}
 
 -- the line of a call that is under way
 abbrev pub Pending : Option Line → ℕ → AnyOp → Type 0
@@ -69,7 +69,8 @@ goes_after p front (l ∷ earlier) ls h =
 -- the lines of a journal go on like that
 
 journal_goes : (c : ℕ) (q : Option Call) (prior : Option Line) (js : List AnyEvent) → InTurn js
-    → ((k : Line) (p : AnyOp) → prior ≡ Some k → k.event.action ≡ Invoke p → ⊥) → Goes c prior (lines_from c q js)
+    → ((k : Line) (p : AnyOp) → prior ≡ Some k → k.event.action ≡ Invoke p → ⊥)
+    → Goes c prior (journal_lines_from c q js)
 journal_goes c q prior l none h = tt
 journal_goes c q prior l (last t x op) h = (λ e. ((refl, h), tt), λ e. tt)
 journal_goes c q prior l (call t x op u a js fits rest) h = (
@@ -79,15 +80,16 @@ journal_goes c q prior l (call t x op u a js fits rest) h = (
   where
     back : (a : AnyAnswer) → Fits op a
         → ((o : Option Line) → ((k : Line) (p : AnyOp) → o ≡ Some k → k.event.action ≡ Invoke p → ⊥)
-        → Goes c o (lines_from c (Some (record { object = x; op = op })) js))
-        → Goes c (Some (record { event = event_with c x (Invoked t x op); op = op }))
-        (record { event = event_with c x (Returned u a); op = op }
-        ∷ lines_from c (Some (record { object = x; op = op })) js)
+        → Goes c o (journal_lines_from c (Some (record { object = x; op = op })) js))
+        → Goes c (Some (record { event = event_of_journal c x (Invoked t x op); op = op }))
+        (record { event = event_of_journal c x (Returned u a); op = op }
+        ∷ journal_lines_from c (Some (record { object = x; op = op })) js)
     back (Reply r) f later = (
       λ e. (
-        ((record { event = event_with c x (Invoked t x op); op = op }, refl, refl, refl, refl), f),
-        later (Some (record { event = event_with c x (Returned u (Reply r)); op = op }))
-            (λ k p s i. let same : record { event = event_with c x (Returned u (Reply r)); op = op } ≡ k = cc (s) in
+        ((record { event = event_of_journal c x (Invoked t x op); op = op }, refl, refl, refl, refl), f),
+        later (Some (record { event = event_of_journal c x (Returned u (Reply r)); op = op }))
+            (λ k p s i. let same : record { event = event_of_journal c x (Returned u (Reply r)); op = op }
+            ≡ k = cc (s) in
             let act : Ok r ≡ Invoke p =
             ap (λ (z : Line). z.event.action) same ∙ i in absurd (cc (act))),
       ),
@@ -95,9 +97,9 @@ journal_goes c q prior l (call t x op u a js fits rest) h = (
     )
     back Refused f later = (
       λ e. (
-        (record { event = event_with c x (Invoked t x op); op = op }, refl, refl, refl, refl),
-        later (Some (record { event = event_with c x (Returned u Refused); op = op }))
-            (λ k p s i. let same : record { event = event_with c x (Returned u Refused); op = op } ≡ k = cc (s) in
+        (record { event = event_of_journal c x (Invoked t x op); op = op }, refl, refl, refl, refl),
+        later (Some (record { event = event_of_journal c x (Returned u Refused); op = op }))
+            (λ k p s i. let same : record { event = event_of_journal c x (Returned u Refused); op = op } ≡ k = cc (s) in
             let act : Fail ≡ Invoke p =
             ap (λ (z : Line). z.event.action) same ∙ i in absurd (cc (act))),
       ),
@@ -106,7 +108,7 @@ journal_goes c q prior l (call t x op u a js fits rest) h = (
 
 -- each line follows the last one of its process
 pub line_follows : (ls : List Line) (journals : ℕ → List AnyEvent) → ((c : ℕ) → InTurn (journals c))
-    → ((c : ℕ) → filter (λ l. l.event.process == c) ls ≡ lines_of c (journals c))
+    → ((c : ℕ) → filter (λ l. l.event.process == c) ls ≡ journal_lines c (journals c))
     → (earlier later : List Line) (l : Line) → ls ≡ earlier ++ l ∷ later → Follows (last_line l.event.process earlier) l
 line_follows ls journals turn parts earlier later l is =
     let c = l.event.process in

@@ -15,7 +15,7 @@ use Rattle.events.specs.declared.event.Action.{Action}
 use Rattle.events.specs.declared.event.Action.TheVariants.{Invoke, Ok, Fail}
 use Rattle.events.specs.declared.event.Event.{Event}
 use Rattle.events.specs.Events.{next_event, is_fail, fails, denoted_by, denoted}
-use Rattle.recorder.specs.Histories.{events_from}
+use Rattle.recorder.specs.Histories.{events_of_journal}
 use Rattle.recorder.proofs.Journals.{InTurn, none, last, call}
 
 -- the next event of a process is its own part's first
@@ -58,28 +58,28 @@ next_own : (c : ℕ) (e : Event) (es : List Event) → e.process ≡ c → fails
 next_own c e es own = ap (λ b. fails (cond b (Some e) (next_event c es))) (eq-eqb e.process c own)
 
 -- a journal's events denote what the journal does
-pub denotes_events : (c x : ℕ) (js : List AnyEvent) → InTurn js → Denotes c js (denoted (events_from c x js))
+pub denotes_events : (c x : ℕ) (js : List AnyEvent) → InTurn js → Denotes c js (denoted (events_of_journal c x js))
 denotes_events c x l none = refl
 denotes_events c x l (last t y op) = refl
 denotes_events c x l (call t y op u a js fits rest) = go a (denotes_events c y js rest)
   where
-    go : (a : AnyAnswer) → Denotes c js (denoted (events_from c y js))
+    go : (a : AnyAnswer) → Denotes c js (denoted (events_of_journal c y js))
         → Denotes c (Invoked t y op ∷ Returned u a ∷ js)
-        (denoted (events_from c x (Invoked t y op ∷ Returned u a ∷ js)))
+        (denoted (events_of_journal c x (Invoked t y op ∷ Returned u a ∷ js)))
     go (Reply r) h =
         let back : Event = record { number = u; process = c; object = y; action = Ok r } in (
-          denoted (events_from c y js),
+          denoted (events_of_journal c y js),
           ap
               (λ b. denoted_by t c y (Invoke op) b
-              ++ (record { number = u; event = Res c y r } ∷ denoted (events_from c y js)))
-              (next_own c back (events_from c y js) refl),
+              ++ (record { number = u; event = Res c y r } ∷ denoted (events_of_journal c y js)))
+              (next_own c back (events_of_journal c y js) refl),
           h,
         )
     go Refused h =
         let back : Event = record { number = u; process = c; object = y; action = Fail } in
         subst (Denotes c js) (sym
-        (ap (λ b. denoted_by t c y (Invoke op) b ++ denoted (events_from c y js))
-        (next_own c back (events_from c y js) refl))) h
+        (ap (λ b. denoted_by t c y (Invoke op) b ++ denoted (events_of_journal c y js))
+        (next_own c back (events_of_journal c y js) refl))) h
 
 -- a journal denotes one list of events
 pub denotes_once : (c : ℕ) (js : List AnyEvent) (h k : List Numbered) → Denotes c js h → Denotes c js k → h ≡ k
@@ -93,6 +93,6 @@ denotes_once c js h k d e = absurd d
 
 -- the part of a client in what the events denote
 pub part_denotes : (c : ℕ) (js : List AnyEvent) (es : List Event)
-    → filter (λ e. e.process == c) es ≡ events_from c 0 js → InTurn js → Denotes c js (part c (denoted es))
+    → filter (λ e. e.process == c) es ≡ events_of_journal c 0 js → InTurn js → Denotes c js (part c (denoted es))
 part_denotes c js es own turn =
     subst (Denotes c js) (sym (part_denoted c es ∙ ap denoted own)) (denotes_events c 0 js turn)

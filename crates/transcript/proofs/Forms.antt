@@ -13,7 +13,7 @@ use Rattle.history.specs.Names.{function_named}
 use Rattle.history.specs.Denotes.{action_of}
 use Rattle.history.proofs.Naming.{named_is}
 use Rattle.transcript.specs.declared.line.Line.{Line}
-use Rattle.transcript.specs.Lines.{type_of, value_of, value_form, form_of}
+use Rattle.transcript.specs.Lines.{type_of, map_value, value_form, form_of}
 use Rattle.transcript.proofs.ClientLines.{Follows}
 
 abbrev pub type_map : Action → MapType
@@ -29,7 +29,7 @@ map_of l = record {
   type = type_map l.event.action;
   function = Some (function_in l.op);
   object = l.event.object;
-  value = value_form (value_of l.op l.event.action);
+  value = value_form (map_value l.op l.event.action);
 }
 
 type_is : (a : Action) → type_named (type_of a) ≡ Some (type_map a)

@@ -21,12 +21,13 @@ use Rattle.events.specs.declared.event.Event.{Event}
 use Rattle.events.specs.Events.{IsProper}
 use Rattle.events.proofs.Parts.{same_event}
 use Rattle.events.proofs.ProcessRuns.{State, idle, MayDo, Runs, runs_from_start}
-use Rattle.recorder.specs.Histories.{events_from, events_of, AreEventsOf}
+use Rattle.recorder.specs.Histories.{events_of_journal, events_of, AreEventsOf}
 use Rattle.recorder.proofs.Same.{same_rising, same_by_parts}
-use Rattle.transcript.proofs.Turns.{no_return}
+use Rattle.transcript.proofs.CallsInTurn.{no_return}
 use Rattle.transcript.specs.declared.line.Call.{Call}
 use Rattle.transcript.specs.declared.line.Line.{Line}
-use Rattle.transcript.specs.Lines.{call_after, event_with, line_with, lines_from, lines_of, lines_in, AreLinesOf}
+use Rattle.transcript.specs.Lines.{call_after, event_of_journal, line_with, journal_lines_from, journal_lines, lines_in}
+use Rattle.transcript.specs.Lines.{AreLinesOf}
 use Rattle.transcript.specs.Lines.{events_in}
 
 abbrev number_in : Line → ℕ
@@ -38,11 +39,11 @@ process_in l = l.event.process
 -- ---- the events of a journal's lines
 
 events_after : (c : ℕ) (q : Call) (js : List AnyEvent)
-    → events_in (lines_from c (Some q) js) ≡ events_from c q.object js
+    → events_in (journal_lines_from c (Some q) js) ≡ events_of_journal c q.object js
 events_after c q [] = refl
 events_after c q (Invoked t x op ∷ js) =
-    ap (λ es. event_with c x (Invoked t x op) ∷ es) (events_after c (record { object = x; op = op }) js)
-events_after c q (Returned u a ∷ js) = ap (λ es. event_with c q.object (Returned u a) ∷ es) (events_after c q js)
+    ap (λ es. event_of_journal c x (Invoked t x op) ∷ es) (events_after c (record { object = x; op = op }) js)
+events_after c q (Returned u a ∷ js) = ap (λ es. event_of_journal c q.object (Returned u a) ∷ es) (events_after c q js)
 
 -- a process that is idle first invokes
 first_may : (p : ℕ) (s : State) (es : List Event) (f : Event) (fs : List Event) → Runs p s es
@@ -51,7 +52,7 @@ first_may p s [] f fs h e = absurd (cc)
 first_may p s (g ∷ es) f fs h e = let later = first_may p s es f fs in grind arith
 
 -- each line is of its client
-of_event : (c x : ℕ) (e : AnyEvent) → (event_with c x e).process ≡ c
+of_event : (c x : ℕ) (e : AnyEvent) → (event_of_journal c x e).process ≡ c
 of_event c x e = grind arith
 
 of_line : (c : ℕ) (e : AnyEvent) (q : Option Call) (l : Line) → In l (line_with c e q) → l.event.process ≡ c
@@ -61,11 +62,11 @@ of_line c e (Some q) l i = elim i [
   | inr j ↦ absurd j
 ]
 
-pub of_client : (c : ℕ) (last : Option Call) (js : List AnyEvent) (l : Line) → In l (lines_from c last js)
+pub of_client : (c : ℕ) (last : Option Call) (js : List AnyEvent) (l : Line) → In l (journal_lines_from c last js)
     → l.event.process ≡ c
 of_client c last [] l i = absurd i
 of_client c last (e ∷ js) l i =
-    elim (in_append l (line_with c e (call_after last e)) (lines_from c (call_after last e) js) i) [
+    elim (in_append l (line_with c e (call_after last e)) (journal_lines_from c (call_after last e) js) i) [
       | inl j ↦ of_line c e (call_after last e) l j
       | inr j ↦ of_client c (call_after last e) js l j
     ]
@@ -74,52 +75,52 @@ of_client c last (e ∷ js) l i =
 
 not_below : (n : ℕ) (js : List (List AnyEvent)) (l : Line) → In l (lines_in n js) → n ≤ l.event.process
 not_below n [] l i = absurd i
-not_below n (j ∷ js) l i = elim (in_append l (lines_of n j) (lines_in (n + 1) js) i) [
+not_below n (j ∷ js) l i = elim (in_append l (journal_lines n j) (lines_in (n + 1) js) i) [
   | inl k ↦ let e = of_client n None j l k in omega arith
   | inr k ↦ let h = not_below (n + 1) js l k in omega arith
 ]
 
 -- those of one client
 pub lines_at : (n : ℕ) (js : List (List AnyEvent)) (k : ℕ)
-    → filter (λ l. l.event.process == n + k) (lines_in n js) ≡ lines_of (n + k) (get_or js k [])
+    → filter (λ l. l.event.process == n + k) (lines_in n js) ≡ journal_lines (n + k) (get_or js k [])
 lines_at n [] k = refl
 lines_at n (j ∷ js) zero = let here : n + 0 ≡ n = omega arith in let P : Line → Bool = λ l. l.event.process == n + 0 in
-    let own = filter_all P (lines_of n j)
+    let own = filter_all P (journal_lines n j)
     (λ l i. eq-eqb l.event.process (n + 0) (of_client n None j l i ∙ sym here)) in
     let others = filter_none P (lines_in (n + 1) js)
     (λ l i. ne_eqb l.event.process (n + 0) (λ e. let h = not_below (n + 1) js l i in absurd (omega arith))) in
-    rw (filter-append P (lines_of n j) (lines_in (n + 1) js), own, others)
-    (append-nil (lines_of n j) ∙ ap (λ m. lines_of m j) (sym here))
+    rw (filter-append P (journal_lines n j) (lines_in (n + 1) js), own, others)
+    (append-nil (journal_lines n j) ∙ ap (λ m. journal_lines m j) (sym here))
 lines_at n (j ∷ js) (suc k) = let there : n + suc k ≡ (n + 1) + k = omega arith in
-    let P : Line → Bool = λ l. l.event.process == n + suc k in let own = filter_none P (lines_of n j)
+    let P : Line → Bool = λ l. l.event.process == n + suc k in let own = filter_none P (journal_lines n j)
     (λ l i. ne_eqb l.event.process (n + suc k) (λ e. let h = of_client n None j l i in absurd (omega arith))) in
-    rw (filter-append P (lines_of n j) (lines_in (n + 1) js), own, there) (lines_at (n + 1) js k)
+    rw (filter-append P (journal_lines n j) (lines_in (n + 1) js), own, there) (lines_at (n + 1) js k)
 
 -- where those of each client rise, and no number is of two clients, no number stands twice
 apart : (n : ℕ) (js : List (List AnyEvent))
-    → ((k : ℕ) → Pairs (λ a b. number_in a < number_in b) (lines_of (n + k) (get_or js k [])))
+    → ((k : ℕ) → Pairs (λ a b. number_in a < number_in b) (journal_lines (n + k) (get_or js k [])))
     → ((a b : Line) → In a (lines_in n js) → In b (lines_in n js) → number_in a ≡ number_in b
     → process_in a ≡ process_in b)
     → Pairs (λ a b. number_in a ≢ number_in b) (lines_in n js)
 apart n [] up same = tt
 apart n (j ∷ js) up same =
     let here : n + 0 ≡ n = omega arith in
-    pairs_append (λ a b. number_in a ≢ number_in b) (lines_of n j) (lines_in (n + 1) js)
-    (pairs_weaker (λ a b. number_in a < number_in b) (λ a b. number_in a ≢ number_in b) (lines_of n j)
+    pairs_append (λ a b. number_in a ≢ number_in b) (journal_lines n j) (lines_in (n + 1) js)
+    (pairs_weaker (λ a b. number_in a < number_in b) (λ a b. number_in a ≢ number_in b) (journal_lines n j)
     (λ a b i k l e. omega arith)
-    (subst (λ (m : ℕ). Pairs (λ a b. number_in a < number_in b) (lines_of m j)) here (up 0)))
+    (subst (λ (m : ℕ). Pairs (λ a b. number_in a < number_in b) (journal_lines m j)) here (up 0)))
     (apart (n + 1) js
     (λ k. let there : n + suc k ≡ (n + 1) + k = omega arith in
-    subst (λ (m : ℕ). Pairs (λ a b. number_in a < number_in b) (lines_of m (get_or js k []))) there (up (suc k)))
+    subst (λ (m : ℕ). Pairs (λ a b. number_in a < number_in b) (journal_lines m (get_or js k []))) there (up (suc k)))
     (λ a b i k. same a b (behind a i) (behind b k)))
     (λ a b i k e. let p = of_client n None j a i in let q = not_below (n + 1) js b k in
     let s = same a b (before a i) (behind b k) e in omega arith)
   where
-    before : (a : Line) → In a (lines_of n j) → In a (lines_in n (j ∷ js))
-    before a i = in_left a (lines_of n j) (lines_in (n + 1) js) i
+    before : (a : Line) → In a (journal_lines n j) → In a (lines_in n (j ∷ js))
+    before a i = in_left a (journal_lines n j) (lines_in (n + 1) js) i
 
     behind : (a : Line) → In a (lines_in (n + 1) js) → In a (lines_in n (j ∷ js))
-    behind a i = in_right a (lines_of n j) (lines_in (n + 1) js) i
+    behind a i = in_right a (journal_lines n j) (lines_in (n + 1) js) i
 
 -- sorted, they rise
 sorted_rises : {X : Type 0} (n : X → ℕ) (xs ys : List X) → AllPairs (λ a b. n a ≢ n b) xs → IsPermutation xs ys
@@ -166,20 +167,22 @@ module _ (journals : ℕ → List AnyEvent) (es : List Event) (are : AreEventsOf
   rises : Pairs (λ (a b : Event). a.number < b.number) es
   rises = pairs_from_all (λ (a b : Event). a.number < b.number) es are.rising
 
-  pub events_are : (c : ℕ) → events_in (lines_of c (journals c)) ≡ events_of c (journals c)
+  pub events_are : (c : ℕ) → events_in (journal_lines c (journals c)) ≡ events_of c (journals c)
   events_are c = go (journals c) (are.each c)
     where
       go : (js : List AnyEvent) → filter (λ (e : Event). e.process == c) es ≡ events_of c js
-          → events_in (lines_of c js) ≡ events_of c js
+          → events_in (journal_lines c js) ≡ events_of c js
       go [] h = refl
       go (Invoked t x op ∷ js) h =
-          ap (λ (fs : List Event). event_with c x (Invoked t x op) ∷ fs)
+          ap (λ (fs : List Event). event_of_journal c x (Invoked t x op) ∷ fs)
           (events_after c (record { object = x; op = op }) js)
       go (Returned u a ∷ js) h = absurd (no_return 0 a
-          (first_may c idle es (event_with c 0 (Returned u a)) (events_from c 0 js) (runs_from_start es c proper) h))
+          (first_may c idle es (event_of_journal c 0 (Returned u a)) (events_of_journal c 0 js)
+          (runs_from_start es c proper) h))
 
-  lines_rise : (c : ℕ) → Pairs (λ a b. number_in a < number_in b) (lines_of c (journals c))
-  lines_rise c = pairs_from_map (λ (a b : Event). a.number < b.number) (λ (l : Line). l.event) (lines_of c (journals c))
+  lines_rise : (c : ℕ) → Pairs (λ a b. number_in a < number_in b) (journal_lines c (journals c))
+  lines_rise c = pairs_from_map (λ (a b : Event). a.number < b.number)
+      (λ (l : Line). l.event) (journal_lines c (journals c))
       (subst (Pairs (λ (a b : Event). a.number < b.number)) (are.each c ∙ sym (events_are c))
       (pairs_filter (λ (a b : Event). a.number < b.number) (λ (e : Event). e.process == c) es rises))
 
@@ -203,12 +206,13 @@ module _ (journals : ℕ → List AnyEvent) (es : List Event) (are : AreEventsOf
   -- the lines of all journals, sorted
   module _ (js : List (List AnyEvent)) (same : (c : ℕ) → get_or js c [] ≡ journals c) (ls : List Line)
       (p : IsPermutation (lines_in 0 js) ls) (up : IsNonDecreasingBy (λ l. l.event.number) ls) where
-    of_one : (c : ℕ) → filter (λ l. l.event.process == c) (lines_in 0 js) ≡ lines_of c (journals c)
+    of_one : (c : ℕ) → filter (λ l. l.event.process == c) (lines_in 0 js) ≡ journal_lines c (journals c)
     of_one c = let e : 0 + c ≡ c = omega arith in
-        subst (λ (m : ℕ). filter (λ (l : Line). l.event.process == m) (lines_in 0 js) ≡ lines_of m (get_or js c [])) e
-        (lines_at 0 js c) ∙ ap (lines_of c) (same c)
+        subst (λ (m : ℕ). filter (λ (l : Line). l.event.process == m) (lines_in 0 js)
+        ≡ journal_lines m (get_or js c [])) e
+        (lines_at 0 js c) ∙ ap (journal_lines c) (same c)
 
-    own : (l : Line) → In l (lines_in 0 js) → In l (lines_of (process_in l) (journals (process_in l)))
+    own : (l : Line) → In l (lines_in 0 js) → In l (journal_lines (process_in l) (journals (process_in l)))
     own l i = subst (In l) (of_one (process_in l))
         (in_filter_from (λ (k : Line). k.event.process == process_in l) l (lines_in 0 js) i
         (eq-eqb (process_in l) (process_in l) refl))
@@ -218,14 +222,14 @@ module _ (journals : ℕ → List AnyEvent) (es : List Event) (are : AreEventsOf
         let c = process_in l in
         let there : In l.event (events_of c (journals c)) =
         subst (In l.event) (events_are c)
-        (in_map_from (λ (k : Line). k.event) l (lines_of c (journals c)) (own l i)) in
+        (in_map_from (λ (k : Line). k.event) l (journal_lines c (journals c)) (own l i)) in
         in_filter (λ (e : Event). e.process == c) l.event es (subst (In l.event) (sym (are.each c)) there)
 
     all_apart : Pairs (λ a b. number_in a ≢ number_in b) (lines_in 0 js)
     all_apart = apart 0 js
         (λ k. let e : 0 + k ≡ k = omega arith in
-        subst (λ (m : ℕ). Pairs (λ a b. number_in a < number_in b) (lines_of m (get_or js k []))) (sym e)
-        (subst (λ (j : List AnyEvent). Pairs (λ a b. number_in a < number_in b) (lines_of k j)) (sym (same k))
+        subst (λ (m : ℕ). Pairs (λ a b. number_in a < number_in b) (journal_lines m (get_or js k []))) (sym e)
+        (subst (λ (j : List AnyEvent). Pairs (λ a b. number_in a < number_in b) (journal_lines k j)) (sym (same k))
         (lines_rise k)))
         (λ a b i k e. ap (λ (x : Event). x.process)
         (same_event es a.event b.event rises (in_events a i) (in_events b k) e))
@@ -242,14 +246,14 @@ module _ (journals : ℕ → List AnyEvent) (es : List Event) (are : AreEventsOf
     sorted = sorted_rises (λ (l : Line). l.event.number) (lines_in 0 js) ls
         (all_from_pairs (λ a b. number_in a ≢ number_in b) (lines_in 0 js) all_apart) p up
 
-    part_is : (c : ℕ) → filter (λ l. l.event.process == c) ls ≡ lines_of c (journals c)
-    part_is c = same_rising number_in (filter (λ (l : Line). l.event.process == c) ls) (lines_of c (journals c))
+    part_is : (c : ℕ) → filter (λ l. l.event.process == c) ls ≡ journal_lines c (journals c)
+    part_is c = same_rising number_in (filter (λ (l : Line). l.event.process == c) ls) (journal_lines c (journals c))
         (pairs_filter (λ a b. number_in a < number_in b) (λ (l : Line). l.event.process == c) ls
         (pairs_from_all (λ a b. number_in a < number_in b) ls sorted)) (lines_rise c)
         (λ l i.
         let at : process_in l ≡ c =
         eqb-true (process_in l) c (in_filter_passes (λ (k : Line). k.event.process == c) l ls i) in
-        subst (λ (m : ℕ). In l (lines_of m (journals m))) at
+        subst (λ (m : ℕ). In l (journal_lines m (journals m))) at
         (own l (back l (in_filter (λ (k : Line). k.event.process == c) l ls i))))
         (λ l i. in_filter_from (λ (k : Line). k.event.process == c) l ls
         (forth l (in_filter (λ (k : Line). k.event.process == c) l (lines_in 0 js) (subst (In l) (sym (of_one c)) i)))

@@ -8,6 +8,6 @@ pub mod Accepting
 pub mod Texts
 pub mod ClientLines
 pub mod Forms
-pub mod Turns
+pub mod CallsInTurn
 pub mod ReadBack
 pub mod Profiles

@@ -8,12 +8,12 @@ use Rattle.desk_model.specs.World.{AnyEvent}
 use Rattle.events.specs.declared.event.Action.TheVariants.{Invoke}
 use Rattle.events.specs.declared.event.Event.{Event}
 use Rattle.events.specs.Events.{IsNamed}
-use Rattle.recorder.specs.Histories.{events_from, events_of, AreEventsOf, IsNamedIn}
+use Rattle.recorder.specs.Histories.{events_of_journal, events_of, AreEventsOf, IsNamedIn}
 use Rattle.recorder.proofs.Journals.{invocation_of}
 
 -- the event of an invocation
 event_of : (c x : ℕ) (js : List AnyEvent) (t y : ℕ) (op : AnyOp) → In (Invoked t y op) js
-    → In (record { number = t; process = c; object = y; action = Invoke op }) (events_from c x js)
+    → In (record { number = t; process = c; object = y; action = Invoke op }) (events_of_journal c x js)
 event_of c x [] t y op i = absurd i
 event_of c x (Invoked u z o ∷ js) t y op i = elim i [
   | inl e ↦

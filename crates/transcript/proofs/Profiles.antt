@@ -18,7 +18,7 @@ use Rattle.desk_model.specs.Images.{event_in}
 use Rattle.recorder.specs.Records.{Recorded}
 use Rattle.recorder.specs.Histories.{journals_in}
 use Rattle.transcript.specs.declared.line.Line.{Line}
-use Rattle.transcript.specs.Lines.{AreLinesOf, form_of, lines_of, type_of, value_form, value_of}
+use Rattle.transcript.specs.Lines.{AreLinesOf, form_of, journal_lines, type_of, value_form, map_value}
 
 function_named : (o : AnyOp) → is_name (name_of (function_in o)) ≡ true
 unfolding is_name
@@ -29,7 +29,7 @@ unfolding is_name
 type_named a = grind arith
 
 pub form_in_profile : (l : Line) → l.event.process < 2 ^ 63 → l.event.object < 2 ^ 63
-    → InProfile (value_form (value_of l.op l.event.action)) → InProfile (form_of l)
+    → InProfile (value_form (map_value l.op l.event.action)) → InProfile (form_of l)
 unfolding is_name
 form_in_profile l process object value =
     (refl, process, (refl, type_named l.event.action, (refl, function_named l.op, (refl, value, (refl, object, tt)))))
@@ -55,12 +55,12 @@ module _ {O R : Type 0} (op_in : O → AnyOp) (reply_in : R → AnyReply) (r : R
     where
       low : (l : Line) → In l ls → l.event.process < n
       low l i =
-          let own : In l (lines_of l.event.process (journals_in op_in reply_in r l.event.process)) =
+          let own : In l (journal_lines l.event.process (journals_in op_in reply_in r l.event.process)) =
           subst (In l) (are.each l.event.process)
           (in_filter_from (λ (k : Line). k.event.process == l.event.process) l ls i
           (eq-eqb l.event.process l.event.process refl)) in
           elim (cases_lt l.event.process n) [
             | inl h ↦ h
-            | inr h ↦ absurd (subst (λ (js : List AnyEvent). In l (lines_of l.event.process js))
+            | inr h ↦ absurd (subst (λ (js : List AnyEvent). In l (journal_lines l.event.process js))
                 (past l.event.process (omega arith)) own)
           ]

@@ -10,7 +10,7 @@ use Rattle.model.specs.declared.AnyOp.{AnyOp}
 use Rattle.model.specs.Objects.{kind_of}
 use Rattle.model.proofs.Lists.{In, Pairs, in_map, in_map_from, in_filter, in_filter_from, in_from_contains, in_split}
 use Rattle.model.proofs.Lists.{in_left, in_middle, all_at, all_from_in, pairs_from_all}
-use Rattle.edn_reader.specs.Datum.{Datum, Fits, max_open}
+use Rattle.edn_reader.specs.Datum.{Datum, DatumFits, max_open}
 use Rattle.edn_reader.specs.Text.{InProfile}
 use Rattle.edn_reader.specs.Laws.{EachSpelled}
 use Rattle.edn_reader.proofs.Joined.{text_spells_it, lines_spell_them}
@@ -27,25 +27,26 @@ use Rattle.history.specs.declared.fault.HistoryFaultKind.TheVariants.{NotAnOpera
 use Rattle.history.specs.declared.fault.HistoryFaultKind.TheVariants.{Busy, Stray, Mismatch, AfterInfo, TooMany}
 use Rattle.history.specs.declared.fault.HistoryFaultKind.TheVariants.{NoMemory}
 use Rattle.history.specs.Maps.{ClientMap, invoke, info, client_of, clients}
-use Rattle.history.specs.Faults.{last_map, HasBadValue, ClientFault, IsFaultless, IsFaultlessAtAnyLength, IsOutstanding}
-use Rattle.history.specs.Faults.{IsClosed}
-use Rattle.history.specs.Denotes.{action_of, event_with, event_of, events_from}
+use Rattle.history.specs.Faults.{last_map, HasBadValue, ClientFault, HasNoHistoryFault, IsFaultlessAtAnyLength}
+use Rattle.history.specs.Faults.{HasOutstanding}
+use Rattle.history.specs.Faults.{IsProcessClosed}
+use Rattle.history.specs.Denotes.{action_of, event_of_map, event_of, events_of_forms}
 use Rattle.history.proofs.MapLimit.{IsSmall, faultless_within}
 use Rattle.history.proofs.OneMore.{fault_of}
 use Rattle.history.proofs.Laws.{kind_of_op}
 use Rattle.desk_model.specs.declared.JournalEvent.TheVariants.{Invoked, Returned}
 use Rattle.desk_model.specs.World.{AnyEntry, AnyEvent, ticket_of}
 use Rattle.desk_model.specs.Sound.{ShareOut}
-use Rattle.recorder.specs.Histories.{AreEventsOf, IsRecord, events_of, max_tickets, events_from as journal_events}
+use Rattle.recorder.specs.Histories.{AreEventsOf, IsRecord, events_of, max_tickets, events_of_forms as journal_events}
 use Rattle.recorder.proofs.Same.{same_by_parts}
 use Rattle.recorder.proofs.Journals.{InTurn, none, last, call, numbers_of}
 use Rattle.transcript.specs.declared.line.Call.{Call}
 use Rattle.transcript.specs.declared.line.Line.{Line}
-use Rattle.transcript.specs.Lines.{value_of, value_form, form_of, history_text, lines_from}
+use Rattle.transcript.specs.Lines.{map_value, value_form, form_of, history_text, journal_lines_from}
 use Rattle.transcript.specs.Lines.{AreLinesOf, events_in}
 use Rattle.transcript.specs.Reading.{DenotesEvents}
 use Rattle.transcript.proofs.Gathered.{same_events}
-use Rattle.transcript.proofs.Turns.{turns_in, one_kind}
+use Rattle.transcript.proofs.CallsInTurn.{turns_in, one_kind}
 use Rattle.transcript.proofs.ClientLines.{MayFollow, Follows, last_line, line_follows}
 use Rattle.transcript.proofs.Forms.{type_map, map_of, client_is, action_is}
 
@@ -131,7 +132,7 @@ record IsFine (before : List Line) (l : Line) : Type 0 where
   none_unknown : (k : Line) → In k before → k.event.action ≢ Info
 
 -- the line that is outstanding, where some map is
-outstanding : (before : List Line) (p : ℕ) (o : ClientMap) → IsOutstanding (map map_of before) p o
+outstanding : (before : List Line) (p : ℕ) (o : ClientMap) → HasOutstanding (map map_of before) p o
     → (k : Line) × (last_line p before ≡ Some k)
     × (o ≡ map_of k) × (op : AnyOp) × (k.event.action ≡ Invoke op)
 outstanding before p o h = go (last_line p before) refl (sym (last_is p before) ∙ h.last)
@@ -153,7 +154,7 @@ no_bad m a is h = grind arith
 
 module _ (before : List Line) (l : Line) (fine : IsFine before l) where
   busy : (a : Action) → l.event.action ≡ a → type_map a ≡ invoke → (o : ClientMap)
-      → IsOutstanding (map map_of before) l.event.process o → ⊥
+      → HasOutstanding (map map_of before) l.event.process o → ⊥
   busy (Invoke op) is t o h =
       let k = outstanding before l.event.process o h in
       let f = rw is at fine.follows in f.1 k.0 k.3 k.1 k.4
@@ -168,7 +169,7 @@ module _ (before : List Line) (l : Line) (fine : IsFine before l) where
   pending Fail is t = let f = rw is at fine.follows in (f.0, f.1, l.op, f.2, f.3, f.4)
   pending Info is t = absurd (rw is at fine.follows)
 
-  closed_not : IsClosed (map map_of before) l.event.process → ⊥
+  closed_not : IsProcessClosed (map map_of before) l.event.process → ⊥
   closed_not h =
       let k = in_map map_of h.map before (in_from_contains (map map_of before) h.map h.stands) in
       let t : type_map k.0.event.action ≡ info = ap (λ (m : ClientMap). m.type) (sym k.2) ∙ h.unknown in
@@ -213,7 +214,7 @@ module _ (before : List Line) (l : Line) (fine : IsFine before l) where
 -- ---- the call of a line
 
 -- the invocation of a line's call is in the journal
-line_call : (c : ℕ) (q : Option Call) (js : List AnyEvent) → InTurn js → (l : Line) → In l (lines_from c q js)
+line_call : (c : ℕ) (q : Option Call) (js : List AnyEvent) → InTurn js → (l : Line) → In l (journal_lines_from c q js)
     → (t : ℕ) × In (Invoked t l.event.object l.op) js
 line_call c q js none l i = absurd i
 line_call c q js (last t x op) l i = elim i [
@@ -239,13 +240,13 @@ invocation_event c x t y op (Returned u a ∷ js) i =
 
 -- ---- what the lines spell
 
-value_fits : (n : ℕ) → 0 < n → (v : Value) → Fits n (value_form v)
+value_fits : (n : ℕ) → 0 < n → (v : Value) → DatumFits n (value_form v)
 value_fits n low (Pair a b) = (low, (tt, (tt, tt)))
 value_fits n low (Triple a b c) = (low, (tt, (tt, (tt, tt))))
 value_fits n h v = tt
 
-form_fits : (l : Line) → Fits max_open (form_of l)
-form_fits l = let value = value_fits 15 (lit< tt) (value_of l.op l.event.action) in grind arith
+form_fits : (l : Line) → DatumFits max_open (form_of l)
+form_fits l = let value = value_fits 15 (lit< tt) (map_value l.op l.event.action) in grind arith
 
 each_spelled : (ls : List Line) → ((l : Line) → In l ls → InProfile (form_of l)) → EachSpelled (map form_of ls)
 each_spelled [] p = tt
@@ -255,16 +256,16 @@ each_spelled (l ∷ ls) p =
 events_are : (n : ℕ) (ls : List Line) → CountFrom n (events_in ls)
     → ((l : Line) → In l ls
     → (l.event.object ≤ max_object) × (action_of (map_of l).type (map_of l) ≡ Some l.event.action))
-    → events_in ls ≡ events_from n (map form_of ls)
+    → events_in ls ≡ events_of_forms n (map form_of ls)
 events_are n [] c h = refl
 events_are n (l ∷ ls) c h =
     let here = h l (inl refl) in
-    let one : l.event ∷ [] ≡ event_with n (map_of l) (action_of (map_of l).type (map_of l)) =
+    let one : l.event ∷ [] ≡ event_of_map n (map_of l) (action_of (map_of l).type (map_of l)) =
     ap (λ (k : ℕ). record { number = k; process = l.event.process; object = l.event.object; action = l.event.action }
-    ∷ []) c.0 ∙ ap (event_with n (map_of l)) (sym here.1) in
+    ∷ []) c.0 ∙ ap (event_of_map n (map_of l)) (sym here.1) in
     ap (λ es. l.event ∷ es) (events_are (n + 1) ls c.1 (λ k i. h k (inr i)))
-    ∙ (ap (λ (es : List Event). es ++ events_from (n + 1) (map form_of ls)) one
-    ∙ ap (λ m. event_of n m ++ events_from (n + 1) (map form_of ls)) (sym (client_is l here.0)))
+    ∙ (ap (λ (es : List Event). es ++ events_of_forms (n + 1) (map form_of ls)) one
+    ∙ ap (λ m. event_of n m ++ events_of_forms (n + 1) (map form_of ls)) (sym (client_is l here.0)))
 
 -- ---- all together
 
@@ -386,7 +387,7 @@ module _ (objects : ℕ) (journals : ℕ → List AnyEvent) (logs : ℕ → List
       let l = great.2 in
       absurd (omega (arith, own, low, l)))
 
-  faultless : IsFaultless (map form_of ls)
+  faultless : HasNoHistoryFault (map form_of ls)
   faultless = let few = few_lines in let long = length-map ls form_of in faultless_within
       (map form_of ls) at_any_length (omega arith) small
 

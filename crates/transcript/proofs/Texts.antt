@@ -10,7 +10,7 @@ use Rattle.seq_objects.specs.Values.{function_in}
 use Rattle.seq_objects.specs.declared.value.Value.{Value}
 use Rattle.seq_objects.specs.declared.value.Value.TheVariants.{Pair, Triple}
 use Rattle.transcript.specs.declared.line.Line.{Line}
-use Rattle.transcript.specs.Lines.{type_of, value_form, value_of, form_of, history_text}
+use Rattle.transcript.specs.Lines.{type_of, value_form, map_value, form_of, history_text}
 use Rattle.transcript.specs.Segments.{value_text, object_text, line_text, lines_text}
 
 rest_of_triple : (b c : List ℕ)
@@ -30,7 +30,7 @@ flat o k p l t m f q v r x c n = simp (append_assoc, append-nil)
 
 line_is : (l : Line) → text_of (form_of l) ++ 10 ∷ [] ≡ line_text l
 line_is l =
-    let value = value_of l.op l.event.action in
+    let value = map_value l.op l.event.action in
     let t = type_of l.event.action in
     let f = name_of (function_in l.op) in
     flat (codes "{") (codes ":process ") (decimal l.event.process) (codes ", :type :") t (codes ", :f :") f

@@ -12,7 +12,7 @@ use Rattle.desk_model.specs.declared.JournalEvent.{JournalEvent}
 use Rattle.desk_model.specs.World.{AnyEntry, AnyEvent, ticket_of}
 use Rattle.desk_model.specs.Images.{event_in}
 use Rattle.events.specs.declared.event.Event.{Event}
-use Rattle.recorder.specs.Records.{Recorded, items_of, journal_at}
+use Rattle.recorder.specs.Records.{Recorded, items_of_each, journal_at}
 use Rattle.recorder.specs.Histories.{events_of, max_tickets, IsRecord, IsRecordOf, journals_in}
 use Rattle.recorder.proofs.Journals.{numbers_of}
 use Rattle.transcript.specs.declared.line.Line.{Line}
@@ -34,7 +34,7 @@ ticket_low objects journals logs r c e i =
 module _ {O R : Type 0} (op_in : O → AnyOp) (reply_in : R → AnyReply) where
   -- the journals in memory, and what they stand for
   pub maps : {Z : Type 0} (vs : List (Vec (JournalEvent O R) Z))
-      → map (λ v. map (event_in op_in reply_in) v.items) vs ≡ map (map (event_in op_in reply_in)) (items_of vs)
+      → map (λ v. map (event_in op_in reply_in) v.items) vs ≡ map (map (event_in op_in reply_in)) (items_of_each vs)
   maps [] = refl
   maps (v ∷ vs) = ap (λ js. map (event_in op_in reply_in) v.items ∷ js) (maps vs)
 
@@ -43,7 +43,7 @@ module _ {O R : Type 0} (op_in : O → AnyOp) (reply_in : R → AnyReply) where
   journal_is r c = ListN.get_or-map (map (event_in op_in reply_in)) r.journals c []
 
   pub low_in : {Z : Type 0} (r : Recorded O R) → IsRecordOf op_in reply_in r → (vs : List (Vec (JournalEvent O R) Z))
-      → items_of vs ≡ r.journals
+      → items_of_each vs ≡ r.journals
       → (c : ℕ) (v : Vec (JournalEvent O R) Z) → c < length vs → v ≡ get_or vs c v
       → (js : List (JournalEvent O R)) → js ≡ v.items → (k : ℕ) (d : JournalEvent O R) → k < length js
       → ticket_of (event_in op_in reply_in (get_or js k d)) < max_tickets
@@ -59,7 +59,7 @@ module _ {O R : Type 0} (op_in : O → AnyOp) (reply_in : R → AnyReply) where
 
   -- no journal is left
   pub all_lines : {Z : Type 0} (vs : List (Vec (JournalEvent O R) Z)) (js : List (List (JournalEvent O R)))
-      → items_of vs ≡ js → (i : ℕ) (ls : List Line) → length vs ≤ i
+      → items_of_each vs ≡ js → (i : ℕ) (ls : List Line) → length vs ≤ i
       → ls ++ lines_in i (map (λ v. map (event_in op_in reply_in) v.items) (drop i vs))
       ≡ lines_in 0 (map (λ v. map (event_in op_in reply_in) v.items) vs)
       → ls ≡ lines_in 0 (map (map (event_in op_in reply_in)) js)

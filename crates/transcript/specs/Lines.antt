@@ -28,32 +28,39 @@ call_after last (Invoked t x op) = Some (record { object = x; op = op })
 call_after last (Returned u a) = last
 
 -- an event of the client c, whose call is on the object x
-abbrev pub event_with : ℕ → ℕ → AnyEvent → Event
-event_with c x (Invoked t y op) = record { number = t; process = c; object = y; action = Invoke op }
-event_with c x (Returned u a) = record { number = u; process = c; object = x; action = action_of a }
+abbrev pub event_of_journal : ℕ → ℕ → AnyEvent → Event
+event_of_journal c x (Invoked t y op) = record
+    { number = t; process = c; object = y; action = Invoke op }
+event_of_journal c x (Returned u a) = record {
+  number = u;
+  process = c;
+  object = x;
+  action =
+      action_of a;
+}
 
 abbrev pub line_with : ℕ → AnyEvent → Option Call → List Line
 line_with c e None = []
-line_with c e (Some q) = record { event = event_with c q.object e; op = q.op } ∷ []
+line_with c e (Some q) = record { event = event_of_journal c q.object e; op = q.op } ∷ []
 
 -- the lines of a journal of the client c, after this call
-abbrev pub lines_from : ℕ → Option Call → List AnyEvent → List Line
-lines_from c last [] = []
-lines_from c last (e ∷ es) =
-    line_with c e (call_after last e) ++ lines_from c (call_after last e) es
+abbrev pub journal_lines_from : ℕ → Option Call → List AnyEvent → List Line
+journal_lines_from c last [] = []
+journal_lines_from c last (e ∷ es) =
+    line_with c e (call_after last e) ++ journal_lines_from c (call_after last e) es
 
-abbrev pub lines_of : ℕ → List AnyEvent → List Line
-lines_of c journal = lines_from c None journal
+abbrev pub journal_lines : ℕ → List AnyEvent → List Line
+journal_lines c journal = journal_lines_from c None journal
 
 -- the lines of journals, the first of which is of the client c
 abbrev pub lines_in : ℕ → List (List AnyEvent) → List Line
 lines_in c [] = []
-lines_in c (j ∷ js) = lines_of c j ++ lines_in (c + 1) js
+lines_in c (j ∷ js) = journal_lines c j ++ lines_in (c + 1) js
 
 -- The lines of the journals in order of tickets.
 pub record AreLinesOf (journals : ℕ → List AnyEvent) (ls : List Line) : Type 0 where
   pub rising : AllPairs (λ a b. a.event.number < b.event.number) ls
-  pub each : (c : ℕ) → filter (λ l. l.event.process == c) ls ≡ lines_of c (journals c)
+  pub each : (c : ℕ) → filter (λ l. l.event.process == c) ls ≡ journal_lines c (journals c)
 
 abbrev pub events_in : List Line → List Event
 events_in ls = map (λ l. l.event) ls
@@ -78,11 +85,11 @@ type_of Fail = codes "fail"
 type_of Info = codes "info"
 
 -- the value of :value: the reply of a call that returned one, else the argument
-abbrev pub value_of : AnyOp → Action → Value
-value_of op (Invoke o) = op_value op
-value_of op (Ok r) = reply_value r
-value_of op Fail = op_value op
-value_of op Info = op_value op
+abbrev pub map_value : AnyOp → Action → Value
+map_value op (Invoke o) = op_value op
+map_value op (Ok r) = reply_value r
+map_value op Fail = op_value op
+map_value op Info = op_value op
 
 -- as {:process 0, :type :invoke, :f :enqueue, :value 1, :object 0}
 abbrev pub form_of : Line → Datum
@@ -90,9 +97,9 @@ form_of l = dictionary
     (entry (codes "process") (atom (integer (pos l.event.process)))
     (entry (codes "type") (atom (keyword (type_of l.event.action)))
     (entry (codes "f") (atom (keyword (name_of (function_in l.op))))
-    (entry (codes "value") (value_form (value_of l.op l.event.action))
+    (entry (codes "value") (value_form (map_value l.op l.event.action))
     (entry (codes "object") (atom (integer (pos l.event.object))) no_entries)))))
 
 -- each line is the text of its form and a line feed
 abbrev pub history_text : List Line → List ℕ
-history_text ls = edn.lines_of (map form_of ls)
+history_text ls = edn.form_lines (map form_of ls)

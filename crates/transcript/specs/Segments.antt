@@ -7,7 +7,7 @@ use Rattle.seq_objects.specs.declared.value.Value.{Value}
 use Rattle.seq_objects.specs.declared.value.Value.TheVariants.{Nil, False, True, Int, Pair}
 use Rattle.seq_objects.specs.declared.value.Value.TheVariants.{Triple}
 use Rattle.transcript.specs.declared.line.Line.{Line}
-use Rattle.transcript.specs.Lines.{type_of, value_of}
+use Rattle.transcript.specs.Lines.{type_of, map_value}
 
 abbrev pub value_text : Value → List ℕ
 value_text Nil = codes "nil"
@@ -29,7 +29,7 @@ abbrev pub operation_text : Line → List ℕ
 operation_text l =
     codes ", :f :"
     ++ (name_of (function_in l.op)
-    ++ (codes ", :value " ++ value_text (value_of l.op l.event.action)))
+    ++ (codes ", :value " ++ value_text (map_value l.op l.event.action)))
 
 abbrev pub object_text : ℕ → List ℕ
 object_text x = codes ", :object " ++ (decimal x ++ codes "}\n")

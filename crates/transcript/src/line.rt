@@ -61,7 +61,7 @@ fn event_with<S: SeqObject>(
     event: &JournalEvent<S::Op, S::Reply>,
 ) -> Event
     requires { ticket_of (event_in S.op_in S.reply_in event.now) < max_tickets }
-    ensures { result ≡ spec.event_with client object (event_in S.op_in S.reply_in event.now) }
+    ensures { result ≡ spec.event_of_journal client object (event_in S.op_in S.reply_in event.now) }
 {
     let process = client as u64;
     match event {
@@ -106,7 +106,7 @@ fn push_journal<S: SeqObject>(
 ) -> Result<(), AllocError>
     requires { All (λ e. ticket_of (event_in S.op_in S.reply_in e) < max_tickets) journal.now }
     ensures { OnOk result (lines.new.items ≡ lines.old.items
-        ++ spec.lines_of client (map (event_in S.op_in S.reply_in) journal.now)) }
+        ++ spec.journal_lines client (map (event_in S.op_in S.reply_in) journal.now)) }
 {
     let mut last = None;
     for event in journal {

@@ -31,7 +31,7 @@ fn type_name(action: &Action) -> &'static [u8]
 
 /// The reply of a call that returned one, else the argument.
 fn value_in(line: &Line) -> Value
-    ensures { result ≡ spec.value_of line.now.op line.now.event.action }
+    ensures { result ≡ spec.map_value line.now.op line.now.event.action }
 {
     match &line.event.action {
         Action::Ok(reply) => value_of_reply(reply),
@@ -124,7 +124,7 @@ fn write_operation<S: Sink>(line: &Line, sink: &mut S) -> Result<(), Failed>
     ensures ok { OnOk result (Appends (S.sent sink.old) (S.sent sink.new)
         (text.operation_text line.now)) }
     ensures in_profile { OnOk result
-        (InProfile (spec.value_form (spec.value_of line.now.op line.now.event.action))) }
+        (InProfile (spec.value_form (spec.map_value line.now.op line.now.event.action))) }
     ensures usable { OnOk result (S.broken sink.new ≡ false) }
 {
     write_bytes(b", :f :", sink)?;

@@ -1,20 +1,21 @@
 -- What one reason shows of an object is an answer to its claim: impossible, if the part has no valid order, or what
--- the doubt is. By what `refute` says of the reason.
+-- the why_not is. By what `refute` says of the reason.
 use Rattle.std.proofs.Common.{ℕ, ℤ, List, Option, inl, inr, refl}
 use Rattle.std.specs.Global.{Vec}
 use Rattle.model.specs.declared.Kind.{Kind}
 use Rattle.model.specs.Orders.{Call}
 use Rattle.events.specs.Operations.{ObjectCalls}
-use Rattle.search.specs.Outcomes.{IsNoneValid}
+use Rattle.search.specs.Outcomes.{HasNoValidOrder}
 use Rattle.refutation.specs.declared.reason.Reason.{Reason}
-use Rattle.refutation.specs.declared.refuting.Doubt.TheVariants.{Possible}
-use Rattle.refutation.specs.Refutations.{HasNoValidOrder, IsDoubt, IsNamedPart, IsShownBy}
+use Rattle.refutation.specs.declared.refuting.WhyNotShown.TheVariants.{Possible}
+use Rattle.refutation.specs.Refutations.{PartHasNoValidOrder, IsWhyNotShown, IsNamedPart, IsShownBy}
 use Rattle.verifying.specs.declared.claim.Claim.TheVariants as claim
 use Rattle.verifying.specs.declared.decision.Decision.TheVariants as decision
-use Rattle.verifying.specs.Decisions.{IsAnswer, IsUntrueReason}
+use Rattle.verifying.specs.Decisions.{IsClaimAnswer, IsUntrueReason}
 
 module _ (kind : Kind) (calls : List Call) (limit : ℕ) (r : Reason) (note : Option (Vec ℕ)) where
-  pub is_refused : IsUntrueReason kind calls r → IsAnswer r.object kind calls limit (claim.Reason r note) decision.Open
+  pub is_refused : IsUntrueReason kind calls r → IsClaimAnswer r.object kind calls limit (claim.Reason r note)
+      decision.Open
   is_refused refused = record {
     order = tt;
     impossible = tt;
@@ -25,13 +26,13 @@ module _ (kind : Kind) (calls : List Call) (limit : ℕ) (r : Reason) (note : Op
   }
 
   pub has_an_order : (part : ObjectCalls) (order : Vec ℤ) → IsNamedPart r.cuts.items r.object kind calls part
-      → IsDoubt r.basis part (Possible order)
-      → IsAnswer r.object kind calls limit (claim.Reason r note) decision.Open
-  has_an_order part order named doubt = is_refused (inr (part, named, inl (order, doubt)))
+      → IsWhyNotShown r.basis part (Possible order)
+      → IsClaimAnswer r.object kind calls limit (claim.Reason r note) decision.Open
+  has_an_order part order named why_not = is_refused (inr (part, named, inl (order, why_not)))
 
   pub is_shown_by : (part : ObjectCalls) → IsNamedPart r.cuts.items r.object kind calls part → IsShownBy r.basis part
-      → HasNoValidOrder part → IsNoneValid kind calls
-      → IsAnswer r.object kind calls limit (claim.Reason r note)
+      → PartHasNoValidOrder part → HasNoValidOrder kind calls
+      → IsClaimAnswer r.object kind calls limit (claim.Reason r note)
       (decision.Impossible record { reason = r; part = part; note = note })
   is_shown_by part named shown without impossible = record {
     order = tt;

@@ -8,11 +8,12 @@ use Rattle.model.specs.Orders.{Call}
 use Rattle.certificate.specs.declared.Certificate.{Certificate}
 use Rattle.verifying.specs.declared.claim.Claim.{Claim}
 use Rattle.verifying.specs.declared.claim.Claim.TheVariants as claim
-use Rattle.verifying.specs.Denotes.{object_of}
+use Rattle.verifying.specs.Denotes.{claim_object}
 use Rattle.verifying.specs.declared.decision.ShownReason.{ShownReason}
 use Rattle.verifying.specs.declared.decision.Decision.{Decision}
 use Rattle.verifying.specs.declared.decision.Decision.TheVariants.{Order, Impossible, OutOfSteps, NoMemory, Open}
-use Rattle.verifying.specs.Decisions.{IfOrder, IfImpossible, IfOutOfSteps, IsAnswer, IsDecision, IsUntrue, Searches}
+use Rattle.verifying.specs.Decisions.{IfOrder, IfImpossible, IfOutOfSteps, IsClaimAnswer, IsDecision, IsUntrue}
+use Rattle.verifying.specs.Decisions.{AsksForAnySearch}
 use Rattle.verifying.specs.Decisions.{is_open, is_shown}
 
 -- ---- lists that are longer by one
@@ -40,8 +41,8 @@ if_out_of_steps d P Q f h = tt
 
 module _ (cs : List Claim) (e : Claim) (limit x : ℕ) (kind : Kind) (calls : List Call) where
   -- what was decided stays where one more claim on the object does not contradict it
-  keeps : (d : Decision) → (is_shown d ≡ false → object_of e ≡ x → IsUntrue kind calls e ⊎ Searches e)
-      → (d ≡ Open → object_of e ≡ x → IsUntrue kind calls e)
+  keeps : (d : Decision) → (is_shown d ≡ false → claim_object e ≡ x → IsUntrue kind calls e ⊎ AsksForAnySearch e)
+      → (d ≡ Open → claim_object e ≡ x → IsUntrue kind calls e)
       → IsDecision cs limit x kind calls d → IsDecision (cs ++ e ∷ []) limit x kind calls d
   keeps d unshown refused h = record {
     order = if_order d _ _ (λ c p. (p.0, any_more _ cs e p.1)) h.order;
@@ -49,9 +50,10 @@ module _ (cs : List Claim) (e : Claim) (limit x : ℕ) (kind : Kind) (calls : Li
         h.impossible;
     out_of_steps = if_out_of_steps d _ _ (λ n p. any_more _ cs e p) h.out_of_steps;
     memory = λ is. any_more _ cs e (h.memory is);
-    unshown = λ none. All-push (λ e. object_of e ≡ x → IsUntrue kind calls e ⊎ Searches e) cs e (h.unshown none)
+    unshown = λ none. All-push (λ e. claim_object e ≡ x → IsUntrue kind calls e ⊎ AsksForAnySearch e) cs e
+        (h.unshown none)
         (unshown none);
-    refused = λ is. All-push (λ e. object_of e ≡ x → IsUntrue kind calls e) cs e (h.refused is) (refused is);
+    refused = λ is. All-push (λ e. claim_object e ≡ x → IsUntrue kind calls e) cs e (h.refused is) (refused is);
   }
 
   pub shown_stays : (d : Decision) → is_shown d ≡ true → IsDecision cs limit x kind calls d
@@ -59,18 +61,18 @@ module _ (cs : List Claim) (e : Claim) (limit x : ℕ) (kind : Kind) (calls : Li
   shown_stays d shown h =
       keeps d (λ none own. absurd (cc (sym shown ∙ none))) (λ is own. absurd (cc (sym shown ∙ ap is_shown is))) h
 
-  pub other_stays : (d : Decision) → object_of e ≢ x → IsDecision cs limit x kind calls d
+  pub other_stays : (d : Decision) → claim_object e ≢ x → IsDecision cs limit x kind calls d
       → IsDecision (cs ++ e ∷ []) limit x kind calls d
   other_stays d other h = keeps d (λ none own. absurd (other own)) (λ is own. absurd (other own)) h
 
-  pub open_stays : (d next : Decision) → is_open next ≡ true → IsAnswer x kind calls limit e next
+  pub open_stays : (d next : Decision) → is_open next ≡ true → IsClaimAnswer x kind calls limit e next
       → IsDecision cs limit x kind calls d → IsDecision (cs ++ e ∷ []) limit x kind calls d
   open_stays d Open is a h = keeps d (λ none own. a.unshown refl) (λ same own. a.refused refl) h
   open_stays d next is a h = absurd (cc is)
 
   -- where nothing was shown, and the claim is not refused, its answer is the decision
-  pub next_decides : (d next : Decision) → is_shown d ≡ false → is_open next ≡ false → object_of e ≡ x
-      → IsAnswer x kind calls limit e next
+  pub next_decides : (d next : Decision) → is_shown d ≡ false → is_open next ≡ false → claim_object e ≡ x
+      → IsClaimAnswer x kind calls limit e next
       → IsDecision cs limit x kind calls d → IsDecision (cs ++ e ∷ []) limit x kind calls next
   next_decides d next none is own a h = record {
     order = if_order next _ _ (λ c p. (p.0, any_last _ cs e (own, p.1))) a.order;
@@ -81,7 +83,8 @@ module _ (cs : List Claim) (e : Claim) (limit x : ℕ) (kind : Kind) (calls : Li
     )) a.impossible;
     out_of_steps = if_out_of_steps next _ _ (λ n p. any_last _ cs e (own, p)) a.out_of_steps;
     memory = λ same. any_last _ cs e (own, a.memory same);
-    unshown = λ not. All-push (λ e. object_of e ≡ x → IsUntrue kind calls e ⊎ Searches e) cs e (h.unshown none)
+    unshown = λ not. All-push (λ e. claim_object e ≡ x → IsUntrue kind calls e ⊎ AsksForAnySearch e) cs e
+        (h.unshown none)
         (λ o. a.unshown not);
     refused = λ same. absurd (cc (sym is ∙ ap is_open same));
   }

@@ -7,8 +7,8 @@ use Rattle.edn_reader.specs.View.{view, views}
 use Rattle.edn_reader.specs.declared.form.Form.{Form}
 use Rattle.edn_fields.specs.FirstFaults.{AreFaultless}
 use Rattle.verifying.specs.declared.claim.Claim.{Claim}
-use Rattle.verifying.specs.Denotes.{claim_in, seen, Denotes}
-use Rattle.verifying.specs.Faults.{rank_of, IsFault, IsFirstFault, IsSoundBefore}
+use Rattle.verifying.specs.Denotes.{claim_in, claim_seen, Denotes}
+use Rattle.verifying.specs.Faults.{fault_rank, IsClaimFault, IsFirstFault, AreClaimsSoundBefore}
 use Rattle.verifying.specs.declared.fault.ClaimFault.{ClaimFault}
 use Rattle.verifying.specs.declared.fault.ClaimFaultKind.{ClaimFaultKind}
 use Rattle.verifying.specs.declared.fault.ClaimFaultKind.TheVariants.{NotACertificate, NotAReason, NoMemory}
@@ -16,33 +16,35 @@ use Rattle.refutation.proofs.Reading.{split_at}
 
 -- a form among those that are claims is one
 is_read : (earlier later : List Datum) (d : Datum) (rs : List Claim)
-    → map claim_in (earlier ++ d ∷ later) ≡ map (λ r. Some (seen r)) rs → claim_in d ≡ None → ⊥
+    → map claim_in (earlier ++ d ∷ later) ≡ map (λ r. Some (claim_seen r)) rs → claim_in d ≡ None → ⊥
 is_read [] later d [] h none = absurd cc
-is_read [] later d (r ∷ rs) h none = let e : claim_in d ≡ Some (seen r) = cc in absurd cc
+is_read [] later d (r ∷ rs) h none = let e : claim_in d ≡ Some (claim_seen r) = cc in absurd cc
 is_read (e ∷ es) later d [] h none = absurd cc
 is_read (e ∷ es) later d (r ∷ rs) h none =
-    let more : map claim_in (es ++ d ∷ later) ≡ map (λ r. Some (seen r)) rs = cc in is_read es later d rs more none
+    let more : map claim_in (es ++ d ∷ later) ≡ map (λ r. Some (claim_seen r)) rs = cc in is_read es later d rs more
+    none
 
-pub no_fault : (ds : List Datum) (rs : List Claim) → Denotes ds rs → AreFaultless IsFault ds
+pub no_fault : (ds : List Datum) (rs : List Claim) → Denotes ds rs → AreFaultless IsClaimFault ds
 no_fault ds rs h earlier later d NoMemory split fault = fault
 no_fault ds rs h earlier later d kind split fault =
     is_read earlier later d rs (ap (map claim_in) (sym split) ∙ h) fault.1
 
-only_fault : (earlier : List Datum) (d : Datum) (kind other : ClaimFaultKind) → IsFault earlier d kind
-    → IsFault earlier d other
-    → rank_of kind ≤ rank_of other
+only_fault : (earlier : List Datum) (d : Datum) (kind other : ClaimFaultKind) → IsClaimFault earlier d kind
+    → IsClaimFault earlier d other
+    → fault_rank kind ≤ fault_rank other
 only_fault earlier d NotAReason NotACertificate h k = absurd (let e : true ≡ false = sym k.0 ∙ h.0 in cc)
 only_fault earlier d NoMemory other h k = absurd h
 only_fault earlier d NotACertificate NotACertificate h k = omega arith
 only_fault earlier d kind other h k = omega arith
 
 -- what is wrong with a form is wrong with it after any others
-after_any : (earlier : List Datum) (d : Datum) (kind : ClaimFaultKind) → IsFault [] d kind → IsFault earlier d kind
+after_any : (earlier : List Datum) (d : Datum) (kind : ClaimFaultKind) → IsClaimFault [] d kind
+    → IsClaimFault earlier d kind
 after_any earlier d NoMemory h = h
 after_any earlier d kind h = h
 
 pub first_fault : (fs : List Form) (i : ℕ) (f : Form) (rs : List Claim) (kind : ClaimFaultKind) → i < length fs
-    → f ≡ get_or fs i f → Denotes (views (take i fs)) rs → IsFault [] (view f) kind
+    → f ≡ get_or fs i f → Denotes (views (take i fs)) rs → IsClaimFault [] (view f) kind
     → IsFirstFault (views fs) (record { kind = kind; form = i })
 first_fault fs i f rs kind lt is h fault =
     let stands = after_any (views (take i fs)) (view f) kind fault in
@@ -61,7 +63,7 @@ pub not_denoted : (ds : List Datum) (e : ClaimFault) → IsFirstFault ds e → (
 not_denoted ds e f rs h = no_fault ds rs h f.earlier f.later f.form e.kind f.split f.stands
 
 pub sound_before : (fs : List Form) (i : ℕ) (f : Form) (rs : List Claim) → i < length fs → f ≡ get_or fs i f
-    → Denotes (views (take i fs)) rs → IsSoundBefore (views fs) i
+    → Denotes (views (take i fs)) rs → AreClaimsSoundBefore (views fs) i
 sound_before fs i f rs lt is h = record {
   earlier = views (take i fs);
   form = view f;
@@ -73,12 +75,12 @@ sound_before fs i f rs lt is h = record {
 
 pub one_more_read : (fs : List Form) (i : ℕ) (f : Form) (rs : List Claim) (r : Claim) → i < length fs
     → f ≡ get_or fs i f
-    → Denotes (views (take i fs)) rs → claim_in (view f) ≡ Some (seen r)
+    → Denotes (views (take i fs)) rs → claim_in (view f) ≡ Some (claim_seen r)
     → Denotes (views (take (i + 1) fs)) (rs ++ r ∷ [])
 one_more_read fs i f rs r lt is h own =
     let more = ap views (take_more fs i f lt ∙ ap (λ (x : Form). take i fs ++ x ∷ []) (sym is))
     ∙ map-append view (take i fs) (f ∷ []) in
     ap (map claim_in) more ∙ map-append claim_in (views (take i fs)) (view f ∷ [])
     ∙ ap (λ xs. xs ++ claim_in (view f) ∷ []) h
-    ∙ ap (λ v. map (λ b. Some (seen b)) rs ++ v ∷ []) own
-    ∙ sym (map-append (λ b. Some (seen b)) rs (r ∷ []))
+    ∙ ap (λ v. map (λ b. Some (claim_seen b)) rs ++ v ∷ []) own
+    ∙ sym (map-append (λ b. Some (claim_seen b)) rs (r ∷ []))

@@ -14,15 +14,15 @@ use Rattle.std.specs.declared.cmp.Ordering.TheVariants.{Less, Equal, Greater}
 use Rattle.model.specs.declared.Kind.TheVariants.{Queue}
 use Rattle.model.specs.Orders.{calls_on}
 use Rattle.events.specs.declared.event.Event.{Event}
-use Rattle.events.specs.Events.{kind_at, denoted}
+use Rattle.events.specs.Events.{kind_of_object, denoted}
 use Rattle.events.specs.Operations.{ObjectCalls, calls_of}
 use Rattle.checker.proofs.Certificates.{AreObjects, next_is}
 use Rattle.checker.proofs.Collected.{AreOnAll, on_all}
 use Rattle.verifying.specs.declared.claim.Claim.{Claim}
-use Rattle.verifying.specs.Denotes.{object_of}
+use Rattle.verifying.specs.Denotes.{claim_object}
 use Rattle.verifying.specs.declared.decision.Decision.{Decision}
 use Rattle.verifying.specs.Decisions.{IsDecision}
-use Rattle.verifying.specs.Taking.{AreAllOpen, AreDecided, AreTaken, IsDecidedAt, IsNext, no_answer}
+use Rattle.verifying.specs.Taking.{AreAllOpen, AreDecided, AreDecisionsTaken, IsDecidedAt, IsNextDecision, no_answer}
 use Rattle.verifying.proofs.Decided.{IsDecided}
 use Rattle.verifying.proofs.Further.{other_stays}
 
@@ -59,29 +59,31 @@ apart os n i h k d l s = go (ranked (get_or os k d).object n) (cases_order k i)
 module _ (objects : List ObjectCalls) (limit : ℕ) (e : Claim) (old : List (ℕ × Decision)) where
   -- it is on none of the objects
   pub not_there : (i : ℕ)
-      → IsPartitionPoint (λ o. nat_cmp o.object (object_of e) ≡ Less) (λ o. nat_cmp o.object (object_of e) ≡ Greater)
+      → IsPartitionPoint (λ o. nat_cmp o.object (claim_object e) ≡ Less)
+      (λ o. nat_cmp o.object (claim_object e) ≡ Greater)
       objects i
-      → AreTaken objects limit e old old
+      → AreDecisionsTaken objects limit e old old
   not_there i point = record {
     numbers = refl;
     each = λ k o l is cs h.
         other_stays cs e limit o.object o.kind (calls_of o.ops) (get_or old k no_answer).1 (λ same. apart objects
-        (object_of e) i point k o l (ap (λ (p : ObjectCalls). p.object) (sym is) ∙ sym same)) h;
+        (claim_object e) i point k o l (ap (λ (p : ObjectCalls). p.object) (sym is) ∙ sym same)) h;
   }
 
   -- the number that was found is the object's
-  pub is_own : (k n : ℕ) (own : ObjectCalls) → n ≡ object_of e → own ≡ get_or objects k own
-      → nat_cmp (get_or objects k own).object n ≡ Equal → object_of e ≡ own.object
+  pub is_own : (k n : ℕ) (own : ObjectCalls) → n ≡ claim_object e → own ≡ get_or objects k own
+      → nat_cmp (get_or objects k own).object n ≡ Equal → claim_object e ≡ own.object
   is_own k n own number is eq =
       sym (ap (λ (o : ObjectCalls). o.object) is ∙ ranked (get_or objects k own).object n Equal (sym eq) ∙ number)
 
   -- it is on the object at this place
   pub taken : (at : ℕ) (own : ObjectCalls) (n m : ℕ) (between next : Decision)
       → AllPairs (λ a b. a.object < b.object) objects → at < length objects
-      → length old ≡ length objects → own ≡ get_or objects at own → object_of e ≡ own.object
+      → length old ≡ length objects → own ≡ get_or objects at own → claim_object e ≡ own.object
       → n ≡ (get_or old at no_answer).0
-      → m ≡ (get_or (set old at (n, between)) at no_answer).0 → IsNext limit e own (get_or old at no_answer).1 next
-      → AreTaken objects limit e old (set (set old at (n, between)) at (m, next))
+      → m ≡ (get_or (set old at (n, between)) at no_answer).0
+      → IsNextDecision limit e own (get_or old at no_answer).1 next
+      → AreDecisionsTaken objects limit e old (set (set old at (n, between)) at (m, next))
   taken at own n m between next rising l lengths is here first second further = record {
     numbers = map-set_same (λ (a : ℕ × Decision). a.0) middle at (m, next) no_answer second
         ∙ map-set_same (λ (a : ℕ × Decision). a.0) old at (n, between) no_answer first;
@@ -105,7 +107,7 @@ module _ (objects : List ObjectCalls) (limit : ℕ) (e : Claim) (old : List (ℕ
           ∙ get_or-set_other old at k (n, between) no_answer other
 
       other_object : (k : ℕ) (o : ObjectCalls) → k < length objects → o ≡ get_or objects k o → k ≢ at
-          → object_of e ≢ o.object
+          → claim_object e ≢ o.object
       other_object k o less same other q =
           let there : (get_or objects at o).object ≡ own.object = rw (get_or_default objects at o own l) (rw (← is)) in
           let it : o.object ≡ (get_or objects k o).object = ap (λ (p : ObjectCalls). p.object) same in
@@ -118,7 +120,7 @@ module _ (objects : List ObjectCalls) (limit : ℕ) (e : Claim) (old : List (ℕ
           ]
 
       go : (k : ℕ) (o : ObjectCalls) → k < length objects → o ≡ get_or objects k o → (k ≡ at) ⊎ (k ≢ at)
-          → IsNext limit e o (get_or old k no_answer).1 (get_or new k no_answer).1
+          → IsNextDecision limit e o (get_or old k no_answer).1 (get_or new k no_answer).1
       go k o less same (inl q) =
           let it : o ≡ own = same ∙ ap (λ i. get_or objects i o) q ∙ get_or_default objects at o own l ∙ sym is in
           rw (q, get_or-set_same middle at (m, next) no_answer in_middle, it) further
@@ -157,7 +159,7 @@ none_claimed objects limit answers h = record {
 
 pub one_more : (objects : List ObjectCalls) (claims : List Claim) (limit : ℕ) (e : Claim)
     (old new : List (ℕ × Decision))
-    → AreTaken objects limit e old new
+    → AreDecisionsTaken objects limit e old new
     → AreDecided objects claims limit old → AreDecided objects (claims ++ e ∷ []) limit new
 one_more objects claims limit e old new t h = record {
   numbers = t.numbers ∙ h.numbers;
@@ -188,7 +190,7 @@ decided_on_all es objects claims limit answers are h =
         sym (get_or-map (λ (a : ℕ × Decision). a.0) answers i d d.0 l) ∙ ap (λ xs. get_or xs i d.0) h.numbers
         ∙ get_or-map (λ (p : ObjectCalls). p.object) objects i o d.0 m ∙ ap (λ (p : ObjectCalls). p.object) (sym is)
 
-    each : All (λ a. IsDecided claims limit a.0 (kind_at es a.0) (calls_on a.0 (denoted es)) a.1) answers
+    each : All (λ a. IsDecided claims limit a.0 (kind_of_object es a.0) (calls_on a.0 (denoted es)) a.1) answers
     each i d l =
         let o : ObjectCalls = get_or objects i nothing in
         let in_objects : i < length objects = omega (arith, l, lengths) in

@@ -6,21 +6,21 @@ use Rattle.model.specs.declared.Kind.{Kind}
 use Rattle.model.specs.Linearizable.{IsLinearizable}
 use Rattle.model.specs.Orders.{Call, IsValidOrder, calls_on, events}
 use Rattle.events.specs.declared.event.Event.{Event}
-use Rattle.events.specs.Events.{IsNamed, kind_at, denoted}
+use Rattle.events.specs.Events.{IsNamed, kind_of_object, denoted}
 use Rattle.events.specs.Operations.{ObjectCalls}
 use Rattle.certificate.specs.declared.Certificate.{Certificate}
 use Rattle.certificate.specs.Denotes.{AreDistinct}
 use Rattle.checker.specs.Refusals.{AreValid}
-use Rattle.search.specs.Outcomes.{IsNoneValid}
+use Rattle.search.specs.Outcomes.{HasNoValidOrder}
 use Rattle.projection.specs.Cuts.{NamesPart}
 use Rattle.search.specs.Answers.{IsCertificateOf}
 use Rattle.refutation.specs.declared.reason.Reason.{Reason}
-use Rattle.refutation.specs.declared.refuting.Doubt.TheVariants.{Possible, NotExceeded}
-use Rattle.refutation.specs.Refutations.{HasNoValidOrder, IsDoubt, IsNamedPart, IsSearch}
+use Rattle.refutation.specs.declared.refuting.WhyNotShown.TheVariants.{Possible, NotExceeded}
+use Rattle.refutation.specs.Refutations.{PartHasNoValidOrder, IsWhyNotShown, IsNamedPart, IsSearchBasis}
 use Rattle.refutation.specs.Refutations.{IsShownBy, steps_of}
 use Rattle.verifying.specs.declared.claim.Claim.{Claim}
 use Rattle.verifying.specs.declared.claim.Claim.TheVariants as claim
-use Rattle.verifying.specs.Denotes.{object_of}
+use Rattle.verifying.specs.Denotes.{claim_object}
 use Rattle.verifying.specs.declared.decision.ShownReason.{ShownReason}
 use Rattle.verifying.specs.declared.decision.Decision.{Decision}
 use Rattle.verifying.specs.declared.decision.Decision.TheVariants.{Order, Impossible, OutOfSteps}
@@ -28,12 +28,12 @@ use Rattle.verifying.specs.declared.decision.Decision.TheVariants.{NoMemory, Ope
 
 -- ---- the cases
 
-abbrev pub certificate_in : Decision → Option Certificate
-certificate_in (Order c) = Some c
-certificate_in (Impossible f) = None
-certificate_in (OutOfSteps n) = None
-certificate_in NoMemory = None
-certificate_in Open = None
+abbrev pub certificate_decided : Decision → Option Certificate
+certificate_decided (Order c) = Some c
+certificate_decided (Impossible f) = None
+certificate_decided (OutOfSteps n) = None
+certificate_decided NoMemory = None
+certificate_decided Open = None
 
 -- if an order is shown, this holds of the certificate
 abbrev pub IfOrder : Decision → (Certificate → Type 0) → Type 0
@@ -93,21 +93,22 @@ is_shown Open = false
 -- the claim asks for the search of the whole object
 abbrev pub AsksForSearch : Claim → Type 0
 AsksForSearch (claim.Order c) = ⊥
-AsksForSearch (claim.Reason r _) = (r.cuts.items ≡ []) × IsSearch r.basis
+AsksForSearch (claim.Reason r _) = (r.cuts.items ≡ []) × IsSearchBasis r.basis
 
 -- the order is claimed, or a search of the whole object is asked for
-abbrev pub Orders : Certificate → Claim → Type 0
-Orders c e = (e ≡ claim.Order c) ⊎ AsksForSearch e
+abbrev pub IsSourceOf : Certificate → Claim → Type 0
+IsSourceOf c e = (e ≡ claim.Order c) ⊎ AsksForSearch e
 
 -- a search of at most this many steps is asked for, of a part or of the whole
-abbrev pub SearchesIn : ℕ → ℕ → Claim → Type 0
-SearchesIn limit n (claim.Order c) = ⊥
-SearchesIn limit n (claim.Reason r _) = IsSearch r.basis × (n ≡ steps_of r.basis limit)
+abbrev pub AsksForSearchWithin : ℕ → ℕ → Claim → Type 0
+AsksForSearchWithin limit n (claim.Order c) = ⊥
+AsksForSearchWithin limit n (claim.Reason r _) = IsSearchBasis r.basis
+    × (n ≡ steps_of r.basis limit)
 
 -- the claim asks for a search, of a part or of the whole
-abbrev pub Searches : Claim → Type 0
-Searches (claim.Order c) = ⊥
-Searches (claim.Reason r _) = IsSearch r.basis
+abbrev pub AsksForAnySearch : Claim → Type 0
+AsksForAnySearch (claim.Order c) = ⊥
+AsksForAnySearch (claim.Reason r _) = IsSearchBasis r.basis
 
 -- The cuts of the reason name no part, or its basis does not hold of the part: the part has a
 -- valid order, or its count is not exceeded.
@@ -115,8 +116,8 @@ abbrev pub IsUntrueReason : Kind → List Call → Reason → Type 0
 IsUntrueReason kind calls r =
     ((part : List Call) → NamesPart r.cuts.items calls part → ⊥)
     ⊎ ((part : ObjectCalls) × IsNamedPart r.cuts.items r.object kind calls part
-    × (((order : _) × IsDoubt r.basis part (Possible order))
-    ⊎ IsDoubt r.basis part NotExceeded))
+    × (((order : _) × IsWhyNotShown r.basis part (Possible order))
+    ⊎ IsWhyNotShown r.basis part NotExceeded))
 
 -- the claim is not true of an object of this kind and these calls
 abbrev pub IsUntrue : Kind → List Call → Claim → Type 0
@@ -124,16 +125,16 @@ IsUntrue kind calls (claim.Order c) = IsValidOrder kind calls c.order.items → 
 IsUntrue kind calls (claim.Reason r _) = IsUntrueReason kind calls r
 
 -- the claim is an order that is valid for an object of this kind and these calls
-abbrev pub IsOrderOf : Kind → List Call → Claim → Type 0
-IsOrderOf kind calls (claim.Order c) = IsValidOrder kind calls c.order.items
-IsOrderOf kind calls (claim.Reason r _) = ⊥
+abbrev pub IsValidClaim : Kind → List Call → Claim → Type 0
+IsValidClaim kind calls (claim.Order c) = IsValidOrder kind calls c.order.items
+IsValidClaim kind calls (claim.Reason r _) = ⊥
 
 -- no claim is a valid order of this object, which the history names
 pub record LacksOrder (es : List Event) (claims : List Claim) : Type 0 where
   pub object : ℕ
   pub named : IsNamed es object
-  pub none : All (λ e. object_of e ≡ object
-      → IsOrderOf (kind_at es object) (calls_on object (denoted es)) e → ⊥) claims
+  pub none : All (λ e. claim_object e ≡ object
+      → IsValidClaim (kind_of_object es object) (calls_on object (denoted es)) e → ⊥) claims
 
 -- What shows that no order of the calls of an object is valid: the reason names a part, and its
 -- basis holds of the part, which has no valid order.
@@ -141,20 +142,21 @@ pub record IsShownReason (x : ℕ) (kind : Kind) (calls : List Call) (f : ShownR
   pub named : f.reason.object ≡ x
   pub part : IsNamedPart f.reason.cuts.items x kind calls f.part
   pub shown : IsShownBy f.reason.basis f.part
-  pub no_order : HasNoValidOrder f.part
-  pub impossible : IsNoneValid kind calls
+  pub no_order : PartHasNoValidOrder f.part
+  pub impossible : HasNoValidOrder kind calls
 
 -- ---- decisions
 
 -- what is decided of an object by one claim on it
-pub record IsAnswer (x : ℕ) (kind : Kind) (calls : List Call) (limit : ℕ) (e : Claim) (d : Decision)
+pub record IsClaimAnswer (x : ℕ) (kind : Kind) (calls : List Call) (limit : ℕ) (e : Claim)
+    (d : Decision)
     : Type 0 where
-  pub order : IfOrder d (λ c. IsCertificateOf x kind calls c × Orders c e)
+  pub order : IfOrder d (λ c. IsCertificateOf x kind calls c × IsSourceOf c e)
   pub impossible : IfImpossible d (λ f.
       IsShownReason x kind calls f × (e ≡ claim.Reason f.reason f.note))
-  pub out_of_steps : IfOutOfSteps d (λ n. SearchesIn limit n e)
-  pub memory : d ≡ NoMemory → Searches e
-  pub unshown : is_shown d ≡ false → IsUntrue kind calls e ⊎ Searches e
+  pub out_of_steps : IfOutOfSteps d (λ n. AsksForSearchWithin limit n e)
+  pub memory : d ≡ NoMemory → AsksForAnySearch e
+  pub unshown : is_shown d ≡ false → IsUntrue kind calls e ⊎ AsksForAnySearch e
   pub refused : d ≡ Open → IsUntrue kind calls e
 
 -- What is decided of an object, with its kind and calls, by claims, if a search for which none
@@ -163,29 +165,29 @@ pub record IsDecision (claims : List Claim) (limit x : ℕ) (kind : Kind) (calls
     (d : Decision) : Type 0 where
   -- the order is valid, and comes from a claim
   pub order : IfOrder d (λ c.
-      IsCertificateOf x kind calls c × Any (λ e. (object_of e ≡ x) × Orders c e) claims)
+      IsCertificateOf x kind calls c × Any (λ e. (claim_object e ≡ x) × IsSourceOf c e) claims)
   -- the reason is claimed, and shows that no order is valid
   pub impossible : IfImpossible d (λ f.
       IsShownReason x kind calls f × Contains claims (claim.Reason f.reason f.note))
   -- a claim on the object asks for a search with this limit (that it took the steps is not said)
   pub out_of_steps : IfOutOfSteps d (λ n.
-      Any (λ e. (object_of e ≡ x) × SearchesIn limit n e) claims)
+      Any (λ e. (claim_object e ≡ x) × AsksForSearchWithin limit n e) claims)
   -- a search ran out of memory, for which a claim on the object asks
-  pub memory : d ≡ NoMemory → Any (λ e. (object_of e ≡ x) × Searches e) claims
+  pub memory : d ≡ NoMemory → Any (λ e. (claim_object e ≡ x) × AsksForAnySearch e) claims
   -- if nothing is shown each claim on the object is not true, or asks for a search
   pub unshown : is_shown d ≡ false
-      → All (λ e. object_of e ≡ x → IsUntrue kind calls e ⊎ Searches e) claims
+      → All (λ e. claim_object e ≡ x → IsUntrue kind calls e ⊎ AsksForAnySearch e) claims
   -- it is open only if no claim on the object is true
-  pub refused : d ≡ Open → All (λ e. object_of e ≡ x → IsUntrue kind calls e) claims
+  pub refused : d ≡ Open → All (λ e. claim_object e ≡ x → IsUntrue kind calls e) claims
 
 -- a decision on the object with this number, in the history that the events denote
 abbrev pub IsDecisionOn : List Event → List Claim → ℕ → ℕ → Decision → Type 0
 IsDecisionOn es claims limit x d =
-    IsDecision claims limit x (kind_at es x) (calls_on x (denoted es)) d
+    IsDecision claims limit x (kind_of_object es x) (calls_on x (denoted es)) d
 
 -- the certificates among the decisions
-abbrev pub certificates_in : List (ℕ × Decision) → List Certificate
-certificates_in answers = filter_map (λ a. certificate_in a.1) answers
+abbrev pub certificates_decided : List (ℕ × Decision) → List Certificate
+certificates_decided answers = filter_map (λ a. certificate_decided a.1) answers
 
 -- These are decisions on all objects of the history that the events denote, by these claims.
 pub record AreDecisionsOn (es : List Event) (claims : List Claim) (limit : ℕ)
@@ -196,10 +198,10 @@ pub record AreDecisionsOn (es : List Event) (claims : List Claim) (limit : ℕ)
   pub decisions : All (λ a. IsDecisionOn es claims limit a.0 a.1) answers
   -- if one is impossible the history is not linearizable
   pub impossible : Any (λ a. is_impossible a.1 ≡ true) answers
-      → IsLinearizable (kind_at es) (events (denoted es)) → ⊥
+      → IsLinearizable (kind_of_object es) (events (denoted es)) → ⊥
   -- if all have an order `check_all` accepts the certificates
-  pub distinct : AreDistinct (certificates_in answers)
-  pub valid : All (λ a. IsSome (certificate_in a.1)) answers
-      → AreValid es (certificates_in answers)
+  pub distinct : AreDistinct (certificates_decided answers)
+  pub valid : All (λ a. IsSome (certificate_decided a.1)) answers
+      → AreValid es (certificates_decided answers)
   -- if one has no order the claims have no valid order of some object
   pub lacking : list_all (λ a. is_order a.1) answers ≡ false → LacksOrder es claims

@@ -18,13 +18,13 @@ pub data ClaimSeen : Type 0 where
   order : Reading → ClaimSeen
   reason : ReasonSeen → Option (List ℕ) → ClaimSeen
 
-abbrev pub seen : Claim → ClaimSeen
-seen (claim.Order c) = order (reading_of c)
-seen (claim.Reason r note) = reason (reasons.seen r) (option_map (λ v. v.items) note)
+abbrev pub claim_seen : Claim → ClaimSeen
+claim_seen (claim.Order c) = order (reading_of c)
+claim_seen (claim.Reason r note) = reason (reasons.reason_seen r) (option_map (λ v. v.items) note)
 
-abbrev pub object_of : Claim → ℕ
-object_of (claim.Order c) = c.object
-object_of (claim.Reason r _) = r.object
+abbrev pub claim_object : Claim → ℕ
+claim_object (claim.Order c) = c.object
+claim_object (claim.Reason r _) = r.object
 
 -- ---- forms
 
@@ -77,4 +77,4 @@ claim_in d =
 
 -- The forms are these claims, one by one and in order.
 abbrev pub Denotes : List Datum → List Claim → Type 0
-Denotes ds cs = map claim_in ds ≡ map (λ c. Some (seen c)) cs
+Denotes ds cs = map claim_in ds ≡ map (λ c. Some (claim_seen c)) cs

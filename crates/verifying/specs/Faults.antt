@@ -9,26 +9,26 @@ use Rattle.verifying.specs.declared.fault.ClaimFaultKind.TheVariants.{NoMemory}
 use Rattle.verifying.specs.declared.fault.ClaimFault.{ClaimFault}
 
 -- no two kinds of fault are of one form; this is an order of them
-abbrev pub rank_of : ClaimFaultKind → ℕ
-rank_of NotACertificate = 1
-rank_of NotAReason = 2
-rank_of NoMemory = 3
+abbrev pub fault_rank : ClaimFaultKind → ℕ
+fault_rank NotACertificate = 1
+fault_rank NotAReason = 2
+fault_rank NoMemory = 3
 
 -- what is wrong with a form
-abbrev pub IsFault : List Datum → Datum → ClaimFaultKind → Type 0
-IsFault earlier d NotACertificate = (names_order d ≡ true) × (claim_in d ≡ None)
-IsFault earlier d NotAReason = (names_order d ≡ false) × (claim_in d ≡ None)
-IsFault earlier d NoMemory = ⊥
+abbrev pub IsClaimFault : List Datum → Datum → ClaimFaultKind → Type 0
+IsClaimFault earlier d NotACertificate = (names_order d ≡ true) × (claim_in d ≡ None)
+IsClaimFault earlier d NotAReason = (names_order d ≡ false) × (claim_in d ≡ None)
+IsClaimFault earlier d NoMemory = ⊥
 
 -- the first fault: that of the first form that is no claim
 abbrev pub IsFirstFault : List Datum → ClaimFault → Type 0
-IsFirstFault ds fault = IsFirstFaultBy IsFault rank_of ds fault.form fault.kind
+IsFirstFault ds fault = IsFirstFaultBy IsClaimFault fault_rank ds fault.form fault.kind
 
 -- nothing is wrong with the forms before this place, and there is one at it
-pub record IsSoundBefore (ds : List Datum) (place : ℕ) : Type 0 where
+pub record AreClaimsSoundBefore (ds : List Datum) (place : ℕ) : Type 0 where
   pub earlier : List Datum
   pub form : Datum
   pub later : List Datum
   pub split : ds ≡ earlier ++ form ∷ later
   pub place_is : length earlier ≡ place
-  pub least : AreFaultless IsFault earlier
+  pub least : AreFaultless IsClaimFault earlier

@@ -24,17 +24,17 @@ abbrev pub IsDecidedAt : List Claim → ℕ → ObjectCalls → Decision → Typ
 IsDecidedAt claims limit o d = IsDecision claims limit o.object o.kind (calls_of o.ops) d
 
 -- what one more claim makes of the decision on an object
-abbrev pub IsNext : ℕ → Claim → ObjectCalls → Decision → Decision → Type 0
-IsNext limit e o old new =
+abbrev pub IsNextDecision : ℕ → Claim → ObjectCalls → Decision → Decision → Type 0
+IsNextDecision limit e o old new =
     (claims : List Claim) → IsDecidedAt claims limit o old
     → IsDecidedAt (claims ++ e ∷ []) limit o new
 
 -- one more claim was taken: the numbers are the same, and each decision is the next one
-pub record AreTaken (objects : List ObjectCalls) (limit : ℕ) (e : Claim)
+pub record AreDecisionsTaken (objects : List ObjectCalls) (limit : ℕ) (e : Claim)
     (old new : List (ℕ × Decision)) : Type 0 where
   pub numbers : map (λ a. a.0) new ≡ map (λ a. a.0) old
   pub each : (i : ℕ) (o : ObjectCalls) → i < length objects → o ≡ get_or objects i o
-      → IsNext limit e o (get_or old i no_answer).1 (get_or new i no_answer).1
+      → IsNextDecision limit e o (get_or old i no_answer).1 (get_or new i no_answer).1
 
 -- these are decisions on the objects by these claims
 pub record AreDecided (objects : List ObjectCalls) (claims : List Claim) (limit : ℕ)

@@ -5,7 +5,7 @@ use Rattle.edn_reader.specs.Sound as edn_sound
 use Rattle.edn_reader.specs.Sound.{IsShort, IsUnreadable}
 use Rattle.edn_reader.specs.Spells.{Spells}
 use Rattle.edn_reader.specs.declared.fault.FaultKind.TheVariants as edn_kind
-use Rattle.verifying.specs.Faults.{IsFirstFault, IsSoundBefore}
+use Rattle.verifying.specs.Faults.{IsFirstFault, AreClaimsSoundBefore}
 use Rattle.verifying.specs.declared.fault.ClaimFault.{ClaimFault}
 use Rattle.verifying.specs.declared.fault.ClaimFaultKind.TheVariants.{NoMemory}
 use Rattle.verifying.specs.declared.fault.ClaimTextFault.{ClaimTextFault}
@@ -13,14 +13,15 @@ use Rattle.verifying.specs.declared.fault.ClaimTextFault.TheVariants.{Text, Form
 
 -- The first fault of the forms; or an allocation failed for one of them, and before it there is
 -- none.
-abbrev pub IsFoundIn : List Datum → ClaimFault → Type 0
-IsFoundIn ds f =
-    (f.kind ≢ NoMemory → IsFirstFault ds f) × (f.kind ≡ NoMemory → IsSoundBefore ds f.form)
+abbrev pub IsClaimFaultIn : List Datum → ClaimFault → Type 0
+IsClaimFaultIn ds f =
+    (f.kind ≢ NoMemory → IsFirstFault ds f) × (f.kind ≡ NoMemory → AreClaimsSoundBefore ds f.form)
 
 -- The text is unreadable, or an allocation failed for a token; or it is short and spells forms in
 -- which this was found.
-abbrev pub IsTextFault : List ℕ → ClaimTextFault → Type 0
-IsTextFault text (Text e) =
+abbrev pub IsClaimTextFault : List ℕ → ClaimTextFault → Type 0
+IsClaimTextFault text (Text e) =
     (e.kind ≢ edn_kind.NoMemory → IsUnreadable text e)
     × (e.kind ≡ edn_kind.NoMemory → edn_sound.IsSoundAt e.place text)
-IsTextFault text (Forms f) = IsShort text × (ds : List Datum) × Spells ds text × IsFoundIn ds f
+IsClaimTextFault text (Forms f) = IsShort text × (ds : List Datum) × Spells ds text
+    × IsClaimFaultIn ds f

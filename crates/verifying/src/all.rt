@@ -3,9 +3,9 @@
 ghost use Rattle.std.specs.Prelude.{◌≡◌, ◌<◌, ◌++◌, ◌∷◌, [], List, length, IfOk, OnOk, AllPairs};
 ghost use Rattle.events.specs.Operations.{calls_of};
 ghost use Rattle.verifying.specs.declared.claim.Claim.{Claim};
-ghost use Rattle.verifying.specs.Denotes.{object_of};
+ghost use Rattle.verifying.specs.Denotes.{claim_object};
 ghost use Rattle.verifying.specs.Decisions.{AreDecisionsOn, IsDecision};
-ghost use Rattle.verifying.specs.Taking.{AreAllOpen, AreTaken};
+ghost use Rattle.verifying.specs.Taking.{AreAllOpen, AreDecisionsTaken};
 
 use crate::Claim;
 use crate::decision::Decision;
@@ -36,7 +36,7 @@ fn decide_further(
     claim: Claim,
     limit: u64,
 ) -> Result<Decision, AllocError>
-    requires { object_of claim ≡ history.now.object }
+    requires { claim_object claim ≡ history.now.object }
     ensures { IfOk result (λ d. (claims : List Claim) → IsDecision claims limit
         history.now.object history.now.kind (calls_of history.now.ops) earlier
         → IsDecision (claims ++ claim ∷ []) limit
@@ -64,7 +64,7 @@ fn take_claim(
 ) -> Result<(), AllocError>
     requires rising { AllPairs (λ a b. a.object < b.object) objects.now }
     requires each { length answers.old.items ≡ length objects.now }
-    ensures { OnOk result (AreTaken objects.now limit claim answers.old.items answers.new.items) }
+    ensures { OnOk result (AreDecisionsTaken objects.now limit claim answers.old.items answers.new.items) }
 {
     let number = claim.object();
     let Ok(at) = objects.binary_search_by_key(&number, |object| object.object()) else {

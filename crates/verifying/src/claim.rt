@@ -20,11 +20,11 @@ pub enum Claim {
 }
 
 impl Claim {
-    ghost use Rattle.verifying.specs.Denotes.{object_of};
+    ghost use Rattle.verifying.specs.Denotes.{claim_object};
 
     /// The number of the object.
     pub fn object(&self) -> u32
-        ensures { result ≡ object_of self.now }
+        ensures { result ≡ claim_object self.now }
     {
         match self {
             Claim::Order(certificate) => certificate.object,

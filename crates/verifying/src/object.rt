@@ -5,17 +5,17 @@ ghost use Rattle.std.specs.Global.{Vec};
 ghost use Rattle.model.specs.declared.Kind.{Kind};
 ghost use Rattle.model.specs.Orders.{Call};
 ghost use Rattle.events.specs.Operations.{ObjectCalls, calls_of};
-ghost use Rattle.refutation.specs.Refutations.{IsDoubt, IsNamedPart};
-ghost use Rattle.verifying.specs.Decisions.{IsAnswer};
+ghost use Rattle.refutation.specs.Refutations.{IsWhyNotShown, IsNamedPart};
+ghost use Rattle.verifying.specs.Decisions.{IsClaimAnswer};
 ghost use Rattle.verifying.specs.declared.claim.Claim.TheVariants as claim;
-ghost use Rattle.verifying.specs.Denotes.{object_of};
+ghost use Rattle.verifying.specs.Denotes.{claim_object};
 
 use crate::Claim;
 use crate::decision::{Decision, ShownReason};
 use certificate::Certificate;
 use checker::{Refusal, check_object};
 use events::ObjectHistory;
-use refutation::{Doubt, Reason, Refutation, refute};
+use refutation::{Reason, ReasonAnswer, WhyNotShown, refute};
 use std::alloc::{AllocError, Global};
 
 /// The decision by an order.
@@ -28,7 +28,7 @@ fn decide_by_order(
     limit: u64,
 ) -> Result<Decision, AllocError>
     requires { certificate.object ≡ history.now.object }
-    ensures { IfOk result (IsAnswer history.now.object history.now.kind
+    ensures { IfOk result (IsClaimAnswer history.now.object history.now.kind
         (calls_of history.now.ops) limit (claim.Order certificate)) }
 {
     match check_object(alloc, history, &certificate) {
@@ -40,21 +40,21 @@ fn decide_by_order(
 
 /// What is decided if the reason does not show that no order is valid. The search of the whole
 /// object, of which nothing was cut off, may have found an order.
-fn decide_by_doubt(reason: &Reason, limit: u64, doubt: Doubt) -> Decision
+fn decide_if_not_shown(reason: &Reason, limit: u64, why_not: WhyNotShown) -> Decision
     ensures { (kind : Kind) (calls : List Call) (note : Option (Vec ℕ)) (part : ObjectCalls)
         → IsNamedPart reason.now.cuts.items reason.now.object kind calls part
-        → IsDoubt reason.now.basis part doubt
-        → IsAnswer reason.now.object kind calls limit (claim.Reason reason.now note) result }
+        → IsWhyNotShown reason.now.basis part why_not
+        → IsClaimAnswer reason.now.object kind calls limit (claim.Reason reason.now note) result }
 {
-    match doubt {
-        Doubt::Possible(order) if reason.cuts.is_empty() => Decision::Order(Certificate {
+    match why_not {
+        WhyNotShown::Possible(order) if reason.cuts.is_empty() => Decision::Order(Certificate {
             object: reason.object,
             order,
         }),
-        Doubt::OutOfSteps => Decision::OutOfSteps(reason.basis.steps(limit)),
-        Doubt::NoMemory => Decision::NoMemory,
-        Doubt::Possible(_) => Decision::Open,
-        Doubt::NotExceeded => Decision::Open,
+        WhyNotShown::OutOfSteps => Decision::OutOfSteps(reason.basis.steps(limit)),
+        WhyNotShown::NoMemory => Decision::NoMemory,
+        WhyNotShown::Possible(_) => Decision::Open,
+        WhyNotShown::NotExceeded => Decision::Open,
     }
 }
 
@@ -69,17 +69,19 @@ fn decide_by_reason(
     limit: u64,
 ) -> Result<Decision, AllocError>
     requires { reason.object ≡ history.now.object }
-    ensures { IfOk result (IsAnswer history.now.object history.now.kind
+    ensures { IfOk result (IsClaimAnswer history.now.object history.now.kind
         (calls_of history.now.ops) limit (claim.Reason reason note)) }
 {
     match refute(alloc, history, &reason, limit)? {
-        Refutation::Impossible(part) => Ok(Decision::Impossible(ShownReason {
+        ReasonAnswer::Impossible(part) => Ok(Decision::Impossible(ShownReason {
             reason,
             part,
             note,
         })),
-        Refutation::NotShown { part: _, doubt } => Ok(decide_by_doubt(&reason, limit, doubt)),
-        Refutation::NoPart | Refutation::OtherObject => Ok(Decision::Open),
+        ReasonAnswer::NotShown { part: _, why_not } => Ok(decide_if_not_shown(
+            &reason, limit, why_not,
+        )),
+        ReasonAnswer::NoPart | ReasonAnswer::OtherObject => Ok(Decision::Open),
     }
 }
 
@@ -93,8 +95,8 @@ pub fn decide_by_claim(
     claimed: Claim,
     limit: u64,
 ) -> Result<Decision, AllocError>
-    requires { object_of claimed ≡ history.now.object }
-    ensures { IfOk result (IsAnswer history.now.object history.now.kind
+    requires { claim_object claimed ≡ history.now.object }
+    ensures { IfOk result (IsClaimAnswer history.now.object history.now.kind
         (calls_of history.now.ops) limit claimed) }
 {
     match claimed {

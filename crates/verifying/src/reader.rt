@@ -5,7 +5,7 @@ ghost use Rattle.edn_reader.specs.View.{view, views};
 ghost use Rattle.verifying.specs.declared.claim.Claim.{Claim};
 ghost use Rattle.verifying.specs.Denotes as spec;
 ghost use Rattle.verifying.specs.Denotes.{Denotes};
-ghost use Rattle.verifying.specs.Faults.{IsFault, IsFirstFault, IsSoundBefore};
+ghost use Rattle.verifying.specs.Faults.{IsClaimFault, IsFirstFault, AreClaimsSoundBefore};
 
 use crate::claim::Claim;
 use crate::fault::{ClaimFault, ClaimFaultKind};
@@ -40,7 +40,7 @@ fn note_of(alloc: Global, form: &Form) -> Result<Option<Vec<u8>>, AllocError>
 
 /// The claim that a form is.
 fn claim_in(alloc: Global, form: &Form) -> Result<Option<Claim>, AllocError>
-    ensures { IfOk result (λ o. option_map spec.seen o ≡ spec.claim_in (view form.now)) }
+    ensures { IfOk result (λ o. option_map spec.claim_seen o ≡ spec.claim_in (view form.now)) }
 {
     if names_order(form) {
         return match certificate_in(alloc, form)? {
@@ -60,7 +60,7 @@ fn claim_in(alloc: Global, form: &Form) -> Result<Option<Claim>, AllocError>
 /// What is wrong with a form that is no claim.
 fn fault_of(form: &Form) -> ClaimFaultKind
     requires { spec.claim_in (view form.now) ≡ None }
-    ensures fault { IsFault [] (view form.now) result }
+    ensures fault { IsClaimFault [] (view form.now) result }
     ensures found { result ≢ ClaimFaultKind.NoMemory }
 {
     if names_order(form) {
@@ -72,9 +72,9 @@ fn fault_of(form: &Form) -> ClaimFaultKind
 
 /// The claim that a form is, or why there is none.
 fn next_claim(alloc: Global, form: &Form) -> Result<Claim, ClaimFaultKind>
-    ensures own { IfOk result (λ c. spec.claim_in (view form.now) ≡ Some (spec.seen c)) }
+    ensures own { IfOk result (λ c. spec.claim_in (view form.now) ≡ Some (spec.claim_seen c)) }
     ensures fault { IfErr result (λ k. k ≢ ClaimFaultKind.NoMemory →
-        IsFault [] (view form.now) k) }
+        IsClaimFault [] (view form.now) k) }
 {
     match claim_in(alloc, form) {
         Ok(Some(claim)) => Ok(claim),
@@ -96,7 +96,7 @@ pub fn read_claims(alloc: Global, forms: &[Form]) -> Result<Vec<Claim>, ClaimFau
         → (cs : List Claim) → Denotes (views forms.now) cs → ⊥) }
     // An allocation failed when nothing was wrong before this form.
     ensures memory { IfErr result (λ e. e.kind ≡ ClaimFaultKind.NoMemory
-        → IsSoundBefore (views forms.now) e.form) }
+        → AreClaimsSoundBefore (views forms.now) e.form) }
 {
     let mut claims = Vec::new(alloc);
     for (place, form) in forms.iter().enumerate() {

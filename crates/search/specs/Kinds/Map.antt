@@ -7,16 +7,16 @@ use Rattle.seq_objects.specs.declared.map_object.MapOp.TheVariants.{Put, Get, De
 use Rattle.seq_objects.specs.declared.map_object.MapOp.TheVariants.{Replace, Assoc, Dissoc}
 
 -- the value of a reply, if it is one
-abbrev pub value_in : AnyReply → Option ℤ
-value_in (Value v) = v
-value_in reply = None
+abbrev pub value_of_reply : AnyReply → Option ℤ
+value_of_reply (Value v) = v
+value_of_reply reply = None
 
 -- the key of an operation of a map
-abbrev pub key_of : MapOp → ℤ
-key_of (Put k v) = k
-key_of (Get k) = k
-key_of (Del k) = k
-key_of (PutIfAbsent k v) = k
-key_of (Replace k a b) = k
-key_of (Assoc k v) = k
-key_of (Dissoc k) = k
+abbrev pub map_key : MapOp → ℤ
+map_key (Put k v) = k
+map_key (Get k) = k
+map_key (Del k) = k
+map_key (PutIfAbsent k v) = k
+map_key (Replace k a b) = k
+map_key (Assoc k v) = k
+map_key (Dissoc k) = k

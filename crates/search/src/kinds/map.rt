@@ -4,7 +4,7 @@ ghost use Rattle.std.specs.Prelude.{◌≡◌, IfOk};
 ghost use Rattle.model.specs.Objects.{table};
 ghost use Rattle.seq_objects.specs.Operations.{map_op, map_reply};
 ghost use Rattle.search.specs.Undoing.{IsStep};
-ghost use Rattle.search.specs.Kinds.Map.{key_of, value_in};
+ghost use Rattle.search.specs.Kinds.Map.{map_key, value_of_reply};
 
 use crate::digest::{Digest, bits, mixed, of_value};
 use crate::kinds::ReversibleKind;
@@ -18,7 +18,7 @@ const BYTES_OF_A_KEY: usize = 64;
 
 /// The value of a reply; none if the reply is not a value.
 fn value_of(reply: &MapReply) -> Option<i64>
-    ensures { result ≡ value_in (map_reply reply.now) }
+    ensures { result ≡ value_of_reply (map_reply reply.now) }
 {
     match *reply {
         MapReply::Value(value) => value,
@@ -28,7 +28,7 @@ fn value_of(reply: &MapReply) -> Option<i64>
 
 /// The step of an operation on this key. Its reply need not tell what the key had.
 fn step_key(map: &mut MapObject, key: i64, op: &MapOp) -> Result<Step, AllocError>
-    requires { key_of op.now ≡ key }
+    requires { map_key op.now ≡ key }
     ensures { IfOk result (IsStep (table map.old) (map_op op.now) (table map.new)) }
 {
     let before = value_of(&map.apply(&MapOp::Get(key))?);

@@ -1,7 +1,7 @@
 //! The values of a queue, a stack or a heap.
 
 ghost use Rattle.std.specs.Prelude.{◌≡◌, OnOk};
-ghost use Rattle.search.specs.Undoing.{values_undone, IsTaken};
+ghost use Rattle.search.specs.Undoing.{values_undone, IsValueTaken};
 
 use crate::step::{Step, Undo};
 use model::AnyReply;
@@ -12,7 +12,7 @@ const BYTES_OF_A_VALUE: usize = 16;
 
 /// Takes the first value, if there is one.
 pub(crate) fn take_first(values: &mut VecDeque<i64>) -> Step
-    ensures { IsTaken values.old.items values.new.items result }
+    ensures { IsValueTaken values.old.items values.new.items result }
 {
     match values.pop_front() {
         Some(v) => Step::new(AnyReply::Value(Some(v)), Undo::PutFirst(v)),

@@ -1,4 +1,4 @@
-use Rattle.shards.proofs.Deciding.{proper_shards}
+use Rattle.shards.proofs.WholeAndShards.{proper_shards}
 use Rattle.shards.proofs.shards_are_proper.Goals as goal
 
 pub returns : goal.returns

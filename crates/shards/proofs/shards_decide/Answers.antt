@@ -1,4 +1,4 @@
-use Rattle.shards.proofs.Deciding.{decided_by_shards}
+use Rattle.shards.proofs.WholeAndShards.{decided_by_shards}
 use Rattle.shards.proofs.shards_decide.Goals as goal
 
 pub returns : goal.returns

@@ -4,24 +4,24 @@ use Rattle.std.proofs.Common.{◌≡◌, ℕ, List, [], ◌∷◌, ap, sym, subs
 use Rattle.edn_reader.specs.Truncation.{Keeping, kept_of, integer_vector_kept}
 use Rattle.edn_reader.specs.Token.{tokens_of}
 use Rattle.edn_reader.specs.Elements.{SpellsFront}
-use Rattle.edn_reader.specs.Left.{left_of, start_of, keeping_in, tokens_in, integer_vector_in}
-use Rattle.edn_reader.proofs.Following.{along_more, along_moved, along_spells, reads_some, reads_none, sound_after}
-use Rattle.edn_reader.proofs.Following.{unreadable_after}
-use Rattle.certificate.specs.Texts.{IsReading}
+use Rattle.edn_reader.specs.Left.{text_left, start_of, keeping_in, tokens_in, integer_vector_in}
+use Rattle.edn_reader.proofs.FormsInARow.{along_more, along_moved, along_spells, reads_some, reads_none, sound_after}
+use Rattle.edn_reader.proofs.FormsInARow.{unreadable_after}
+use Rattle.certificate.specs.Texts.{IsCertificateReading}
 use Rattle.certificate.proofs.TextReading.{along_passed, no_fault_yet}
 use Rattle.certificate.proofs.text_reader.read_certificates_text.Goals as goal
 
 pub elements-preserved : goal.elements-preserved
 elements-preserved c =
-    let e = reads_some (keeping_in c.elements.elements) c.in-Ok-true.field-0 (left_of c.elements.elements)
+    let e = reads_some (keeping_in c.elements.elements) c.in-Ok-true.field-0 (text_left c.elements.elements)
     (tokens_in c.advance.new.self)
     (integer_vector_in c.advance.new.self)
-    (left_of c.advance.new.self) c.in-Ok-true.field-0-test c.in-Ok-true.ensures.reads in
+    (text_left c.advance.new.self) c.in-Ok-true.field-0-test c.in-Ok-true.ensures.reads in
     let t = c.take_integer_vector-integer_vector in
     let k = c.elements.invariant.keeps in
-    let along = along_more (keeping_in c.elements.elements) (IsReading c.elements.reading)
-    (IsReading c.take.new.self) c.args.text.now
-    (left_of c.elements.elements) (left_of c.advance.new.self) (start_of c.elements.elements)
+    let along = along_more (keeping_in c.elements.elements) (IsCertificateReading c.elements.reading)
+    (IsCertificateReading c.take.new.self) c.args.text.now
+    (text_left c.elements.elements) (text_left c.advance.new.self) (start_of c.elements.elements)
     (start_of c.advance.new.self)
     (tokens_in c.advance.new.self) (integer_vector_in c.advance.new.self) e c.in-Ok-true.ensures.moves
     (λ ds d q r h. c.take.ensures ds d (
@@ -29,8 +29,8 @@ elements-preserved c =
       t.ensures.integer_vector ∙ r ∙ ap (λ (x : Keeping). integer_vector_kept x d) k,
     ) h) c.elements.invariant.along in
     record {
-      along = along_moved (IsReading c.take.new.self) c.args.text.now (left_of c.advance.new.self)
-          (left_of t.new.self) (start_of c.advance.new.self)
+      along = along_moved (IsCertificateReading c.take.new.self) c.args.text.now (text_left c.advance.new.self)
+          (text_left t.new.self) (start_of c.advance.new.self)
           (start_of t.new.self) t.ensures.left.0 t.ensures.left.1 along;
       short = c.elements.invariant.short;
       utf8 = c.elements.invariant.utf8;
@@ -40,12 +40,12 @@ elements-preserved c =
 pub returns-in-Ok-finish-clause-denotes : goal.returns-in-Ok-finish-clause-denotes
 returns-in-Ok-finish-clause-denotes c =
     let a = c.elements.invariant.along in
-    let n = reads_none (keeping_in c.elements.elements) c.in-Ok-false.field-0 (left_of c.elements.elements)
+    let n = reads_none (keeping_in c.elements.elements) c.in-Ok-false.field-0 (text_left c.elements.elements)
     (tokens_in c.advance.new.self)
     (integer_vector_in c.advance.new.self)
-    (left_of c.advance.new.self) c.in-Ok-false.field-0-test c.in-Ok-false.ensures.reads in (
+    (text_left c.advance.new.self) c.in-Ok-false.field-0-test c.in-Ok-false.ensures.reads in (
       a.forms,
-      along_spells (IsReading c.elements.reading) c.args.text.now (left_of c.elements.elements)
+      along_spells (IsCertificateReading c.elements.reading) c.args.text.now (text_left c.elements.elements)
           (start_of c.elements.elements) a n,
       c.in-Ok-finish.ensures a.forms a.holds,
     )
@@ -57,13 +57,13 @@ returns-in-Ok-finish-clause-distinct c =
 pub returns-in-Err-finish-clause-fault : goal.returns-in-Err-finish-clause-fault
 returns-in-Err-finish-clause-fault c =
     let a = c.elements.invariant.along in
-    let n = reads_none (keeping_in c.elements.elements) c.in-Ok-false.field-0 (left_of c.elements.elements)
+    let n = reads_none (keeping_in c.elements.elements) c.in-Ok-false.field-0 (text_left c.elements.elements)
     (tokens_in c.advance.new.self)
     (integer_vector_in c.advance.new.self)
-    (left_of c.advance.new.self) c.in-Ok-false.field-0-test c.in-Ok-false.ensures.reads in (
+    (text_left c.advance.new.self) c.in-Ok-false.field-0-test c.in-Ok-false.ensures.reads in (
       c.elements.invariant.short,
       a.forms,
-      along_spells (IsReading c.elements.reading) c.args.text.now (left_of c.elements.elements)
+      along_spells (IsCertificateReading c.elements.reading) c.args.text.now (text_left c.elements.elements)
           (start_of c.elements.elements) a n,
       c.in-Err-finish.ensures a.forms a.holds,
     )
@@ -72,11 +72,11 @@ pub returns-in-Err-advance-clause-fault : goal.returns-in-Err-advance-clause-fau
 returns-in-Err-advance-clause-fault c =
     let a = c.elements.invariant.along in
     let e = c.in-Err-advance.ensures in (
-      unreadable_after (IsReading c.elements.reading) c.args.text.now (left_of c.elements.elements)
+      unreadable_after (IsCertificateReading c.elements.reading) c.args.text.now (text_left c.elements.elements)
           (start_of c.elements.elements) c.in-Err-advance.fault c.elements.invariant.short a e.short e.none,
       λ m. (
         c.elements.invariant.short,
-        sound_after c.args.text.now (left_of c.elements.elements) a.forms (start_of c.elements.elements)
+        sound_after c.args.text.now (text_left c.elements.elements) a.forms (start_of c.elements.elements)
             c.in-Err-advance.fault.place c.elements.invariant.utf8 a.front a.place (e.memory m),
       ),
     )
@@ -87,13 +87,14 @@ take_said-requires c = no_fault_yet c.elements.reading.fault c.if-is_none.ensure
 pub elements-preserved-in-Some : goal.elements-preserved-in-Some
 elements-preserved-in-Some c =
     let read = c.in-Some.ensures in
-    let at : c.as_bytes.result.now ≡ left_of c.elements.elements = c.as_bytes.ensures.value ∙ c.rest.ensures in
-    let front : SpellsFront (left_of c.elements.elements) (read.form ∷ []) (left_of c.pass.new.self) =
-    subst (λ (r : List ℕ). SpellsFront (left_of c.elements.elements) (read.form ∷ []) r) (sym c.pass.ensures.left)
+    let at : c.as_bytes.result.now ≡ text_left c.elements.elements = c.as_bytes.ensures.value ∙ c.rest.ensures in
+    let front : SpellsFront (text_left c.elements.elements) (read.form ∷ []) (text_left c.pass.new.self) =
+    subst (λ (r : List ℕ). SpellsFront (text_left c.elements.elements) (read.form ∷ []) r) (sym c.pass.ensures.left)
     (subst (λ (t : List ℕ). SpellsFront t (read.form ∷ []) c.in-Some.rest.now) at read.front) in
     record {
-      along = along_passed (IsReading c.elements.reading) (IsReading c.take_said.new.self) c.args.text.now
-          (left_of c.elements.elements) (left_of c.pass.new.self) (start_of c.elements.elements)
+      along = along_passed (IsCertificateReading c.elements.reading) (IsCertificateReading c.take_said.new.self)
+          c.args.text.now
+          (text_left c.elements.elements) (text_left c.pass.new.self) (start_of c.elements.elements)
           (start_of c.pass.new.self)
           read.form front c.pass.ensures.moves
           (λ ds h. c.take_said.ensures ds read.form read.own h) c.elements.invariant.along;

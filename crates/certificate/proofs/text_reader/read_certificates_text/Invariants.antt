@@ -1,19 +1,19 @@
 use Rattle.std.proofs.Common.{◌≡◌, length, codes}
 use Rattle.std.specs.Str.{IsUtf8}
 use Rattle.edn_reader.specs.Truncation.{truncated_and_integer_vector}
-use Rattle.edn_reader.specs.Left.{left_of, start_of, keeping_in}
+use Rattle.edn_reader.specs.Left.{text_left, start_of, keeping_in}
 use Rattle.edn_reader.specs.Sound.{IsShort}
-use Rattle.edn_reader.proofs.Following.{Along}
-use Rattle.certificate.specs.Texts.{IsReading}
+use Rattle.edn_reader.proofs.FormsInARow.{Along}
+use Rattle.certificate.specs.Texts.{IsCertificateReading}
 use Rattle.certificate.proofs.text_reader.read_certificates_text.Given as goal
 
 abbrev pub invariant-elements : goal.invariant-elements
 invariant-elements l = record {
-  along : Along (IsReading l.reading) l.text (left_of l.elements) (start_of l.elements);
+  along : Along (IsCertificateReading l.reading) l.text (text_left l.elements) (start_of l.elements);
   short : IsShort l.text;
   utf8 : IsUtf8 l.text;
   keeps : keeping_in l.elements ≡ truncated_and_integer_vector (codes "order");
 }
 
 abbrev pub decreases-elements : goal.decreases-elements
-decreases-elements l = length (left_of l.elements)
+decreases-elements l = length (text_left l.elements)

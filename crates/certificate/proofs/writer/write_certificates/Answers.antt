@@ -5,7 +5,7 @@ use Rattle.std.proofs.lemmas.List.{take_all}
 use Rattle.edn_reader.specs.Text.{IsInt64}
 use Rattle.std.specs.List.{AllByRecursion}
 use Rattle.edn.proofs.Fronts.{within, further, fails}
-use Rattle.certificate.specs.Lines.{lines_of}
+use Rattle.certificate.specs.Lines.{certificate_lines}
 use Rattle.certificate.specs.declared.Certificate.{Certificate}
 use Rattle.certificate.proofs.Writing.{lines_left, lines_spell, all_taken_item, InProfiles}
 use Rattle.certificate.proofs.writer.write_certificates.Goals as goal
@@ -26,7 +26,7 @@ loop-certificate-preserved g c =
     let cs = c.args.certificates.now in
     let left = lines_left cs l.certificate-index c.certificate-item.result c.loop-certificate-test.true
     c.certificate-item.is in
-    let f = further _ _ _ (lines_of cs) l.invariant.done _ _ _ l.invariant.parts left l.invariant.sent h.0 in
+    let f = further _ _ _ (certificate_lines cs) l.invariant.done _ _ _ l.invariant.parts left l.invariant.sent h.0 in
     record {
       usable = h.1;
       done = f.0;

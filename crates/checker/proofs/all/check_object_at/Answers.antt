@@ -4,13 +4,13 @@ use Rattle.std.proofs.Common.{ap, sym, ◌∙◌, ◌≡◌, None}
 use Rattle.number_map.specs.Lookup.{value_of}
 use Rattle.events.specs.Operations.{calls_of}
 use Rattle.certificate.specs.declared.Certificate.{Certificate}
-use Rattle.checker.specs.Checking.{IsPlace}
+use Rattle.checker.specs.Checking.{IsCertificatePlace}
 use Rattle.checker.proofs.Certificates.{fine_here, refused_here, no_certificate}
 use Rattle.checker.proofs.all.check_object_at.Goals as goal
 use Rattle.checker.proofs.all.check_object_at.Goals.{In-Some}
 
 -- the certificate of the object is at the place that is found
-here : (c : In-Some) → IsPlace c.args.certificates.now c.args.object.now.object c.in-Some.place
+here : (c : In-Some) → IsCertificatePlace c.args.certificates.now c.args.object.now.object c.in-Some.place
 here c = c.requires.places c.args.object.now.object c.in-Some.place
     (ap (value_of c.args.places.now) (sym c.object.ensures) ∙ (sym c.get.ensures ∙ c.in-Some.is))
 

@@ -6,7 +6,7 @@ use Rattle.std.proofs.lemmas.Int.{ints}
 use Rattle.std.proofs.lemmas.Option.{slice_get-get_or}
 use Rattle.model.specs.declared.AnyReply.{AnyReply}
 use Rattle.checker.specs.Ends.{AreMarked, IsFirstUnmarked}
-use Rattle.checker.proofs.Deciding.{unknown_first}
+use Rattle.checker.proofs.WalkAnswers.{unknown_first}
 use Rattle.checker.proofs.Finding.{placeholder_operation}
 use Rattle.checker.proofs.Steps.{Walk}
 use Rattle.checker.proofs.Ending.{IsHere, refused_by, read_at, repeated_at, late_at, impossible_at, wrong_at}

@@ -3,7 +3,7 @@
 use Rattle.std.proofs.Common.{◌≡◌, ◌-◌, ◌+◌, ◌∷◌, [], ◌++◌, All, length, ap, sym, ◌∙◌, subst, length-append, arith}
 use Rattle.std.proofs.lemmas.List.Elements.{All-push}
 use Rattle.seq_objects.specs.Kinds.{kind_in, kinds_of}
-use Rattle.clients.specs.Drawing.{op_for, calls_from, stream_at}
+use Rattle.clients.specs.Drawing.{op_for, drawn_calls, stream_at}
 use Rattle.clients.specs.Workloads.{IsCall}
 use Rattle.clients.proofs.Streams.{drawn_more, is_call}
 use Rattle.clients.proofs.calls.draw_calls.Goals as goal
@@ -19,7 +19,7 @@ loop-preserved c =
     let long = ap length items ∙ length-append c.loop.calls.items ((d.object, c.operation.result) ∷ []) in
     record {
       drawn = ap (λ cs. cs
-          ++ calls_from ks m (c.args.count - (c.loop.counter + 1)) (stream_at c.draw-draws.new.generator))
+          ++ drawn_calls ks m (c.args.count - (c.loop.counter + 1)) (stream_at c.draw-draws.new.generator))
           items
           ∙ drawn_more ks m (c.args.count - c.loop.counter) (c.args.count - (c.loop.counter + 1))
           (stream_at c.loop.generator)

@@ -6,7 +6,7 @@ use Rattle.model.specs.Objects.{kind_of}
 use Rattle.seq_objects.specs.declared.kinds.Kinds.TheVariants.{One}
 use Rattle.seq_objects.specs.Kinds.{kinds_of}
 use Rattle.clients.specs.Drawing.{pairs_from, stream_at}
-use Rattle.clients.specs.Workloads.{Call, IsCall}
+use Rattle.clients.specs.Workloads.{WorkCall, IsCall}
 use Rattle.clients.proofs.Streams.{pair_more, is_call}
 use Rattle.clients.proofs.calls.draw_pairs.Goals as goal
 
@@ -17,8 +17,8 @@ loop-preserved c =
     let free = c.args.free in
     let ks = One (kind_of take) in
     let m = c.args.objects in
-    let first : Call = (d.object, take) in
-    let second : Call = (d.object, free) in
+    let first : WorkCall = (d.object, take) in
+    let second : WorkCall = (d.object, free) in
     let items = c.in_ok-push-2.ensures.items ∙ ap (λ cs. cs ++ second ∷ []) c.in_ok-push.ensures.items in
     let long = ap length items ∙ length-append (c.loop.calls.items ++ first ∷ []) (second ∷ []) in
     let short = length-append c.loop.calls.items (first ∷ []) in

@@ -1,14 +1,14 @@
 use Rattle.std.proofs.Common.{◌∙◌, ◌<◌, arith, length, get_or, sym, subst, take, pos}
 use Rattle.std.proofs.lemmas.List.{take_more}
 use Rattle.model.specs.declared.AnyOp.TheVariants.{Enqueue}
-use Rattle.clients.specs.Workloads.{Call}
+use Rattle.clients.specs.Workloads.{WorkCall}
 use Rattle.clients.proofs.Works.{HasMade, one_made, stopped}
 use Rattle.clients.proofs.worker.make_all.Goals as goal
 
 pub loop-place-preserved : goal.loop-place-preserved
 loop-place-preserved g c =
     let h = c.make-after.ensures.called c.if-not-over.false in let i = c.loop-place.place in
-    let inside : i < length c.args.calls.now = omega arith in let none : Call = (0, Enqueue (pos 0)) in (
+    let inside : i < length c.args.calls.now = omega arith in let none : WorkCall = (0, Enqueue (pos 0)) in (
       c.make-after.ensures.desk ∙ c.loop-place.invariant.0,
       subst (λ z. HasMade z c.args.client.knows c.make-after.result.0.knows)
           (sym (take_more c.args.calls.now i none inside))

@@ -2,9 +2,9 @@
 -- these texts (`holds_in_memory`). Where one could not be copied nothing is written yet, and `judge` decides.
 use Rattle.std.proofs.Common.{◌≡◌, ◌≢◌, ◌∙◌, ap, sym, subst, rules}
 use Rattle.judging.specs.declared.check.ToolFault.TheVariants as fault
-use Rattle.judging.specs.Verdicts.{Holds}
+use Rattle.judging.specs.Verdicts.{IsJudgement}
 use Rattle.report.specs.declared.verdict.Verdict.{Verdict}
-use Rattle.history_commands.specs.Outputs.{number_of, status_of}
+use Rattle.history_commands.specs.Outputs.{status_number, status_of}
 use Rattle.history_commands.proofs.Checked.{is_check}
 use Rattle.commands.proofs.InMemory.{holds_in_memory}
 use Rattle.commands.proofs.Leaving.{leaves_as, wrote_front_of, wrote_verdict}
@@ -17,11 +17,12 @@ returns-in-Ok g c =
     let j = c.in-Ok.ensures.judged in
     let holds = holds_in_memory h cs _ _ _ _ c.in-Ok.verdict (ap (λ s. s.now) c.new-first.ensures.over)
     (ap (λ s. s.now) c.new-second.ensures.over) j.0 in
-    let is : c.number.result ≡ number_of (status_of c.in-Ok.verdict) = c.number.ensures
-    ∙ ap number_of c.status_of.ensures.is in
+    let is : c.number.result ≡ status_number (status_of c.in-Ok.verdict) = c.number.ensures
+    ∙ ap status_number c.status_of.ensures.is in
     record {
       leaves = rw is
-          (leaves_as (wrote_verdict (Holds h cs) c.in-Ok.verdict holds j.1 c.in-Ok.ensures.usable) (is_check h cs));
+          (leaves_as (wrote_verdict (IsJudgement h cs) c.in-Ok.verdict holds j.1 c.in-Ok.ensures.usable)
+          (is_check h cs));
     }
 
 pub returns-in-Err-Write : goal.returns-in-Err-Write
@@ -34,7 +35,7 @@ returns-in-Err-Write g c =
     (ap (λ s. s.now) c.new-second.ensures.over) f.1.1 in
     record {
       leaves = rw c.number-in-Err-Write.ensures
-          (leaves_as (wrote_front_of (Holds h cs) f.1.0 holds f.1.2 f.0) (is_check h cs));
+          (leaves_as (wrote_front_of (IsJudgement h cs) f.1.0 holds f.1.2 f.0) (is_check h cs));
     }
 
 pub returns-in-Err-Read : goal.returns-in-Err-Read
@@ -46,5 +47,5 @@ returns-in-Err-Read g c =
     record {
       leaves = rw (sym same) (leaves_as c.write_verdict_with_status.ensures.leaves (λ status out k.
           is_check h cs status out
-          (k.0, subst (λ (v : Verdict). Holds h cs v) (sym k.1) c.judge.ensures.holds, k.2, k.3)));
+          (k.0, subst (λ (v : Verdict). IsJudgement h cs v) (sym k.1) c.judge.ensures.holds, k.2, k.3)));
     }

@@ -3,7 +3,7 @@
 use Rattle.std.proofs.Common.{◌≡◌, ◌≢◌, ◌∙◌, ap, inl, inr, sym, rules}
 use Rattle.judging.specs.declared.check.ToolFault.TheVariants as fault
 use Rattle.judging.specs.Checks.{IsVerdictOnRead}
-use Rattle.history_commands.specs.Outputs.{number_of, status_of}
+use Rattle.history_commands.specs.Outputs.{status_number, status_of}
 use Rattle.history_commands.proofs.Checked.{is_check}
 use Rattle.commands.proofs.Leaving.{leaves_as, wrote_front_of, wrote_verdict}
 use Rattle.commands.proofs.checking.check_sources.Goals as goal
@@ -13,8 +13,8 @@ returns-in-Ok-clause-leaves g c =
     let j = c.in-Ok.ensures.judged in
     let said = IsVerdictOnRead (g.H.Source.remaining c.args.history.now) (g.H.Source.remaining c.check_over.new.history)
     (g.C.Source.remaining c.args.certificates.now) (g.C.Source.remaining c.check_over.new.certificates) in
-    let is : c.number.result ≡ number_of (status_of c.in-Ok.verdict) = c.number.ensures
-    ∙ ap number_of c.status_of.ensures.is in
+    let is : c.number.result ≡ status_number (status_of c.in-Ok.verdict) = c.number.ensures
+    ∙ ap status_number c.status_of.ensures.is in
     rw is (leaves_as (wrote_verdict said c.in-Ok.verdict j.0 j.1 c.in-Ok.ensures.usable)
     (λ status out k. inl (
       k.1.first,

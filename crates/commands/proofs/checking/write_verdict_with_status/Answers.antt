@@ -1,5 +1,5 @@
 use Rattle.std.proofs.Common.{◌≡◌, ◌∙◌, ap, refl}
-use Rattle.history_commands.specs.Outputs.{number_of}
+use Rattle.history_commands.specs.Outputs.{status_number}
 use Rattle.report.specs.declared.verdict.Verdict.{Verdict}
 use Rattle.commands.proofs.Leaving.{wrote_front_of, wrote_verdict}
 use Rattle.commands.proofs.checking.write_verdict_with_status.Goals as goal
@@ -9,7 +9,7 @@ returns-in-Ok g c =
     let v = c.args.verdict.now in
     let sent = c.in-Ok.ensures.sent.0 in
     record {
-      leaves = rw (c.number.ensures ∙ ap number_of c.status_of.ensures.is)
+      leaves = rw (c.number.ensures ∙ ap status_number c.status_of.ensures.is)
           (wrote_verdict (λ (w : Verdict). w ≡ v) v refl sent.0 sent.1);
     }
 

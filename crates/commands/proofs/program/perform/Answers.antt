@@ -1,9 +1,9 @@
 -- `perform`: the exit status and the output are those of the command, or the output failed. Each command is done by
 -- a function of its own, whose contract says that of its case (`made_as`, `leaves_as`).
 use Rattle.history_commands.specs.Refuted.{IsRefute}
-use Rattle.history_commands.specs.Searches.{IsSearch}
+use Rattle.history_commands.specs.Searches.{IsSearchResult}
 use Rattle.history_commands.specs.Verified.{IsVerification}
-use Rattle.commands.specs.Runs.{IsRun}
+use Rattle.commands.specs.Runs.{IsRunResult}
 use Rattle.commands.specs.Simulated.{IsSimulation}
 use Rattle.commands.proofs.Leaving.{exactly, leaves_as, made_as}
 use Rattle.commands.proofs.program.perform.Goals as goal
@@ -15,7 +15,7 @@ pub returns-in-Search : goal.returns-in-Search
 returns-in-Search g c = record {
   performs = rw c.in-Search.is
       (leaves_as c.write_output.ensures.leaves
-      (made_as (IsSearch c.args.first.now c.in-Search.steps) c.search.result c.search.ensures));
+      (made_as (IsSearchResult c.args.first.now c.in-Search.steps) c.search.result c.search.ensures));
 }
 
 pub returns-in-Refute : goal.returns-in-Refute
@@ -36,7 +36,8 @@ returns-in-Verify g c = record {
 pub returns-in-Run : goal.returns-in-Run
 returns-in-Run g c = record {
   performs = rw c.in-Run.is
-      (leaves_as c.write_output-in-Run.ensures.leaves (made_as (IsRun c.in-Run.options) c.run.result c.run.ensures));
+      (leaves_as c.write_output-in-Run.ensures.leaves (made_as (IsRunResult c.in-Run.options) c.run.result
+      c.run.ensures));
 }
 
 pub returns-in-Simulate : goal.returns-in-Simulate

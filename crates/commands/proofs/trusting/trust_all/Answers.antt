@@ -1,6 +1,6 @@
 use Rattle.std.proofs.Common.{◌+◌, ◌++◌, ◌∷◌, ◌∙◌, [], ap, arith, refl, subst, sym}
 use Rattle.std.proofs.lemmas.List.{length-append}
-use Rattle.commands.specs.Trusted.{seen}
+use Rattle.commands.specs.Trusted.{bytes_read}
 use Rattle.commands.proofs.Merges.{none_read, read_more}
 use Rattle.commands.proofs.trusting.trust_all.Goals as goal
 
@@ -11,7 +11,7 @@ pub loop-shard-preserved : goal.loop-shard-preserved
 loop-shard-preserved g c =
     let holds = g.F.StatusFiles.holds c.args.files.now in
     let i = c.loop-shard.invariant in
-    let read = seen c.in-Ok.read in (
+    let read = bytes_read c.in-Ok.read in (
       i.0 ++ read ∷ [],
       length-append i.0 (read ∷ []) ∙ ap (λ n. n + 1) i.1,
       read_more holds i.0 read i.2 (subst (λ n. holds n read) (sym i.1) c.in-Ok.ensures),

@@ -3,7 +3,7 @@ use Rattle.std.proofs.lemmas.List.{append-nil}
 use Rattle.edn_reader.specs.Datum.{Datum}
 use Rattle.edn_reader.specs.View.{view, views}
 use Rattle.edn_reader.specs.Token.{tokens_of}
-use Rattle.edn_reader.proofs.Formed.{views_with}
+use Rattle.edn_reader.proofs.FormsOfTokens.{views_with}
 use Rattle.edn_reader.proofs.Prefixes.{same_datum}
 use Rattle.edn_reader.proofs.reader.put_form.Goals as goal
 

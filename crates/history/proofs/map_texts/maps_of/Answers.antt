@@ -3,10 +3,10 @@
 use Rattle.std.proofs.Common.{Option, List, [], ◌∷◌, ◌++◌, length, sym, ap, subst, ◌∙◌, inr, inl, arith}
 use Rattle.std.specs.Str.{IsUtf8}
 use Rattle.edn_reader.specs.Elements.{SpellsNothing}
-use Rattle.edn_reader.proofs.Following.{along_spells, front_more, sound_after, unreadable_after}
+use Rattle.edn_reader.proofs.FormsInARow.{along_spells, front_more, sound_after, unreadable_after}
 use Rattle.history.specs.declared.client_map.OperationMap.{OperationMap}
 use Rattle.history.specs.declared.map_texts.MapText.{MapText}
-use Rattle.history.specs.MapReading.{left_in, start_in, ReadsNext}
+use Rattle.history.specs.MapReading.{left_in, start_of_map, ReadsNext}
 use Rattle.history.specs.MapTexts.{AreMapTexts}
 use Rattle.history.specs.UsualForms.{ReadsForm}
 use Rattle.history.proofs.OwnTexts.{form_alone, texts_push}
@@ -28,7 +28,8 @@ forms-preserved c =
     record {
       along = along_next (AreMapTexts c.forms.texts.items)
           (AreMapTexts c.push.new.self.items) c.args.piece.now text rest
-          (start_in c.forms.maps) (start_in c.advance.new.self) c.in-Ok-Some.said read c.in-Ok-Some.ensures.moves
+          (start_of_map c.forms.maps) (start_of_map c.advance.new.self) c.in-Ok-Some.said read
+          c.in-Ok-Some.ensures.moves
           (λ ds h. subst (λ (ms : List MapText). AreMapTexts ms (ds ++ read.form ∷ [])) (sym pushed)
           (texts_push c.forms.texts.items ds _ read.form h (record { says = read.says; spelled = spelled })))
           c.forms.invariant.along;
@@ -44,7 +45,7 @@ returns-in-Ok-None-clause-maps c =
     (left_in c.advance.new.self)) c.in-Ok-None.field-0-is c.in-Ok-None.ensures.reads in (
       a.forms,
       along_spells (AreMapTexts c.forms.texts.items) c.args.piece.now (left_in c.forms.maps)
-          (start_in c.forms.maps) a n,
+          (start_of_map c.forms.maps) a n,
       a.holds,
     )
 
@@ -69,12 +70,12 @@ returns-in-Err-advance-clause-unreadable c =
     let a = c.forms.invariant.along in
     let e = c.in-Err-advance.ensures in
     unreadable_after (AreMapTexts c.forms.texts.items) c.args.piece.now (left_in c.forms.maps)
-    (start_in c.forms.maps) c.in-Err-advance.fault c.forms.invariant.short a e.short e.none
+    (start_of_map c.forms.maps) c.in-Err-advance.fault c.forms.invariant.short a e.short e.none
 
 pub returns-in-Err-advance-clause-memory : goal.returns-in-Err-advance-clause-memory
 returns-in-Err-advance-clause-memory c = λ m.
     let a = c.forms.invariant.along in (
       c.forms.invariant.short,
-      inl (sound_after c.args.piece.now (left_in c.forms.maps) a.forms (start_in c.forms.maps)
+      inl (sound_after c.args.piece.now (left_in c.forms.maps) a.forms (start_of_map c.forms.maps)
           c.in-Err-advance.fault.place c.forms.invariant.utf8 a.front a.place (c.in-Err-advance.ensures.memory m)),
     )

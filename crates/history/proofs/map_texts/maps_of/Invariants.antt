@@ -1,14 +1,14 @@
 use Rattle.std.proofs.Common.{length}
 use Rattle.std.specs.Str.{IsUtf8}
 use Rattle.edn_reader.specs.Sound.{IsShort}
-use Rattle.edn_reader.proofs.Following.{Along}
-use Rattle.history.specs.MapReading.{left_in, start_in}
+use Rattle.edn_reader.proofs.FormsInARow.{Along}
+use Rattle.history.specs.MapReading.{left_in, start_of_map}
 use Rattle.history.specs.MapTexts.{AreMapTexts}
 use Rattle.history.proofs.map_texts.maps_of.Given as goal
 
 abbrev pub invariant-forms : goal.invariant-forms
 invariant-forms l = record {
-  along : Along (AreMapTexts l.texts.items) l.piece (left_in l.maps) (start_in l.maps);
+  along : Along (AreMapTexts l.texts.items) l.piece (left_in l.maps) (start_of_map l.maps);
   short : IsShort l.piece;
   utf8 : IsUtf8 l.piece;
 }

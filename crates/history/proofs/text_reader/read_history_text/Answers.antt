@@ -2,10 +2,10 @@
 -- is the forms read so far and then what is left (`Along`), and what is left gets shorter.
 use Rattle.std.proofs.Common.{Option, subst}
 use Rattle.edn_reader.specs.Elements.{SpellsNothing}
-use Rattle.edn_reader.proofs.Following.{along_spells, sound_after, unreadable_after}
+use Rattle.edn_reader.proofs.FormsInARow.{along_spells, sound_after, unreadable_after}
 use Rattle.history.specs.declared.client_map.OperationMap.{OperationMap}
-use Rattle.history.specs.MapReading.{left_in, start_in, ReadsNext}
-use Rattle.history.specs.Texts.{IsReading}
+use Rattle.history.specs.MapReading.{left_in, start_of_map, ReadsNext}
+use Rattle.history.specs.Texts.{IsHistoryReading}
 use Rattle.history.specs.UsualForms.{ReadsForm}
 use Rattle.history.proofs.TextReading.{along_next}
 use Rattle.history.proofs.text_reader.read_history_text.Goals as goal
@@ -16,9 +16,10 @@ forms-preserved c =
     subst (λ (o : Option OperationMap). ReadsNext (left_in c.forms.maps) o
     (left_in c.advance.new.self)) c.in-Ok-Some.field-0-is c.in-Ok-Some.ensures.reads in
     record {
-      along = along_next (IsReading c.forms.reading) (IsReading c.take.new.self) c.args.text.now
+      along = along_next (IsHistoryReading c.forms.reading) (IsHistoryReading c.take.new.self) c.args.text.now
           (left_in c.forms.maps) (left_in c.advance.new.self)
-          (start_in c.forms.maps) (start_in c.advance.new.self) c.in-Ok-Some.said read c.in-Ok-Some.ensures.moves
+          (start_of_map c.forms.maps) (start_of_map c.advance.new.self) c.in-Ok-Some.said read
+          c.in-Ok-Some.ensures.moves
           (λ ds h. c.take.ensures ds read.form read.says h) c.forms.invariant.along;
       short = c.forms.invariant.short;
       utf8 = c.forms.invariant.utf8;
@@ -31,8 +32,8 @@ returns-in-Ok-finish-clause-denotes c =
     subst (λ (o : Option OperationMap). ReadsNext (left_in c.forms.maps) o
     (left_in c.advance.new.self)) c.in-Ok-None.field-0-is c.in-Ok-None.ensures.reads in (
       a.forms,
-      along_spells (IsReading c.forms.reading) c.args.text.now (left_in c.forms.maps)
-          (start_in c.forms.maps) a n,
+      along_spells (IsHistoryReading c.forms.reading) c.args.text.now (left_in c.forms.maps)
+          (start_of_map c.forms.maps) a n,
       c.in-Ok-finish.ensures a.forms a.holds,
     )
 
@@ -44,7 +45,8 @@ returns-in-Err-finish-clause-fault c =
     (left_in c.advance.new.self)) c.in-Ok-None.field-0-is c.in-Ok-None.ensures.reads in (
       c.forms.invariant.short,
       a.forms,
-      along_spells (IsReading c.forms.reading) c.args.text.now (left_in c.forms.maps) (start_in c.forms.maps) a n,
+      along_spells (IsHistoryReading c.forms.reading) c.args.text.now (left_in c.forms.maps) (start_of_map c.forms.maps)
+          a n,
       c.in-Err-finish.ensures a.forms a.holds,
     )
 
@@ -52,11 +54,11 @@ pub returns-in-Err-advance-clause-fault : goal.returns-in-Err-advance-clause-fau
 returns-in-Err-advance-clause-fault c =
     let a = c.forms.invariant.along in
     let e = c.in-Err-advance.ensures in (
-      unreadable_after (IsReading c.forms.reading) c.args.text.now (left_in c.forms.maps)
-          (start_in c.forms.maps) c.in-Err-advance.fault c.forms.invariant.short a e.short e.none,
+      unreadable_after (IsHistoryReading c.forms.reading) c.args.text.now (left_in c.forms.maps)
+          (start_of_map c.forms.maps) c.in-Err-advance.fault c.forms.invariant.short a e.short e.none,
       λ m. (
         c.forms.invariant.short,
-        sound_after c.args.text.now (left_in c.forms.maps) a.forms (start_in c.forms.maps)
+        sound_after c.args.text.now (left_in c.forms.maps) a.forms (start_of_map c.forms.maps)
             c.in-Err-advance.fault.place c.forms.invariant.utf8 a.front a.place (e.memory m),
       ),
     )

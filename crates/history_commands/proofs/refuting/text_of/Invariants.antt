@@ -1,6 +1,6 @@
 use Rattle.std.proofs.Common.{◌≡◌, ◌++◌, length}
 use Rattle.std.specs.List.{AllZip}
-use Rattle.refutation.specs.Refutations.{IsAnswer}
+use Rattle.refutation.specs.Refutations.{IsReasonAnswer}
 use Rattle.history_commands.specs.Refuted.{refutations_text}
 use Rattle.history_commands.proofs.refuting.text_of.Given as goal
 
@@ -8,7 +8,7 @@ abbrev pub invariant-reasons : goal.invariant-reasons
 invariant-reasons l = record {
   text : l.text.items ++ refutations_text l.fn.history l.fn.steps l.reasons_left l.answers_left
       ≡ refutations_text l.fn.history l.fn.steps l.reasons l.answers;
-  each : AllZip (IsAnswer l.fn.history) l.reasons_left l.answers_left;
+  each : AllZip (IsReasonAnswer l.fn.history) l.reasons_left l.answers_left;
 }
 
 abbrev pub decreases-reasons : goal.decreases-reasons

@@ -1,7 +1,7 @@
 use Rattle.std.proofs.Common.{ap, ◌∙◌, subst}
-use Rattle.events.specs.Events.{kind_at, denoted}
+use Rattle.events.specs.Events.{kind_of_object, denoted}
 use Rattle.judging.proofs.Naming.{orders}
-use Rattle.verifying.specs.Decisions.{AreDecisionsOn, certificates_in}
+use Rattle.verifying.specs.Decisions.{AreDecisionsOn, certificates_decided}
 use Rattle.shards.specs.Dividing.{object_named}
 use Rattle.history_commands.specs.Merged.{finding_on}
 use Rattle.history_commands.proofs.Merged.{answers_claims}
@@ -15,7 +15,7 @@ returns c =
     let name = object_named c.args.shard.count c.args.shard.number in
     answers_claims name es claims c.args.steps ds _
     (subst (λ n. AreDecisionsOn es claims n ds) c.from.ensures c.in_ok-decisions.ensures)
-    (λ valid. c.named_objects.ensures (kind_at es) (denoted es) c.events.ensures.history
-    (orders es (certificates_in ds) valid))
+    (λ valid. c.named_objects.ensures (kind_of_object es) (denoted es) c.events.ensures.history
+    (orders es (certificates_decided ds) valid))
     (c.finding_of.ensures ∙ ap finding_on c.deref.ensures.value) c.new.ensures.items
     c.in_ok-lines_of.ensures c.in_ok-of.ensures

@@ -1,6 +1,6 @@
 use Rattle.std.proofs.Common.{subst, sym}
 use Rattle.history_commands.specs.Searches.{IsHistoryUnread}
-use Rattle.history_commands.proofs.Stopping.{stops_search}
+use Rattle.history_commands.proofs.UnreadTexts.{stops_search}
 use Rattle.history_commands.proofs.texts.history_or_verdict.Goals as goal
 
 pub returns-in-Err-clause-unread : goal.returns-in-Err-clause-unread

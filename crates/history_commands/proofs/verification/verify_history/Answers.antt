@@ -2,7 +2,7 @@ use Rattle.std.proofs.Common.{inr, subst, sym}
 use Rattle.std.proofs.lemmas.Result.{IfOk-weaker}
 use Rattle.judging.specs.Texts.{IsHistoryRead}
 use Rattle.history_commands.specs.Searches.{IsHistoryUnread}
-use Rattle.history_commands.proofs.Stopping.{stops_search}
+use Rattle.history_commands.proofs.UnreadTexts.{stops_search}
 use Rattle.history_commands.proofs.Verified.{is_verification, on_text, unread}
 use Rattle.history_commands.proofs.verification.verify_history.Goals as goal
 

@@ -1,9 +1,9 @@
-use Rattle.judging.specs.Verdicts.{Holds}
+use Rattle.judging.specs.Verdicts.{IsJudgement}
 use Rattle.judging.proofs.decision.judge.Given.{Over}
 use Rattle.judging.proofs.decision.judge.Goals as goal
 use Rattle.judging.proofs.decision.judge.Goals.{After-judge_read}
 
-holds : (g : Over) (c : After-judge_read g) → Holds c.args.history.now c.args.certificates.now c.judge_read.result
+holds : (g : Over) (c : After-judge_read g) → IsJudgement c.args.history.now c.args.certificates.now c.judge_read.result
 holds g c = c.judge_read.ensures c.args.history.now c.history_of_text_by_workers-read.ensures
 
 pub returns-clause-linearizable : goal.returns-clause-linearizable

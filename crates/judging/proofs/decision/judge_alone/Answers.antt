@@ -2,7 +2,7 @@
 -- are read the check decides, by locality (`holds_checked`); else the stop does (`holds_stopped`).
 use Rattle.std.proofs.Common.{sym, subst}
 use Rattle.judging.specs.Texts.{DenoteOnly}
-use Rattle.judging.specs.Verdicts.{AreBothRead, Holds}
+use Rattle.judging.specs.Verdicts.{AreBothRead, IsJudgement}
 use Rattle.judging.proofs.Judging.{holds_checked, holds_stopped}
 use Rattle.judging.proofs.decision.judge_alone.Goals as goal
 use Rattle.judging.proofs.decision.judge_alone.Goals.{After-with_certificates}
@@ -34,5 +34,5 @@ returns-in-Err c =
     let k = c.args.certificates.now in
     let both = subst (AreBothRead (λ v. v.items) h k) c.in-Err.is
     (read (goal.at.returns-in-Err c).After-with_certificates) in
-    let holds = subst (Holds h k) (sym c.from.ensures) (holds_stopped h k c.in-Err.stop both.stop both.accepts) in
+    let holds = subst (IsJudgement h k) (sym c.from.ensures) (holds_stopped h k c.in-Err.stop both.stop both.accepts) in
     record { linearizable = holds.linearizable; holds = holds }

@@ -1,6 +1,6 @@
 use Rattle.std.proofs.Common.{sym, subst}
 use Rattle.judging.specs.Texts.{DenoteOnly}
-use Rattle.judging.specs.Verdicts.{AreBothRead, Holds}
+use Rattle.judging.specs.Verdicts.{AreBothRead, IsJudgement}
 use Rattle.judging.proofs.Judging.{holds_checked, holds_stopped}
 use Rattle.judging.proofs.decision.judge_read.Goals as goal
 
@@ -17,4 +17,4 @@ pub returns-in-Err : goal.returns-in-Err
 returns-in-Err g c = λ h read.
     let k = c.args.certificates.now in
     let both = subst (AreBothRead (λ v. v.items) h k) c.in-Err.is (c.with_certificates.ensures.read h read) in
-    subst (Holds h k) (sym c.from.ensures) (holds_stopped h k c.in-Err.stop both.stop both.accepts)
+    subst (IsJudgement h k) (sym c.from.ensures) (holds_stopped h k c.in-Err.stop both.stop both.accepts)

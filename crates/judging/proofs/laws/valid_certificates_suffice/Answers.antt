@@ -1,5 +1,5 @@
 use Rattle.std.proofs.Common.{sym, subst}
-use Rattle.events.specs.Events.{kind_at, denoted, IsProper}
+use Rattle.events.specs.Events.{kind_of_object, denoted, IsProper}
 use Rattle.events.proofs.WellFormed.{denoted_is_history}
 use Rattle.history.proofs.Proper.{proper_events}
 use Rattle.judging.proofs.Naming.{orders}
@@ -11,6 +11,6 @@ returns c text es cs d valid =
     record {
       client_events = es;
       history_text = d;
-      linearizable = c.named_objects.ensures (kind_at es) (denoted es) (denoted_is_history es proper)
+      linearizable = c.named_objects.ensures (kind_of_object es) (denoted es) (denoted_is_history es proper)
           (orders es cs valid);
     }

@@ -7,7 +7,7 @@ use Rattle.edn_reader.specs.Sound.{IsShort}
 use Rattle.history.specs.Pieces.{joined_by_feeds}
 use Rattle.history.proofs.PiecesJoined.{read_each}
 use Rattle.judging.specs.Texts.{DenotesHistory}
-use Rattle.judging.proofs.Stopping.{where_some}
+use Rattle.judging.proofs.ReadFaults.{where_some}
 use Rattle.judging.proofs.pieces.history_in_pieces.Goals as goal
 
 pub join_pieces-requires : goal.join_pieces-requires

@@ -2,7 +2,7 @@
 -- far and the rest are all that there was (`IsReading`), and a piece is never longer than the room up to the limit.
 use Rattle.std.proofs.Common.{length, drop, sym, subst, ◌∙◌, ◌<◌, arith}
 use Rattle.judging.specs.Reads.{read_limit}
-use Rattle.judging.proofs.Consuming.{begins, one_more_piece, came_to_end, came_to_limit}
+use Rattle.judging.proofs.ReadSoFar.{begins, one_more_piece, came_to_end, came_to_limit}
 use Rattle.judging.proofs.reading.read_text.Goals as goal
 
 pub loop-buffer-init : goal.loop-buffer-init

@@ -1,6 +1,6 @@
 use Rattle.std.proofs.Common.{◌-◌, length}
 use Rattle.judging.specs.Reads.{read_limit}
-use Rattle.judging.proofs.Consuming.{IsReading}
+use Rattle.judging.proofs.ReadSoFar.{IsReading}
 use Rattle.judging.proofs.reading.read_text.Given as goal
 
 abbrev pub invariant-loop-buffer : goal.invariant-loop-buffer

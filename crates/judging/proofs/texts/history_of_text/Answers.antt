@@ -1,6 +1,6 @@
 use Rattle.std.proofs.Common.{subst}
-use Rattle.history.specs.Texts.{IsTextFault}
-use Rattle.judging.proofs.Stopping.{stopped_maps, stops_for_memory}
+use Rattle.history.specs.Texts.{IsHistoryTextFault}
+use Rattle.judging.proofs.ReadFaults.{stopped_maps, stops_for_memory}
 use Rattle.judging.proofs.texts.history_of_text.Goals as goal
 
 pub returns-in-Ok-clause-only : goal.returns-in-Ok-clause-only
@@ -11,7 +11,7 @@ returns-in-Ok-clause-only c = λ fs h.
 pub returns-in-Err-Maps-clause-stop : goal.returns-in-Err-Maps-clause-stop
 returns-in-Err-Maps-clause-stop c =
     stopped_maps c.args.text.now c.in-Err-Maps.fault c.failure_of_fault-in-Err-Maps.result
-    (subst (IsTextFault c.args.text.now) c.in-Err-Maps.field-0-is c.in-Err-Maps.ensures.fault)
+    (subst (IsHistoryTextFault c.args.text.now) c.in-Err-Maps.field-0-is c.in-Err-Maps.ensures.fault)
     c.failure_of_fault-in-Err-Maps.ensures
 
 pub returns-in-Err-Maps-clause-accepts : goal.returns-in-Err-Maps-clause-accepts

@@ -7,7 +7,7 @@ use Rattle.model.specs.Objects.{with_value}
 use Rattle.pairing_heap.specs.Bag.{bag_of}
 use Rattle.pairing_heap.specs.Forest.{values_in_use}
 use Rattle.pairing_heap.proofs.Bags.{bag_of-used, bag_of-push}
-use Rattle.pairing_heap.proofs.Heaping.{IsApart-push, IsApart-reuse}
+use Rattle.pairing_heap.proofs.InsertAndExtract.{IsApart-push, IsApart-reuse}
 use Rattle.pairing_heap.proofs.node.put_node.Goals as goal
 
 pub returns-in-Some-clause-apart : goal.returns-in-Some-clause-apart

@@ -1,5 +1,5 @@
 use Rattle.std.proofs.Common.{◌≡◌, ◌<◌, length, get_or, IfOk, sym, subst, arith}
-use Rattle.parallel.specs.Gathered.{IsGathered, AreGathered}
+use Rattle.parallel.specs.Gathered.{IsGatheredPart, AreGathered}
 use Rattle.parallel.proofs.Joining.{all_split}
 use Rattle.parallel.proofs.gathering.split_by_workers.Goals as goal
 
@@ -23,6 +23,6 @@ returns g c =
     let len = c.in_ok-found.ensures.len in
     let long : length rs ≡ c.args.workers = omega (arith, ok, len) in
     let parts : AreGathered (λ v. v.items) es rs =
-    λ i d l. subst (λ n. IfOk (get_or rs i d) (λ v. IsGathered es i n v.items)) (sym long)
+    λ i d l. subst (λ n. IfOk (get_or rs i d) (λ v. IsGatheredPart es i n v.items)) (sym long)
     (c.in_ok-found.ensures.each i d (subst (λ n. i < n) long l)).1.met in
     c.objects_of_shares.ensures es parts

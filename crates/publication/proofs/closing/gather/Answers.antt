@@ -3,7 +3,7 @@
 use Rattle.std.proofs.Common.{rules, arith, ◌≡◌, [], map, length, get_or, vec_len, sym, ap, subst, ◌∙◌}
 use Rattle.std.specs.Slots.{slots_items}
 use Rattle.desk_model.specs.Images.{event_in}
-use Rattle.recorder.specs.Records.{recorded, items_of}
+use Rattle.recorder.specs.Records.{recorded, items_of_each}
 use Rattle.recorder.proofs.Making.{record_from}
 use Rattle.desk_invariant.specs.Views.{journal}
 use Rattle.publication.specs.Closing.{values_of, HasJournal, IsJournalOf, AreLogs}
@@ -82,13 +82,13 @@ returns g c = let d = c.desk.invariant.0 in let k = c.last.invariant.0 in let e 
     (ap (λ r. map (event_in g.S.SeqObject.op_in g.S.SeqObject.reply_in)
     (get_or r.journals c.args.last.knows.number [])) c.new.ensures
     ∙ (ap (λ m. map (event_in g.S.SeqObject.op_in g.S.SeqObject.reply_in)
-    (get_or (items_of c.take_all_journals.new.journals.items) m [])) (sym own)
+    (get_or (items_of_each c.take_all_journals.new.journals.items) m [])) (sym own)
     ∙ (ap (map (event_in g.S.SeqObject.op_in g.S.SeqObject.reply_in)) c.take_all_journals.ensures.own
     ∙ (ap (λ j. map (event_in g.S.SeqObject.op_in g.S.SeqObject.reply_in) j.events.items)
     c.into_journal-journal.ensures ∙ k.agrees.journal_is ∙ ap (λ k. journal k.knows) c.last.view_is))))
     (λ n l other. subst (λ js. IsJournalOf (values_of c.close_with-left.result) n (get_or js n []))
     (sym (ap (λ r. r.journals) c.new.ensures))
-    (subst (λ xs. IsJournalOf xs n (get_or (items_of c.take_all_journals.new.journals.items) n []))
+    (subst (λ xs. IsJournalOf xs n (get_or (items_of_each c.take_all_journals.new.journals.items) n []))
     (c.pass_over.ensures.1 ∙ c.take_logs.ensures.slots.1)
     (c.take_all_journals.ensures.others n (omega arith) (λ f. other (f ∙ own)))))
 
@@ -110,11 +110,11 @@ new-requires-clause-kept g c lfts within =
     (subst (λ m. AreLogs m (values_of c.close_with-left.result) r.logs) all c.take_logs.ensures.logs)
     (c.take_all_journals.ensures.count ∙ ap (λ s. s.clients) c.desk.view_is)
     (ap (λ m. map (event_in g.S.SeqObject.op_in g.S.SeqObject.reply_in)
-    (get_or (items_of c.take_all_journals.new.journals.items) m [])) (sym own)
+    (get_or (items_of_each c.take_all_journals.new.journals.items) m [])) (sym own)
     ∙ (ap (map (event_in g.S.SeqObject.op_in g.S.SeqObject.reply_in)) c.take_all_journals.ensures.own
     ∙ (ap (λ j. map (event_in g.S.SeqObject.op_in g.S.SeqObject.reply_in) j.events.items)
     c.into_journal-journal.ensures ∙ k.agrees.journal_is ∙ ap (λ k. journal k.knows) c.last.view_is)))
-    (λ n l other. subst (λ xs. IsJournalOf xs n (get_or (items_of c.take_all_journals.new.journals.items) n []))
+    (λ n l other. subst (λ xs. IsJournalOf xs n (get_or (items_of_each c.take_all_journals.new.journals.items) n []))
     (c.pass_over.ensures.1 ∙ c.take_logs.ensures.slots.1)
     (c.take_all_journals.ensures.others n (omega arith) (λ f. other (f ∙ own)))) in
     let quota : c.desk.inside.quota ≡ c.args.desk.id.quota = ap (λ s. s.id.quota) c.desk.view_is in

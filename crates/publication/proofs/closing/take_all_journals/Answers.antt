@@ -3,7 +3,7 @@
 use Rattle.std.proofs.Common.{arith, ◌<◌, sym, subst, ◌∙◌}
 use mathlib.Core.Logic.{dite}
 use native.Mathlib.Decide.{dec_le}
-use Rattle.recorder.specs.Records.{items_of}
+use Rattle.recorder.specs.Records.{items_of_each}
 use Rattle.publication.specs.Closing.{values_of, HasJournal, IsJournalOf}
 use Rattle.publication.proofs.Gathering.{grown, row_here, row_there}
 use Rattle.publication.proofs.closing.take_all_journals.Goals as goal
@@ -26,8 +26,8 @@ returns-clause-own g c =
     let e = grown c.take_journals.new.journals.items c.push_reserved.new.self.items c.args.own
     c.push_reserved.ensures.items in
     c.take_journals-2.ensures.journals.1 c.args.number (omega arith)
-    ∙ row_here (items_of c.take_journals.new.journals.items)
-    (items_of c.push_reserved.new.self.items) c.args.own.items c.args.number e c.take_journals.ensures.journals.0.0
+    ∙ row_here (items_of_each c.take_journals.new.journals.items)
+    (items_of_each c.push_reserved.new.self.items) c.args.own.items c.args.number e c.take_journals.ensures.journals.0.0
 
 pub returns-clause-others : goal.returns-clause-others
 returns-clause-others g c = let e =
@@ -36,10 +36,11 @@ returns-clause-others g c = let e =
     λ d l other. dite (dec_le d c.args.number)
     (λ below. let low : d < c.args.number = omega arith in
     subst (IsJournalOf (values_of c.args.left.now) d) (sym (c.take_journals-2.ensures.journals.1 d (omega arith)
-    ∙ row_there (items_of c.take_journals.new.journals.items)
-    (items_of c.push_reserved.new.self.items) c.args.own.items d e (omega arith)))
+    ∙ row_there (items_of_each c.take_journals.new.journals.items)
+    (items_of_each c.push_reserved.new.self.items) c.args.own.items d e (omega arith)))
     (c.take_journals.ensures.journals.0.1 d (omega arith) low))
     (λ above. subst (λ xs. IsJournalOf xs d
-    (Rattle.std.proofs.Common.get_or (items_of c.take_journals-2.new.journals.items) d Rattle.std.proofs.Common.[]))
+    (Rattle.std.proofs.Common.get_or (items_of_each c.take_journals-2.new.journals.items) d
+    Rattle.std.proofs.Common.[]))
     (c.pass_over.ensures.1 ∙ c.take_journals.ensures.slots.1)
     (c.take_journals-2.ensures.journals.0.1 d (omega arith) l))

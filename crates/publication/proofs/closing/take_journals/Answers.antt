@@ -1,7 +1,7 @@
 -- `take_journals`: each client of the range has its journal in its place, and the ones before are the same. The
 -- invariant says so of the clients up to the one at hand; each turn takes one slot and adds one row.
 use Rattle.std.proofs.Common.{rules, arith, ◌≡◌, sym, subst, ◌∙◌}
-use Rattle.recorder.specs.Records.{items_of}
+use Rattle.recorder.specs.Records.{items_of_each}
 use Rattle.publication.specs.Closing.{values_of, HasJournal, IsJournalOf, AreJournals}
 use Rattle.publication.proofs.Gathering.{grown, one_longer, rows_more, same_more}
 use Rattle.publication.proofs.closing.take_journals.Goals as goal
@@ -23,20 +23,21 @@ loop-client-preserved g c =
       omega arith,
       search rules,
       (
-        one_longer (items_of c.loop-client.journals.items)
-            (items_of c.push_reserved.new.self.items) c.take_journal.result.items c.loop-client.client e i.4.0,
+        one_longer (items_of_each c.loop-client.journals.items)
+            (items_of_each c.push_reserved.new.self.items) c.take_journal.result.items c.loop-client.client e i.4.0,
         rows_more (IsJournalOf (values_of c.args.left.now)) c.args.from c.loop-client.client
-            (items_of c.loop-client.journals.items)
-            (items_of c.push_reserved.new.self.items) c.take_journal.result.items e i.4.0 i.4.1 journal,
+            (items_of_each c.loop-client.journals.items)
+            (items_of_each c.push_reserved.new.self.items) c.take_journal.result.items e i.4.0 i.4.1 journal,
       ),
-      same_more c.args.from (items_of c.args.journals.now.items) (items_of c.loop-client.journals.items)
-          (items_of c.push_reserved.new.self.items) c.take_journal.result.items e (omega arith) i.5,
+      same_more c.args.from (items_of_each c.args.journals.now.items) (items_of_each c.loop-client.journals.items)
+          (items_of_each c.push_reserved.new.self.items) c.take_journal.result.items e (omega arith) i.5,
     )
 
 pub returns-clause-journals : goal.returns-clause-journals
 returns-clause-journals g c = let i = c.loop-client.invariant in let past = c.loop-client-test.false in let end =
     c.loop-client.auto.client-end c.requires.slots.1 in let same : c.loop-client.client ≡ c.args.to = omega arith in (
-      subst (λ n. AreJournals c.args.from n (values_of c.args.left.now) (items_of c.loop-client.journals.items)) same
+      subst (λ n. AreJournals c.args.from n (values_of c.args.left.now) (items_of_each c.loop-client.journals.items))
+          same
           i.4,
       i.5,
     )

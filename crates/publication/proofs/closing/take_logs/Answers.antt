@@ -1,7 +1,7 @@
 -- `take_logs`: the logs are those of the objects, one by one. The loop keeps that the logs so far are those of the
 -- objects below `x`, that the slots below it were taken out, and that the values are as they were.
 use Rattle.std.proofs.Common.{rules, arith, ◌≡◌, sym, subst, ◌∙◌}
-use Rattle.recorder.specs.Records.{items_of}
+use Rattle.recorder.specs.Records.{items_of_each}
 use Rattle.publication.specs.Closing.{values_of, HasCore, IsLogOf, AreLogs}
 use Rattle.publication.proofs.Gathering.{grown, one_longer, rows_more}
 use Rattle.publication.proofs.closing.take_logs.Goals as goal
@@ -21,10 +21,10 @@ loop-x-preserved g c =
       omega arith,
       search rules,
       (
-        one_longer (items_of c.loop-x.logs.items)
-            (items_of c.push_reserved.new.self.items) c.take_log.result.items c.loop-x.x e i.4.0,
-        λ k h. rows_more (IsLogOf (values_of c.args.left.now)) 0 c.loop-x.x (items_of c.loop-x.logs.items)
-            (items_of c.push_reserved.new.self.items)
+        one_longer (items_of_each c.loop-x.logs.items)
+            (items_of_each c.push_reserved.new.self.items) c.take_log.result.items c.loop-x.x e i.4.0,
+        λ k h. rows_more (IsLogOf (values_of c.args.left.now)) 0 c.loop-x.x (items_of_each c.loop-x.logs.items)
+            (items_of_each c.push_reserved.new.self.items)
             c.take_log.result.items e i.4.0 (λ k l h. i.4.1 k h) log k (omega arith) h,
       ),
     )
@@ -33,4 +33,4 @@ pub returns-clause-logs : goal.returns-clause-logs
 returns-clause-logs g c =
     let i = c.loop-x.invariant in let past = c.loop-x-test.false in let end = c.loop-x.auto.x-end in
     let same : c.loop-x.x ≡ c.args.objects = omega arith in
-    subst (λ n. AreLogs n (values_of c.args.left.now) (items_of c.loop-x.logs.items)) same i.4
+    subst (λ n. AreLogs n (values_of c.args.left.now) (items_of_each c.loop-x.logs.items)) same i.4

@@ -1,7 +1,7 @@
 -- `list`: the seat knows whether the row was put in front or the try missed. Each of the three accesses is allowed
 -- by what the seat knows then (`see_allowed`, `link_allowed`, `enlist_allowed`).
 use Rattle.std.proofs.Common.{arith, ◌∙◌, sym, subst, true}
-use Rattle.publication_list.specs.Inside.{IsPlace, tries_of}
+use Rattle.publication_list.specs.Inside.{IsRowPlace, tries_of}
 use Rattle.publication_list.proofs.PlaceSteps.{see_allowed, link_allowed, link_leaves_linked, enlist_allowed}
 use Rattle.publication_list.proofs.PlaceSteps.{enlist_leaves_missed}
 use Rattle.publication_list.proofs.place.list.Goals as goal
@@ -16,7 +16,7 @@ store-requires c =
       c.load-first.ensures.0 ∙ t.0,
       omega arith,
       link_allowed _ _ _ _ (tries_of c.args.seat.now.me.0) _
-          (subst (IsPlace c.args.row true (tries_of c.args.seat.now.me.0))
+          (subst (IsRowPlace c.args.row true (tries_of c.args.seat.now.me.0))
           (sym c.load-first.ensures.2) c.requires.seat),
     )
 
@@ -26,7 +26,7 @@ compare_exchange-requires c = let t = c.requires.table in (
   omega arith,
   enlist_allowed _ _ _ _ (tries_of c.args.seat.now.me.0) _
       (link_leaves_linked _ _ (tries_of c.args.seat.now.me.0) _ _
-      (subst (IsPlace c.args.row true (tries_of c.args.seat.now.me.0)) (sym c.load-first.ensures.2) c.requires.seat)
+      (subst (IsRowPlace c.args.row true (tries_of c.args.seat.now.me.0)) (sym c.load-first.ensures.2) c.requires.seat)
       c.store.ensures.2),
 )
 
@@ -34,5 +34,5 @@ pub returns-then-compare_exchange-first-clause-seat : goal.returns-then-compare_
 returns-then-compare_exchange-first-clause-seat c =
     enlist_leaves_missed _ _ _ (tries_of c.args.seat.now.me.0) _ _ c.requires.seat.0
     (link_leaves_linked _ _ (tries_of c.args.seat.now.me.0) _ _
-    (subst (IsPlace c.args.row true (tries_of c.args.seat.now.me.0)) (sym c.load-first.ensures.2) c.requires.seat)
+    (subst (IsRowPlace c.args.row true (tries_of c.args.seat.now.me.0)) (sym c.load-first.ensures.2) c.requires.seat)
     c.store.ensures.2) c.compare_exchange.ensures.2 c.if-compare_exchange-first.true

@@ -4,7 +4,7 @@ use Rattle.std.proofs.Common.{arith, ◌≡◌, ◌≤◌, ℕ, [], length, None
 use Rattle.publication_list.specs.declared.board.ListView.TheVariants as view
 use Rattle.publication_list.specs.declared.board.RowKnowledge.TheVariants as own
 use Rattle.publication_list.specs.Plays.{Hands, after_making, new_place}
-use Rattle.publication_list.specs.Calls.{ArePlaces}
+use Rattle.publication_list.specs.Calls.{AreRowPlaces}
 use Rattle.publication_list.specs.Inside.{tries_of}
 use Rattle.publication_list.proofs.RosterMaking.{split_allowed, ArePlaces-more}
 use Rattle.publication_list.proofs.roster.make_all.Goals as goal
@@ -76,5 +76,5 @@ returns-clause-seat c =
 
 pub returns-clause-made : goal.returns-clause-made
 returns-clause-made c =
-    subst (λ (z : ℕ). ArePlaces c.args.seat.now.table_id z c.loop-row.made.items)
+    subst (λ (z : ℕ). AreRowPlaces c.args.seat.now.table_id z c.loop-row.made.items)
     (ended c.loop-row.row c.args.rows c.loop-row-test.false c.loop-row.auto.row-end) c.loop-row.invariant.made

@@ -3,7 +3,7 @@
 use Rattle.std.proofs.Common.{arith, ℕ, ◌+◌, ◌-◌, ◌<◌, ◌∷◌, ◌++◌, [], length, length-append, slice_index, sym, ap}
 use Rattle.std.proofs.Common.{◌∙◌, subst}
 use Rattle.publication_list.specs.PublicationList.{WalkMeets}
-use Rattle.publication_list.specs.Inside.{Meeting, HasMet, left_of, made_of, walks_of}
+use Rattle.publication_list.specs.Inside.{Meeting, HasMetRows, list_left, made_of, walks_of}
 use Rattle.publication_list.proofs.WalkerSteps.{meet_allowed, walk_begins, walk_goes_on, follow_allowed}
 use Rattle.publication_list.proofs.WalkerSteps.{walk_meets_one_more, walk_gets_shorter, walk_met_all}
 use Rattle.publication_list.proofs.walker.meet.Goals as goal
@@ -16,7 +16,7 @@ loop-at-init c = record {
   table = c.load-at.ensures.0;
   room = c.clear.ensures.capacity;
   long = c.clear.ensures.len ∙ ap length (sym c.clear.ensures.items);
-  meeting = subst (λ z. Meeting (left_of c.args.seat.now.me.0) (walks_of c.args.seat.now.me.0)
+  meeting = subst (λ z. Meeting (list_left c.args.seat.now.me.0) (walks_of c.args.seat.now.me.0)
       (made_of c.args.seat.now.me.0) z c.load-at.result
       c.load-at.new.seat.me) (sym c.clear.ensures.items) (walk_begins _ _ _ _ _ c.requires.seat c.load-at.ensures.2);
 }
@@ -78,7 +78,7 @@ loop-at-preserved c =
 pub returns-clause-seat : goal.returns-clause-seat
 returns-clause-seat c =
     let k = c.loop-at.invariant.meeting in
-    subst (λ z. HasMet z (walks_of c.args.seat.now.me.0 ++ z ∷ []) c.loop-at.seat.me)
+    subst (λ z. HasMetRows z (walks_of c.args.seat.now.me.0 ++ z ∷ []) c.loop-at.seat.me)
     (sym (walk_met_all _ _ _ _ _ _ k c.loop-at-test.false)) k.met
 
 pub returns-clause-made : goal.returns-clause-made
@@ -87,7 +87,7 @@ returns-clause-made c = c.loop-at.invariant.meeting.made
 pub returns-clause-met : goal.returns-clause-met
 returns-clause-met c =
     let k = c.loop-at.invariant.meeting in
-    subst (WalkMeets (left_of c.args.seat.now.me.0)) (sym (walk_met_all _ _ _ _ _ _ k c.loop-at-test.false)) k.walk
+    subst (WalkMeets (list_left c.args.seat.now.me.0)) (sym (walk_met_all _ _ _ _ _ _ k c.loop-at-test.false)) k.walk
 
 pub returns-clause-low : goal.returns-clause-low
 returns-clause-low c =

@@ -3,10 +3,10 @@
 use Rattle.std.proofs.Common.{List}
 use Rattle.model.specs.Linearizable.{IsLinearizable}
 use Rattle.model.specs.Orders.{events}
-use Rattle.events.specs.Events.{kind_at, denoted}
+use Rattle.events.specs.Events.{kind_of_object, denoted}
 use Rattle.events.specs.Operations.{ObjectCalls}
-use Rattle.refutation.specs.declared.refuting.Refutation.{Refutation}
-use Rattle.refutation.specs.Refutations.{IsAnswer}
+use Rattle.refutation.specs.declared.refuting.ReasonAnswer.{ReasonAnswer}
+use Rattle.refutation.specs.Refutations.{IsReasonAnswer}
 use Rattle.refutation.proofs.Objects.{none_among, one_more, refutes, answer_is, refuted_among, zip_more}
 use Rattle.refutation.proofs.all.refute_all.Goals as goal
 
@@ -23,16 +23,18 @@ loop-reason-preserved c =
     let es = c.args.history.now in
     let objects : List ObjectCalls = c.in_ok-objects.objects.items in
     let reason = c.reason-item.result in
-    let r : Refutation = c.in_ok-answer.answer in
+    let r : ReasonAnswer = c.in_ok-answer.answer in
     let on = rw c.deref.ensures.value at c.in_ok-answer.ensures.on in
     let other = rw c.deref.ensures.value at c.in_ok-answer.ensures.other_object in
     let answer = answer_is es objects reason r c.in_ok-objects.ensures.kinds c.in_ok-objects.ensures.calls
     c.in_ok-objects.ensures.named on other in
     record {
       each = rw c.in_ok-push.ensures.items
-          (zip_more (IsAnswer es) c.args.reasons.now c.loop-reason.answers.items c.loop-reason.reason-index reason r
+          (zip_more (IsReasonAnswer es) c.args.reasons.now c.loop-reason.answers.items c.loop-reason.reason-index
+          reason r
           c.loop-reason-test.true c.reason-item.is c.loop-reason.invariant.each answer);
-      refutations = one_more (IsLinearizable (kind_at es) (events (denoted es)) → ⊥) _ _ _ c.in_ok-push.ensures.items
+      refutations = one_more (IsLinearizable (kind_of_object es) (events (denoted es)) → ⊥) _ _ _
+          c.in_ok-push.ensures.items
           (λ p. none_among es objects c.in_ok-objects.ensures.kinds c.in_ok-objects.ensures.calls
           c.linearizable_has_orders.ensures
           c.events.ensures.history (refuted_among objects reason r on p)) c.loop-reason.invariant.refutations;

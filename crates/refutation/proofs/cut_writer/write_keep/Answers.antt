@@ -3,7 +3,7 @@
 use Rattle.std.proofs.Common.{rules}
 use Rattle.std.specs.Prelude.{codes}
 use Rattle.edn.proofs.Fronts.{front_of_first, three_2, fails, sends_third}
-use Rattle.refutation.specs.Lines.{values_text, numbers_text}
+use Rattle.refutation.specs.Lines.{values_text, given_numbers_text}
 use Rattle.refutation.specs.Written.{AreNumberKeys, AreTypedValues}
 use Rattle.refutation.proofs.Sending.{on_ok_with}
 use Rattle.refutation.proofs.cut_writer.write_keep.Goals as goal
@@ -22,7 +22,7 @@ returns-in_err-write_values-clause-sent g c =
 pub returns-clause-sent : goal.returns-clause-sent
 returns-clause-sent g c =
     sends_third _ _ _ _ _ _ (codes "{:keep ") (values_text c.args.values.now)
-    (numbers_text c.args.numbers.now.keys) c.in_ok-write_bytes.ensures.sent.0.0
+    (given_numbers_text c.args.numbers.now.keys) c.in_ok-write_bytes.ensures.sent.0.0
     c.in_ok-write_values.ensures.sent.0.0 c.write_numbers.ensures.sent
 
 pub returns-clause-typed : goal.returns-clause-typed

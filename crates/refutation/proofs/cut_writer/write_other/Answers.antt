@@ -7,7 +7,7 @@ use Rattle.std.specs.Io.KnownBytes.{Appends}
 use Rattle.edn.specs.Sent.{WritesPrefix}
 use Rattle.edn_reader.specs.Text.{IsInt64}
 use Rattle.edn.proofs.Fronts.{front_of_first, fails, sends_after}
-use Rattle.refutation.specs.Lines.{numbers_text}
+use Rattle.refutation.specs.Lines.{given_numbers_text}
 use Rattle.refutation.specs.Written.{AreNumberKeys}
 use Rattle.refutation.proofs.Sending.{on_ok_with}
 use Rattle.refutation.proofs.cut_writer.write_other.Goals as goal
@@ -27,7 +27,7 @@ returns-clause-sent g c =
     let p0 : Appends (g.S.Sink.sent c.args.sink.now) (g.S.Sink.sent c.write_integer_after.new.sink)
     (codes ", :other " ++ signed_decimal c.args.other) = search rules in
     sends_after _ _ _ _ _ (codes ", :other " ++ signed_decimal c.args.other)
-    (numbers_text c.args.numbers.now.keys) p0 c.write_numbers.ensures.sent
+    (given_numbers_text c.args.numbers.now.keys) p0 c.write_numbers.ensures.sent
 
 pub returns-clause-typed : goal.returns-clause-typed
 returns-clause-typed g c =

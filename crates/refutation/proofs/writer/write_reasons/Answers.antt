@@ -2,7 +2,7 @@
 -- keeps that what was sent and the lines left are all lines, and that each reason so far is typed.
 use Rattle.std.proofs.Common.{rules, arith}
 use Rattle.edn.proofs.Fronts.{within, further, fails}
-use Rattle.refutation.specs.Lines.{lines_of}
+use Rattle.refutation.specs.Lines.{reason_lines}
 use Rattle.refutation.specs.Written.{IsTypedReason}
 use Rattle.std.proofs.lemmas.List.{take_all}
 use Rattle.refutation.proofs.Sending.{all_taken_item, lines_left}
@@ -25,7 +25,7 @@ loop-reason-preserved g c =
     let rs = c.args.reasons.now in
     let left = lines_left rs l.reason-index c.reason-item.result c.loop-reason-test.true
     c.reason-item.is in
-    let f = further _ _ _ (lines_of rs) l.invariant.done _ _ _ l.invariant.parts left
+    let f = further _ _ _ (reason_lines rs) l.invariant.done _ _ _ l.invariant.parts left
     l.invariant.sent h.0 in
     record {
       usable = h.1;

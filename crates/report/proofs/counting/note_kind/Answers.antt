@@ -1,7 +1,7 @@
 use Rattle.std.proofs.Common.{◌∙◌, ◌++◌, ◌∷◌, [], cond, map, ap, sym}
 use Rattle.std.specs.Map.{keys_of, values_of}
 use Rattle.indexmap.specs.IndexMap.{keys}
-use Rattle.report.specs.Invoked.{count_in}
+use Rattle.report.specs.Invoked.{kind_count}
 use Rattle.report.proofs.KindsCounted.{key_last, counts_on}
 use Rattle.report.proofs.counting.note_kind.Goals as goal
 
@@ -10,13 +10,13 @@ returns-clause-kinds c =
     let before = c.args.counts.now in
     let none = sym c.is_among.ensures ∙ c.if-is_among.false in
     ap keys_of c.in_ok-insert.ensures.entries ∙ key_last
-    (count_in c.args.all.now) before.entries c.args.kind c.in_ok-count_kind.field-0 none
+    (kind_count c.args.all.now) before.entries c.args.kind c.in_ok-count_kind.field-0 none
     ∙ sym (ap (λ b. cond b (keys before) (keys before ++ c.args.kind ∷ [])) none)
 
 pub returns-clause-counted : goal.returns-clause-counted
 returns-clause-counted c = λ counted.
     let before = c.args.counts.now in
-    let count = count_in c.args.all.now in
+    let count = kind_count c.args.all.now in
     let none = sym c.is_among.ensures ∙ c.if-is_among.false in
     let entries = c.in_ok-insert.ensures.entries in
     ap values_of entries

@@ -2,7 +2,7 @@
 -- certificates are valid. Each turn adds the answer on the next object of the split.
 use Rattle.checker.proofs.Certificates.{are_objects}
 use Rattle.checker.proofs.Collected.{no_answers, one_more_answer, on_all, distinct, valid}
-use Rattle.search.specs.Answers.{certificate_in}
+use Rattle.search.specs.Answers.{certificate_found}
 use Rattle.search.proofs.Certificates.{IsWithin, certifies, not_linearizable}
 use Rattle.search.proofs.all.search_all_by.Goals as goal
 
@@ -28,6 +28,6 @@ returns c =
       answers = all.each;
       impossible = not_linearizable _ (IsWithin c.args.limit) _
           (λ x kind calls s h. h.sound.impossible) c.linearizable_has_orders.ensures c.events.ensures.history all;
-      distinct = distinct (λ s. certificate_in s.found) _ (IsWithin c.args.limit) _ own all;
-      valid = valid (λ s. certificate_in s.found) _ (IsWithin c.args.limit) _ own all;
+      distinct = distinct (λ s. certificate_found s.found) _ (IsWithin c.args.limit) _ own all;
+      valid = valid (λ s. certificate_found s.found) _ (IsWithin c.args.limit) _ own all;
     }

@@ -5,11 +5,11 @@ use Rattle.std.proofs.lemmas.Result.{IfOk-weaker}
 use Rattle.model.specs.Objects.{empty}
 use Rattle.model.specs.Orders.{IsValidOrder}
 use Rattle.events.specs.Operations.{calls_of}
-use Rattle.search.specs.declared.finding.Outcome.TheVariants.{Impossible}
+use Rattle.search.specs.declared.finding.OrderOutcome.TheVariants.{Impossible}
 use Rattle.search.specs.Arranged.{call_at}
-use Rattle.search.specs.Outcomes.{IfFound, IsNoneValid}
+use Rattle.search.specs.Outcomes.{IfFound, HasNoValidOrder}
 use Rattle.search.specs.Continuations.{IsDead}
-use Rattle.search.specs.Searching.{IsOrderOf}
+use Rattle.search.specs.Searching.{IsOrderOfTrials}
 use Rattle.search.proofs.Calls.{count-owed}
 use Rattle.search.proofs.Orders.{listed_calls, found_valid, none_valid, IfFound-weaker}
 use Rattle.search.proofs.finding.search_operations.Goals as goal
@@ -24,11 +24,11 @@ returns-clause-found c =
     let h = c.args.history.now in
     let t = c.in_ok-trials.trials in
     let listed = listed_calls h.ops t.items.items c.ops.ensures.kept.rising c.in_ok-trials.ensures.items in
-    let valid = λ (order : List ℤ) (p : IsOrderOf t order).
+    let valid = λ (order : List ℤ) (p : IsOrderOfTrials t order).
     rw c.in_ok-trials.ensures.kind at (found_valid t (calls_of h.ops) order listed p) in
-    IfOk-weaker c.search_from_start.result (λ o. IfFound o (IsOrderOf t))
+    IfOk-weaker c.search_from_start.result (λ o. IfFound o (IsOrderOfTrials t))
     (λ o. IfFound o (IsValidOrder h.kind (calls_of h.ops)))
-    (λ o p. IfFound-weaker o (IsOrderOf t) (IsValidOrder h.kind (calls_of h.ops)) valid p)
+    (λ o p. IfFound-weaker o (IsOrderOfTrials t) (IsValidOrder h.kind (calls_of h.ops)) valid p)
     c.search_from_start.ensures.found
 
 pub returns-clause-impossible : goal.returns-clause-impossible
@@ -38,7 +38,7 @@ returns-clause-impossible c =
     let listed = listed_calls h.ops t.items.items c.ops.ensures.kept.rising c.in_ok-trials.ensures.items in
     IfOk-weaker c.search_from_start.result
     (λ o. o ≡ Impossible → IsDead (length t.items.items) (call_at t.items.items) [] (empty t.kind))
-    (λ o. o ≡ Impossible → IsNoneValid h.kind (calls_of h.ops))
+    (λ o. o ≡ Impossible → HasNoValidOrder h.kind (calls_of h.ops))
     (λ o dead e. rw c.in_ok-trials.ensures.kind at (
     none_valid t.kind (calls_of h.ops) (length t.items.items) (call_at t.items.items) listed (dead e)
     ))

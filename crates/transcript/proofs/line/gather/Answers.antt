@@ -2,7 +2,7 @@
 -- that are left, are all; each turn adds the lines of one client.
 use Rattle.std.proofs.Common.{◌++◌, map, ap, ◌∙◌}
 use Rattle.desk_model.specs.Images.{event_in}
-use Rattle.transcript.specs.Lines.{lines_of}
+use Rattle.transcript.specs.Lines.{journal_lines}
 use Rattle.transcript.proofs.Journals.{journal_more}
 use Rattle.transcript.proofs.Tickets.{all_lines, low_in}
 use Rattle.transcript.proofs.line.gather.Goals as goal
@@ -22,7 +22,7 @@ loop-client-preserved g c =
     c.loop-client.invariant
     (c.in_ok-push_journal.ensures
     ∙ ap (λ js. c.loop-client.lines.items
-    ++ lines_of c.loop-client.client (map (event_in g.S.SeqObject.op_in g.S.SeqObject.reply_in) js))
+    ++ journal_lines c.loop-client.client (map (event_in g.S.SeqObject.op_in g.S.SeqObject.reply_in) js))
     c.as_slice.ensures.value)
 
 pub returns-clause-lines : goal.returns-clause-lines

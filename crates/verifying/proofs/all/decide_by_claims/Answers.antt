@@ -6,8 +6,8 @@ use Rattle.events.specs.Operations.{ObjectCalls}
 use Rattle.checker.proofs.Certificates.{are_objects}
 use Rattle.checker.proofs.Collected.{distinct, valid}
 use Rattle.verifying.specs.declared.claim.Claim.{Claim}
-use Rattle.verifying.specs.Decisions.{certificate_in}
-use Rattle.verifying.specs.Taking.{AreAllOpen, AreDecided, AreTaken}
+use Rattle.verifying.specs.Decisions.{certificate_decided}
+use Rattle.verifying.specs.Taking.{AreAllOpen, AreDecided, AreDecisionsTaken}
 use Rattle.verifying.proofs.Decided.{IsDecided, certifies, lacks_order, not_linearizable}
 use Rattle.verifying.proofs.Taken.{decided_on_all, none_claimed, one_more, same_length}
 use Rattle.verifying.proofs.all.decide_by_claims.Goals as goal
@@ -35,7 +35,7 @@ loop-claim-preserved c =
     let claim = c.in-Some.claim in
     let rest = c.next.new.self.rest.items in
     let taken = subst
-    (λ (os : List ObjectCalls). AreTaken os c.args.limit claim c.loop-claim.answers.items
+    (λ (os : List ObjectCalls). AreDecisionsTaken os c.args.limit claim c.loop-claim.answers.items
     c.take_claim.new.answers.items)
     c.deref-in-loop-claim.ensures.value c.in_ok-take_claim.ensures in
     record {
@@ -69,7 +69,7 @@ returns c =
       decisions = on_all.each;
       impossible =
           not_linearizable es claims limit answers c.linearizable_has_orders.ensures c.events.ensures.history on_all;
-      distinct = distinct certificate_in es (IsDecided claims limit) answers (certifies claims limit) on_all;
-      valid = valid certificate_in es (IsDecided claims limit) answers (certifies claims limit) on_all;
+      distinct = distinct certificate_decided es (IsDecided claims limit) answers (certifies claims limit) on_all;
+      valid = valid certificate_decided es (IsDecided claims limit) answers (certifies claims limit) on_all;
       lacking = lacks_order es claims limit answers on_all;
     }

@@ -8,7 +8,7 @@ use Rattle.std.specs.List.Sorted.{IsPartitionPoint}
 use Rattle.std.specs.Ordering.{nat_cmp}
 use Rattle.std.specs.declared.cmp.Ordering.TheVariants.{Less, Greater}
 use Rattle.verifying.specs.declared.decision.Decision.{Decision}
-use Rattle.verifying.specs.Taking.{IsNext, no_answer}
+use Rattle.verifying.specs.Taking.{IsNextDecision, no_answer}
 use Rattle.verifying.proofs.Taken.{is_own, not_there, search_rises, taken}
 use Rattle.verifying.proofs.all.take_claim.Goals as goal
 

@@ -11,9 +11,9 @@ use Rattle.edn_reader.specs.Token.{leaf, tokens_of}
 use Rattle.edn_reader.specs.View.{view, views, pair_views}
 use Rattle.edn_reader.specs.declared.piece.Piece.{Piece}
 use Rattle.edn_reader.proofs.Consumed.{list_tokens, pairs_tokens}
-use Rattle.edn_reader.proofs.Formed.{some_form, vector_begins, map_begins, alone, key_own, value_begins}
-use Rattle.edn_reader.proofs.Formed.{pairs_after, pairs_more, pairs_with}
-use Rattle.edn_reader.proofs.Formed.{map_whole, item_begins, items_after, items_more, views_with, vector_whole}
+use Rattle.edn_reader.proofs.FormsOfTokens.{some_form, vector_begins, map_begins, alone, key_own, value_begins}
+use Rattle.edn_reader.proofs.FormsOfTokens.{pairs_after, pairs_more, pairs_with}
+use Rattle.edn_reader.proofs.FormsOfTokens.{map_whole, item_begins, items_after, items_more, views_with, vector_whole}
 use Rattle.edn_reader.proofs.Pairs.{map_view, vector_view}
 use Rattle.edn_reader.proofs.forming.Tokens.+forms.Goals as goal
 

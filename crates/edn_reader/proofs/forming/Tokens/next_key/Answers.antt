@@ -1,5 +1,5 @@
 use Rattle.edn_reader.specs.Formings.{left_on}
-use Rattle.edn_reader.proofs.Formed.{some_pairs, map_end}
+use Rattle.edn_reader.proofs.FormsOfTokens.{some_pairs, map_end}
 use Rattle.edn_reader.proofs.forming.Tokens.next_key.Goals as goal
 
 pub next-requires : goal.next-requires

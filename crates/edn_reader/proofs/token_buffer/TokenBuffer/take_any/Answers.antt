@@ -1,5 +1,5 @@
 use Rattle.edn_reader.specs.TokenBuffers.{open_on}
-use Rattle.edn_reader.proofs.Turns.{no_string_key}
+use Rattle.edn_reader.proofs.BufferTurns.{no_string_key}
 use Rattle.edn_reader.proofs.token_buffer.TokenBuffer.take_any.Goals as goal
 
 pub returns-then-here-eq34-clause-taken : goal.returns-then-here-eq34-clause-taken

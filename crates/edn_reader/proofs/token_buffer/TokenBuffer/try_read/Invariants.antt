@@ -1,7 +1,7 @@
 use Rattle.std.proofs.Common.{length, ◌<◌}
 use Rattle.edn_reader.specs.Kepts.{keeping_of}
 use Rattle.edn_reader.specs.TokenBuffers.{held_on, open_on}
-use Rattle.edn_reader.proofs.Turns.{Midway}
+use Rattle.edn_reader.proofs.BufferTurns.{Midway}
 use Rattle.edn_reader.proofs.token_buffer.TokenBuffer.try_read.Given as goal
 
 abbrev pub invariant-tokens : goal.invariant-tokens

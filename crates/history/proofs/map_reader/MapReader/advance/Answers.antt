@@ -1,10 +1,10 @@
 -- `advance`: what is given is what the next form says, or there is none. Of a usual map `usual_map` says that. Of
 -- any other form the pieces that are kept say as much as the whole form does (`says_as_much`).
 use Rattle.std.proofs.Common.{◌≡◌, ℕ, List, ap, sym, subst, ◌∙◌}
-use Rattle.edn_reader.specs.Left.{left_of, keeping_in, tokens_in, integer_vector_in}
+use Rattle.edn_reader.specs.Left.{text_left, keeping_in, tokens_in, integer_vector_in}
 use Rattle.edn_reader.specs.Token.{tokens_of}
 use Rattle.edn_reader.specs.Truncation.{Keeping, kept_of, truncated}
-use Rattle.edn_reader.proofs.Following.{reads_some, reads_none}
+use Rattle.edn_reader.proofs.FormsInARow.{reads_some, reads_none}
 use Rattle.history.specs.declared.client_map.OperationMap.TheVariants.{OfClient}
 use Rattle.history.specs.MapReading.{left_in}
 use Rattle.history.specs.UsualForms.{ReadsForm}
@@ -25,7 +25,7 @@ returns-in-Ok-true-clause-reads c =
     let new = c.advance.new.self in
     let e = reads_some (keeping_in old) c.in-Ok-true.field-0 (left_in c.args.self.now) (tokens_in new)
     (integer_vector_in new)
-    (left_of new) c.in-Ok-true.field-0-test c.in-Ok-true.ensures.reads in
+    (text_left new) c.in-Ok-true.field-0-test c.in-Ok-true.ensures.reads in
     record {
       form = e.element;
       front = e.front;
@@ -40,4 +40,4 @@ returns-in-Ok-false-clause-reads c =
     let old = c.args.self.now.elements in
     let new = c.advance.new.self in
     reads_none (keeping_in old) c.in-Ok-false.field-0 (left_in c.args.self.now) (tokens_in new) (integer_vector_in new)
-    (left_of new) c.in-Ok-false.field-0-test c.in-Ok-false.ensures.reads
+    (text_left new) c.in-Ok-false.field-0-test c.in-Ok-false.ensures.reads

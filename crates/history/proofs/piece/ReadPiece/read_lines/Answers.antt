@@ -3,9 +3,9 @@
 use Rattle.std.proofs.Common.{Option, [], ◌∷◌, ◌++◌, sym, subst, append_assoc}
 use Rattle.std.proofs.lemmas.List.{append-nil}
 use Rattle.edn_reader.specs.Elements.{SpellsNothing}
-use Rattle.edn_reader.proofs.Following.{along_moved, along_spells}
+use Rattle.edn_reader.proofs.FormsInARow.{along_moved, along_spells}
 use Rattle.history.specs.declared.client_map.OperationMap.{OperationMap}
-use Rattle.history.specs.MapReading.{left_in, start_in, ReadsNext}
+use Rattle.history.specs.MapReading.{left_in, start_of_map, ReadsNext}
 use Rattle.history.specs.ReadPieces.{IsOfForms}
 use Rattle.history.specs.UsualForms.{ReadsForm}
 use Rattle.history.proofs.PieceMore.{along_start}
@@ -16,7 +16,7 @@ pub forms-init : goal.forms-init
 forms-init c = λ ds h.
     let text = c.in-Ok.ensures.text in
     along_moved (λ es. IsOfForms c.args.self.now (ds ++ es)) c.args.lines.now c.args.lines.now
-    (left_in c.in-Ok.maps) 0 (start_in c.in-Ok.maps) text.0 text.1
+    (left_in c.in-Ok.maps) 0 (start_of_map c.in-Ok.maps) text.0 text.1
     (along_start (λ es. IsOfForms c.args.self.now (ds ++ es)) c.args.lines.now
     (subst (IsOfForms c.args.self.now) (sym (append-nil ds)) h))
 
@@ -26,7 +26,7 @@ forms-preserved c = λ ds h.
     subst (λ (o : Option OperationMap). ReadsNext (left_in c.forms.maps) o (left_in c.advance.new.self))
     c.in-Ok-Some.field-0-is c.in-Ok-Some.ensures.reads in
     along_next (λ es. IsOfForms c.forms.self (ds ++ es)) (λ es. IsOfForms c.take.new.self (ds ++ es)) c.args.lines.now
-    (left_in c.forms.maps) (left_in c.advance.new.self) (start_in c.forms.maps) (start_in c.advance.new.self)
+    (left_in c.forms.maps) (left_in c.advance.new.self) (start_of_map c.forms.maps) (start_of_map c.advance.new.self)
     c.in-Ok-Some.said read c.in-Ok-Some.ensures.moves
     (λ es p. subst (IsOfForms c.take.new.self) (append_assoc ds es (read.form ∷ []))
     (c.in_ok-take-in-Ok-Some.ensures (ds ++ es) read.form read.says p)) (c.forms.invariant ds h)
@@ -39,6 +39,6 @@ returns-in-Ok-None c = λ ds h.
     c.in-Ok-None.field-0-is c.in-Ok-None.ensures.reads in (
       a.forms,
       along_spells (λ es. IsOfForms c.forms.self (ds ++ es)) c.args.lines.now (left_in c.forms.maps)
-          (start_in c.forms.maps) a n,
+          (start_of_map c.forms.maps) a n,
       a.holds,
     )

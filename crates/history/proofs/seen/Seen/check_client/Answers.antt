@@ -4,7 +4,7 @@ use Rattle.std.proofs.Common.{◌≡◌, sym, subst}
 use Rattle.number_map.specs.Lookup.{value_of}
 use Rattle.history.specs.Maps.{clients}
 use Rattle.history.specs.Faults.{last_map}
-use Rattle.history.specs.Seen.{IsKept, IsKindOf, IsNoOther}
+use Rattle.history.specs.Seen.{IsProcessKept, IsKindOf, IsNoOther}
 use Rattle.history.specs.Views.{client_map}
 use Rattle.seq_objects.specs.Functions.{kind_of_function}
 use Rattle.history.proofs.FirstFaults.{PassesShape, PassesAll, mixed_first, passes_kind, process_first}
@@ -27,7 +27,8 @@ returns-in-Some-process_fault-clause-fault c = λ ds w value seen.
     let a = c.in-Some-action_of.action in
     let kept : c.get.result ≡ value_of c.args.self.now.kinds m.object = c.get.ensures in
     let process : c.get-process.result ≡ value_of c.args.self.now.processes m.process = c.get-process.ensures in
-    let doing = subst (λ k. IsKept k (last_map m.process (clients ds))) (sym process) (seen.processes m.process) in
+    let doing = subst (λ k. IsProcessKept k (last_map m.process (clients ds))) (sym process)
+    (seen.processes m.process) in
     let shape : PassesShape m f a = record {
       known = c.in-Some.is;
       action = sym
@@ -46,7 +47,8 @@ returns-clause-fits c = λ ds w value seen.
     let a = c.in-Some-action_of.action in
     let kept : c.get.result ≡ value_of c.args.self.now.kinds m.object = c.get.ensures in
     let process : c.get-process.result ≡ value_of c.args.self.now.processes m.process = c.get-process.ensures in
-    let doing = subst (λ k. IsKept k (last_map m.process (clients ds))) (sym process) (seen.processes m.process) in
+    let doing = subst (λ k. IsProcessKept k (last_map m.process (clients ds))) (sym process)
+    (seen.processes m.process) in
     let shape : PassesShape m f a = record {
       known = c.in-Some.is;
       action = sym

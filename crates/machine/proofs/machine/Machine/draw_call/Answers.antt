@@ -2,7 +2,7 @@
 -- call and the object is of the kind, so `call_done` gives the world after the step.
 use Rattle.std.proofs.Common.{◌+◌, refl, sym, ◌∙◌, ap, ◌++◌, ◌∷◌, [], set, get_or}
 use Rattle.machine.specs.Machines.{State}
-use Rattle.recorder.specs.Records.{items_of}
+use Rattle.recorder.specs.Records.{items_of_each}
 use Rattle.desk_model.specs.declared.JournalEvent.TheVariants.{Invoked}
 use Rattle.machine.proofs.Trying.{no_memory}
 use Rattle.machine.proofs.Rows.{call_done, unticked}
@@ -36,12 +36,12 @@ returns-in_err-note g c =
     c.from_residual.ensures.1 c.in_err-note.ensures.err.0
     (unticked g.S.SeqObject.content g.S.SeqObject.op_in g.S.SeqObject.reply_in c.self.inside c.self.invariant _
     c.self.view_is c.args.client
-    (items_of c.note.new.journals.items) c.in_err-note.ensures.err.1) tt (
+    (items_of_each c.note.new.journals.items) c.in_err-note.ensures.err.1) tt (
       _,
       (call_done g.S.SeqObject.content g.S.SeqObject.op_in g.S.SeqObject.reply_in c.self.inside c.self.invariant _
           c.self.view_is c.args.client
-          c.args.object c.args.op (set (items_of c.self.inside.journals.items) c.args.client
-          (get_or (items_of c.self.inside.journals.items) c.args.client []
+          c.args.object c.args.op (set (items_of_each c.self.inside.journals.items) c.args.client
+          (get_or (items_of_each c.self.inside.journals.items) c.args.client []
           ++ (Invoked c.self.inside.clock c.args.object c.args.op) ∷ []))
           (c.self.inside.clock + 1) refl refl c.requires (c.if-not-may_call.ensures.0 refl).0
           (c.if-not-may_call.ensures.0 refl).1

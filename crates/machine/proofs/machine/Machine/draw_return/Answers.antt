@@ -5,7 +5,7 @@ use Rattle.machine.specs.Machines.{State, world_of, stage_of, stage_in}
 use Rattle.machine.specs.declared.step.Stage.TheVariants.{Taken}
 use Rattle.desk_model.specs.Transitions.{draw_return}
 use Rattle.machine.proofs.Kept.{going_of, not_of}
-use Rattle.recorder.specs.Records.{items_of}
+use Rattle.recorder.specs.Records.{items_of_each}
 use Rattle.desk_model.specs.declared.JournalEvent.TheVariants.{Returned}
 use Rattle.machine.proofs.Trying.{no_memory}
 use Rattle.machine.proofs.Rows.{return_done, stage_found, return_not, unticked}
@@ -54,13 +54,13 @@ returns-in_err-note g c =
     c.from_residual.ensures.1 c.in_err-note.ensures.err.0
     (unticked g.S.SeqObject.content g.S.SeqObject.op_in g.S.SeqObject.reply_in c.self.inside c.self.invariant _
     c.self.view_is c.args.client
-    (items_of c.note.new.journals.items) c.in_err-note.ensures.err.1) tt (
+    (items_of_each c.note.new.journals.items) c.in_err-note.ensures.err.1) tt (
       _,
       (return_done g.S.SeqObject.content g.S.SeqObject.op_in g.S.SeqObject.reply_in c.self.inside c.self.invariant _
           c.self.view_is c.args.client
           c.in-Taken._request c.in-Taken.answer
-          (set (items_of c.self.inside.journals.items) c.args.client
-          (get_or (items_of c.self.inside.journals.items) c.args.client []
+          (set (items_of_each c.self.inside.journals.items) c.args.client
+          (get_or (items_of_each c.self.inside.journals.items) c.args.client []
           ++ (Returned c.self.inside.clock c.in-Taken.answer) ∷ []))
           (c.self.inside.clock + 1) refl refl c.requires
           (subst (λ (s : State). (world_of s).stage c.args.client

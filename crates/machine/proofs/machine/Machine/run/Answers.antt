@@ -1,12 +1,12 @@
 -- `run`: the steps so far were taken, or passed over where they were not possible, and these are counted. The loop
--- keeps that, and one turn more adds one step to the run (`more`).
+-- keeps that, and one turn more adds one step to the run (`joined_steps`).
 use Rattle.std.proofs.Common.{◌+◌, ◌∷◌, [], subst, arith, List, ℕ}
 use Rattle.model.specs.declared.Kind.{Kind}
 use Rattle.desk_model.specs.Transitions.{Step}
 use Rattle.machine.specs.Machines.{world_of}
 use Rattle.machine.specs.Runs.{TakesPossible}
 use Rattle.machine.specs.Steps.{step_in}
-use Rattle.machine.proofs.Turns.{more, taken_more, like_both}
+use Rattle.machine.proofs.StepsInARow.{joined_steps, taken_more, like_both}
 use Rattle.machine.proofs.machine.Machine.run.Goals as goal
 
 pub loop-at-preserved : goal.loop-at-preserved
@@ -24,7 +24,8 @@ loop-at-preserved g c =
           (c.loop-at.refused + c.in-Ok.passed) (world_of c.turn.new.self))
           (taken_more (λ m. (m.0, step_in g.S.SeqObject.op_in m.1)) c.args.steps.now c.loop-at.at v
           c.loop-at-test.true c.index-steps-at.is)
-          (more now.kinds now.quota (world_of now) _ c.loop-at.refused (world_of c.loop-at.self) _ c.in-Ok.passed
+          (joined_steps now.kinds now.quota (world_of now) _ c.loop-at.refused (world_of c.loop-at.self) _
+          c.in-Ok.passed
           (world_of c.turn.new.self) c.loop-at.invariant.ran one);
       like = like_both _ _ _ like c.in-Ok.ensures.like;
       run = c.in-Ok.ensures.run;

@@ -1,7 +1,7 @@
 use Rattle.std.proofs.Common.{ℕ, ap, subst}
 use Rattle.desk_invariant.specs.declared.board.DeskView.{DeskView}
 use Rattle.desk_invariant.specs.Views.{seen_of, IsAccount}
-use Rattle.desk_model.specs.World.{kind_at, IsLegal}
+use Rattle.desk_model.specs.World.{kind_at, IsLegalLog}
 use Rattle.publication.specs.Handles.{Known}
 use Rattle.publication.proofs.client.Client.outstanding.Goals as goal
 
@@ -13,4 +13,4 @@ returns-clause-accounts g c =
 pub returns-clause-legal : goal.returns-clause-legal
 returns-clause-legal g c =
     let k = c.self.invariant.0.agrees in
-    subst (λ (k : Known). (x : ℕ) → IsLegal (kind_at k.desk.kinds x) (seen_of k.knows x)) c.self.view_is k.legal
+    subst (λ (k : Known). (x : ℕ) → IsLegalLog (kind_at k.desk.kinds x) (seen_of k.knows x)) c.self.view_is k.legal

@@ -8,7 +8,7 @@ use Rattle.publication.proofs.Dealing.{own_still}
 use Rattle.publication.specs.Handles.{Handling}
 use Rattle.desk_invariant.proofs.Rows.{answer_keeps_rule}
 use Rattle.publication.proofs.Holds.{answer_ready, room_taken, core_grows, answered_ok}
-use Rattle.publication.proofs.Said.{may_serve, answered}
+use Rattle.publication.proofs.CallClauses.{may_serve, answer_gives}
 use Rattle.publication.proofs.client.Hand.answer.Goals as goal
 
 pub serve-answer-requires-after_bounds : goal.serve-answer-requires-after_bounds
@@ -49,7 +49,7 @@ returns-clause-answered g c = let h = c.self.invariant.0 in let e = c.serve-answ
     let fits = core_grows g.S.SeqObject.content g.S.SeqObject.op_in g.S.SeqObject.reply_in _ _ _ c.self.inside.core
     c.serve-answer.new.core
     c.self.inside.request c.serve-answer.result e.state.1 h.fits e.log e.content in
-    answered c.args.self _ _ _ _ _ _ _ _ _ _ (sym c.self.view_is) c.exchange.ensures.3
+    answer_gives c.args.self _ _ _ _ _ _ _ _ _ _ (sym c.self.view_is) c.exchange.ensures.3
     (c.store.ensures.2 _ _ _ _ _ _ _ r.1 r.2) e.log (_, fits.1)
 
 pub returns-clause-desk : goal.returns-clause-desk

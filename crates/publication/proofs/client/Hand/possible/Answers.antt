@@ -1,5 +1,5 @@
 use Rattle.std.proofs.Common.{sym, ◌∙◌}
-use Rattle.publication.proofs.Said.{can_says}
+use Rattle.publication.proofs.CallClauses.{can_says}
 use Rattle.desk_model.proofs.SameKind.{kind_replayed}
 use Rattle.publication.proofs.client.Hand.possible.Goals as goal
 

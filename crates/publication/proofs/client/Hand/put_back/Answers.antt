@@ -5,7 +5,7 @@ use Rattle.publication_list.specs.Calls.{PlaceSeen}
 use Rattle.desk_invariant.proofs.Rows.{put_back_keeps_rule}
 use Rattle.publication.proofs.Dealing.{own_still}
 use Rattle.publication.proofs.Holds.{back_ready, back_ok}
-use Rattle.publication.proofs.Said.{is_put_back}
+use Rattle.publication.proofs.CallClauses.{is_put_back}
 use Rattle.publication.proofs.client.Hand.put_back.Goals as goal
 
 pub store-requires : goal.store-requires

@@ -5,7 +5,7 @@ use Rattle.publication_list.specs.Calls.{PlaceSeen}
 use Rattle.desk_invariant.proofs.Locks.{release_keeps_rule}
 use Rattle.publication.proofs.Dealing.{own_still}
 use Rattle.publication.proofs.Holds.{release_ready, released_ok}
-use Rattle.publication.proofs.Said.{is_released, log_is_seen}
+use Rattle.publication.proofs.CallClauses.{is_released, log_is_seen}
 use Rattle.publication.proofs.client.Pass.release.Goals as goal
 
 pub store-requires : goal.store-requires

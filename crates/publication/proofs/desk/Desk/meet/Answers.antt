@@ -1,7 +1,7 @@
 -- `meet`: both clients have then seen one legal log, which goes on from what each had seen. The first learns the
 -- log of the table, and its message back is that log (`told_back`), which the second adopts.
 use Rattle.std.proofs.Common.{rules, arith, ◌<◌, ℕ, length, sym, ap, ◌∙◌, subst}
-use Rattle.desk_model.specs.World.{kind_at, IsLegal, StartsWith}
+use Rattle.desk_model.specs.World.{kind_at, IsLegalLog, StartsWith}
 use Rattle.desk_invariant.specs.declared.board.DeskView.{DeskView}
 use Rattle.desk_invariant.specs.Views.{seen_of, received_of, after_meet, after_message, IsAtRest, IsAccount}
 use Rattle.desk_invariant.proofs.Meets.{seen_message_keeps_rule, message_keeps_rule, learn_keeps_rule}
@@ -81,7 +81,7 @@ invariant_of-result g c =
     ∙ (t.1 ∙ ap (λ z. (after_meet x t.0 z.0, z.1)) c.join_seat.ensures.2) in (
       met_ok g.S.SeqObject.op_in g.S.SeqObject.reply_in _ _ _ _ _ x t.0 c.split_seat-message.result.me.0.seen
           c.one.inside.seat.me _ c.one.invariant.0 low'
-          (subst (λ (v : DeskView). IsLegal (kind_at v.kinds x) t.0) (ap (λ z. z.0) c.join_seat.ensures.2) t.2)
+          (subst (λ (v : DeskView). IsLegalLog (kind_at v.kinds x) t.0) (ap (λ z. z.0) c.join_seat.ensures.2) t.2)
           (subst (λ (v : DeskView). IsAccount x v t.0) (ap (λ z. z.0) c.join_seat.ensures.2) t.6) first,
       own_still _ _ _ _ (ap (λ m. m.0.lists) first) c.one.invariant.1,
     )
@@ -103,8 +103,8 @@ invariant_of-result-2 g c =
     let u = c.load-2.ensures.2 in let second = u.0 ∙ (λ i. (after_meet x (is i) (whole i).0, (whole i).1)) in (
       met_ok g.S.SeqObject.op_in g.S.SeqObject.reply_in _ _ _ _ _ x t.0 c.split_seat-message-2.result.me.0.seen
           c.other.inside.seat.me _ c.other.invariant.0 low'
-          (subst (λ l. IsLegal (kind_at c.other.inside.seat.me.0.kinds x) l)
-          is (subst (λ (v : DeskView). IsLegal (kind_at v.kinds x) (received_of c.join_seat-2.new.seat.me.0 x))
+          (subst (λ l. IsLegalLog (kind_at c.other.inside.seat.me.0.kinds x) l)
+          is (subst (λ (v : DeskView). IsLegalLog (kind_at v.kinds x) (received_of c.join_seat-2.new.seat.me.0 x))
           (ap (λ z. z.0) whole) u.1))
           (subst (λ l. IsAccount x (after_message c.other.inside.seat.me.0 c.split_seat-message-2.result.me.0) l)
           is (subst (λ (v : DeskView). IsAccount x v (received_of c.join_seat-2.new.seat.me.0 x))
@@ -137,6 +137,6 @@ returns-clause-met g c =
     (sym (ap (λ k. k.desk.kinds) c.one.view_is)) (sym (ap (λ k. k.knows) c.one.view_is))
     (sym (ap (λ k. k.knows) c.other.view_is))
     (ap (λ z. z.0) first) (ap (λ z. z.0) second) (omega arith) (omega arith)
-    (subst (λ (v : DeskView). IsLegal (kind_at v.kinds x) t.0) (ap (λ z. z.0) c.join_seat.ensures.2) t.2)
+    (subst (λ (v : DeskView). IsLegalLog (kind_at v.kinds x) t.0) (ap (λ z. z.0) c.join_seat.ensures.2) t.2)
     (subst (λ (v : DeskView). StartsWith t.0 (seen_of v x)) (ap (λ z. z.0) c.join_seat.ensures.2) t.3)
     (subst (λ (v : DeskView). StartsWith t.0 (seen_of v x)) (ap (λ z. z.0) whole) there)

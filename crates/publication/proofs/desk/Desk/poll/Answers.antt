@@ -1,4 +1,4 @@
--- `poll`: the client takes an answer and draws the ticket of its return, or has missed, as `NotPolled` says. Its
+-- `poll`: the client takes an answer and draws the ticket of its return, or has missed, as `IsPollMiss` says. Its
 -- call is outstanding, so its own row waits; each step on the table keeps the rules of its play.
 use Rattle.std.proofs.Common.{map, ◌≡◌, rules, arith, refl, ℕ, ◌∷◌, ◌++◌, [], inr, sym, ap, ◌∙◌, subst}
 use Rattle.publication_list.specs.Calls.{PlaceSeen}
@@ -9,10 +9,10 @@ use Rattle.desk_model.specs.declared.JournalEvent.TheVariants.{Returned}
 use Rattle.desk_model.specs.Images.{answer_in}
 use Rattle.publication.proofs.Dealing.{own_still}
 use Rattle.publication.specs.Handles.{IsClient, ArePlacesOf}
-use Rattle.publication.specs.Calls.{Polled, NotPolled}
+use Rattle.publication.specs.Calls.{IsPollAnswer, IsPollMiss}
 use Rattle.publication.proofs.Slots.{can_exchange, came_out, same_answer}
 use Rattle.publication.proofs.Holds.{missed_ok}
-use Rattle.publication.proofs.Turns.{outstanding, poll_turn, poll_ok, polled, room_to_return}
+use Rattle.publication.proofs.PostAndPoll.{outstanding, poll_turn, poll_ok, polled, room_to_return}
 use Rattle.publication.proofs.desk.Desk.poll.Goals as goal
 
 pub look_and_exchange-found-requires-clause-look : goal.look_and_exchange-found-requires-clause-look
@@ -52,7 +52,7 @@ returns-then-found-ne-ANSWERED-clause-missed g c =
     let o = (outstanding (sym c.is_outstanding.ensures ∙ c.if-not-is_outstanding.false) k).1 in
     let t = (c.look_and_exchange-found.ensures.tried c.client.inside.number o.0 k.agrees.number_is refl o.1).1
     (search rules) in
-    subst (λ (v : DeskView). NotPolled v c.look_and_exchange-found.new.seat.me.0) (ap (λ v. v.knows) c.client.view_is)
+    subst (λ (v : DeskView). IsPollMiss v c.look_and_exchange-found.new.seat.me.0) (ap (λ v. v.knows) c.client.view_is)
     (inr (
       ap (λ z. z.0) t.0
           ∙ ap (λ (n : ℕ). after_miss (row_place n) c.client.inside.seat.me.0) (sym k.agrees.number_is),
@@ -120,7 +120,7 @@ returns-clause-polled g c =
     let same = same_answer _ _ (sym (came_out _ _ _ _ _ (ap (λ m. m.1) t.2) c.exchange.ensures.2) ∙ c.in-Answer.is) in
     let turn = poll_turn g.S.SeqObject.op_in g.S.SeqObject.reply_in _ _ _ _ _ o.0 t.0 t.1 _ _ _ _ k o.1 t.2
     c.exchange.ensures.3 f.0 in
-    subst (λ a. Polled c.args.client.now.knows
+    subst (λ a. IsPollAnswer c.args.client.now.knows
     (answer_in g.S.SeqObject.reply_in a) c.fetch_add-ticket.new.seat.me.0) same
     (polled g.S.SeqObject.op_in g.S.SeqObject.reply_in _ _ _ _ _ o.0 t.0 t.1 _ _ _ _ k
     (sym (ap (λ v. v.knows) c.client.view_is)) o.1 o.2 t.3 t.4 t.5

@@ -12,7 +12,7 @@ use Rattle.publication.specs.Handles.{Known, IsClient, ArePlacesOf}
 use Rattle.desk_invariant.proofs.Calls.{draw_keeps_rule, post_keeps_rule}
 use Rattle.publication.proofs.Dealing.{own_still}
 use Rattle.publication.proofs.Slots.{came_out, can_exchange, in_slot}
-use Rattle.publication.proofs.Turns.{own_idle, outstanding_is, post_turn, post_ok, posted, room_to_call}
+use Rattle.publication.proofs.PostAndPoll.{own_idle, outstanding_is, post_turn, post_ok, posted, room_to_call}
 use Rattle.publication.proofs.desk.Desk.post.Goals as goal
 use Rattle.publication.proofs.desk.Desk.post.Given.{Over}
 use Rattle.publication.proofs.desk.Desk.post.Goals.{After-exchange}

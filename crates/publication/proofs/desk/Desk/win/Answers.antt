@@ -5,7 +5,7 @@ use Rattle.desk_invariant.proofs.Locks.{look_at_lock_keeps_rule, win_keeps_rule}
 use Rattle.publication.proofs.Dealing.{own_still}
 use Rattle.publication.proofs.Slots.{came_out, same_core, can_exchange}
 use Rattle.publication.proofs.Holds.{missed_ok, pass_ok}
-use Rattle.publication.proofs.Said.{opened}
+use Rattle.publication.proofs.CallClauses.{win_gives}
 use Rattle.publication.proofs.desk.Desk.win.Goals as goal
 
 pub look_and_exchange-found-requires-clause-look : goal.look_and_exchange-found-requires-clause-look
@@ -72,7 +72,7 @@ returns-clause-won g c =
     (sym (ap (λ k. k.desk.kinds) c.client.view_is ∙ ap (λ d. d.kinds) c.requires.desk)) c.requires.object in
     let t = (c.look_and_exchange-found.ensures.tried there).0 c.if-found-ne0.false in let e = c.exchange.ensures in
     let same = same_core _ _ (sym c.in-Core.is ∙ came_out _ _ _ _ _ (ap (λ m. m.1) t.2) e.2) in
-    opened g.S.SeqObject.content g.S.SeqObject.op_in g.S.SeqObject.reply_in c.args.client c.args.object t.0
+    win_gives g.S.SeqObject.content g.S.SeqObject.op_in g.S.SeqObject.reply_in c.args.client c.args.object t.0
     c.in-Core.core t.1
     c.client.inside.seat.me c.look_and_exchange-found.new.seat.me c.exchange.new.seat.me _ _
     (sym (ap (λ k. k.desk.kinds) c.client.view_is)) (sym (ap (λ k. k.knows) c.client.view_is)) t.2 e.3 same t.3 t.4

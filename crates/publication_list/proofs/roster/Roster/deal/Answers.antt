@@ -1,7 +1,7 @@
 -- `deal`: each owner has one place more, on the new roster and with its own row. The loop takes the last place
 -- first, and keeps that the owners from there on have theirs and those before are as they were (`one_grown`).
 use Rattle.std.proofs.Common.{arith, ◌≡◌, length, get_or, set, sym, ap, ◌∙◌, subst}
-use Rattle.publication_list.specs.Calls.{ArePlaces}
+use Rattle.publication_list.specs.Calls.{AreRowPlaces}
 use Rattle.publication_list.specs.Dealing.{AreGrown}
 use Rattle.publication_list.proofs.Dealt.{long, popped, none_grown, all_grown, still_room, one_grown}
 use Rattle.publication_list.proofs.roster.Roster.deal.Goals as goal
@@ -12,8 +12,8 @@ loop-place-init c =
     let count =
     k.0 in let same : length c.in_ok-roster.places.items ≡ length c.args.owners.now.items = omega arith in
     let id = sym (ap (λ r. r.id) c.in_ok-shared.ensures.ok) in (
-      subst (λ z. ArePlaces z (length c.in_ok-roster.places.items) c.in_ok-roster.places.items) id
-          (subst (λ z. ArePlaces c.in_ok-roster.roster.id z c.in_ok-roster.places.items) (sym count) k),
+      subst (λ z. AreRowPlaces z (length c.in_ok-roster.places.items) c.in_ok-roster.places.items) id
+          (subst (λ z. AreRowPlaces c.in_ok-roster.roster.id z c.in_ok-roster.places.items) (sym count) k),
       omega arith,
       none_grown _ _ _ same,
     )

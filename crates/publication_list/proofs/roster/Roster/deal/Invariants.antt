@@ -1,11 +1,11 @@
 use Rattle.std.proofs.Common.{◌≤◌, length, vec_len}
-use Rattle.publication_list.specs.Calls.{ArePlaces}
+use Rattle.publication_list.specs.Calls.{AreRowPlaces}
 use Rattle.publication_list.specs.Dealing.{AreGrownFrom}
 use Rattle.publication_list.proofs.roster.Roster.deal.Given as goal
 
 abbrev pub invariant-loop-place : goal.invariant-loop-place
 invariant-loop-place l =
-    ArePlaces l.shared.value.id (length l.places.items) l.places.items
+    AreRowPlaces l.shared.value.id (length l.places.items) l.places.items
     × (length l.places.items ≤ length l.fn.owners.items)
     × AreGrownFrom (length l.places.items) l.shared.value.id l.fn.owners.items l.owners.items
 

@@ -4,7 +4,7 @@ use Rattle.std.proofs.Common.{length, reverse, ap, ◌∙◌, arith}
 use Rattle.std.proofs.lemmas.List.{get_or_default}
 use Rattle.model.specs.Objects.{empty}
 use Rattle.model.specs.Orders.{Call}
-use Rattle.search.specs.Undoing.{content_of}
+use Rattle.search.specs.Undoing.{reversible_content}
 use Rattle.search.specs.declared.kept.Kept.TheVariants.{Whole}
 use Rattle.search.specs.declared.pairs.Pair.{Pair}
 use Rattle.search.specs.Arranged.{as_call, call_at}
@@ -67,8 +67,9 @@ returns-then-self-eq0-clause-over c u =
     let eo = ap as_call c.index-item.ensures ∙ call_read c.args.trials.now.items.items a.at _ c.requires.at in
     let t = c.args.trials.now in
     over_now (length t.items.items) (call_at t.items.items) (empty t.kind) c.push.new.self.items
-    (befores (reverse c.push.new.self.items) (content_of a.object))
-    (position (content_of a.object) c.take_out.new.self.next.items c.take_out.new.self.before.items c.max-high.result)
+    (befores (reverse c.push.new.self.items) (reversible_content a.object))
+    (position (reversible_content a.object) c.take_out.new.self.next.items c.take_out.new.self.before.items
+    c.max-high.result)
     (rw more (stepped w c.args.step.undo a.digest c.requires.at c.requires.in_time c.requires.does c.requires.agrees
     (omega arith) (omega arith) c.take_out.ensures.next c.take_out.ensures.before))
     (rw more (owed_less w c.requires.at (rw (ap (λ (x : Call). x.returned) eo) at c.owed_after-self.ensures)))

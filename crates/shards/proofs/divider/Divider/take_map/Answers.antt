@@ -7,7 +7,7 @@ use Rattle.std.proofs.lemmas.List.{length-append}
 use Rattle.events.specs.declared.event.Event.{Event}
 use Rattle.history.specs.declared.client_map.OperationMap.{OperationMap}
 use Rattle.history.specs.declared.long_reader.LongReader.{LongReader}
-use Rattle.history.specs.Denotes.{events_from}
+use Rattle.history.specs.Denotes.{events_of_forms}
 use Rattle.history.specs.LongReading.{AreReadAtAnyLength}
 use Rattle.history.specs.Views.{Says, client_map}
 use Rattle.shards.specs.Taking.{forms_of}
@@ -21,7 +21,8 @@ returns-in-Ok-clause-taken c = λ count maps written d says spells h.
     let ds = forms_of maps in
     let some = c.in-Ok-Some in
     let own = event_is ds d some.event
-    (subst (λ (o : Option Event). events_from 0 (ds ++ d ∷ []) ≡ events_from 0 ds ++ option_to_list o) some.field-0-is
+    (subst (λ (o : Option Event). events_of_forms 0 (ds ++ d ∷ []) ≡ events_of_forms 0 ds ++ option_to_list o)
+    some.field-0-is
     (some.ensures.event ds d says h.read)) in
     let read = subst (λ (r : LongReader). AreReadAtAnyLength r (ds ++ d ∷ [])) (sym c.in-Ok.ensures.reader)
     (some.ensures.read ds d says h.read) in
@@ -36,7 +37,8 @@ returns-in-Ok-None-clause-taken c = λ count maps written d says spells h.
     let none = c.in-Ok-None in
     let read = none.ensures.read ds d says h.read in
     let no = no_client ds d read.faultless
-    (subst (λ (o : Option Event). events_from 0 (ds ++ d ∷ []) ≡ events_from 0 ds ++ option_to_list o) none.field-0-is
+    (subst (λ (o : Option Event). events_of_forms 0 (ds ++ d ∷ []) ≡ events_of_forms 0 ds ++ option_to_list o)
+    none.field-0-is
     (none.ensures.event ds d says h.read)) in
     taken_unseen count c.args.self.now _ maps written d h read no refl refl refl
 
@@ -62,7 +64,7 @@ returns-in_default c = record {
       let ds = forms_of maps in
       let some = c.in-Ok-Some in
       let own = event_is ds d some.event
-      (subst (λ (o : Option Event). events_from 0 (ds ++ d ∷ []) ≡ events_from 0 ds ++ option_to_list o)
+      (subst (λ (o : Option Event). events_of_forms 0 (ds ++ d ∷ []) ≡ events_of_forms 0 ds ++ option_to_list o)
       some.field-0-is (some.ensures.event ds d says h.read)) in
       absurd (says_client c.args.said d own.map says own.client c.in_default.not-OfClient);
   fault = tt;

@@ -1,6 +1,6 @@
 use Rattle.std.proofs.Common.{◌≡◌, ◌+◌, Some, unwrap_or, ap, sym, ◌∙◌}
 use Rattle.number_map.specs.Lookup.{value_of}
-use Rattle.shards.proofs.Tallied.{IsOneMore, count_of, counts_pushed}
+use Rattle.shards.proofs.LargeObjects.{IsOneMore, count_of, counts_pushed}
 use Rattle.shards.proofs.tally.Tally.count.Goals as goal
 
 pub returns-in_ok-push : goal.returns-in_ok-push

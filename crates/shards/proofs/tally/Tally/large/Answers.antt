@@ -2,7 +2,7 @@ use Rattle.std.proofs.Common.{map, sym, ◌∙◌, ap, subst}
 use Rattle.std.specs.List.Sorted.{IsNonDecreasing, IsPermutation}
 use Rattle.std.proofs.lemmas.List.{take_all}
 use Rattle.std.proofs.lemmas.List.Sorted.{IsNonDecreasingBy-from_sort}
-use Rattle.shards.proofs.Tallied.{are_large, large_with}
+use Rattle.shards.proofs.LargeObjects.{are_large, large_with}
 use Rattle.shards.proofs.tally.Tally.large.Goals as goal
 
 pub returns : goal.returns

@@ -1,5 +1,5 @@
 use Rattle.std.proofs.Common.{◌≡◌, map, take}
-use Rattle.shards.proofs.Tallied.{large_with}
+use Rattle.shards.proofs.LargeObjects.{large_with}
 use Rattle.shards.proofs.tally.Tally.large.Given as goal
 
 abbrev pub invariant-loop-object : goal.invariant-loop-object

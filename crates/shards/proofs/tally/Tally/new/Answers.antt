@@ -1,4 +1,4 @@
-use Rattle.shards.proofs.Tallied.{none_counted}
+use Rattle.shards.proofs.LargeObjects.{none_counted}
 use Rattle.shards.proofs.tally.Tally.new.Goals as goal
 
 pub returns : goal.returns

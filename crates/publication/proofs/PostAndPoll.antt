@@ -12,8 +12,8 @@ use Rattle.desk_model.specs.declared.Answer.{Answer}
 use Rattle.desk_model.specs.declared.JournalEvent.{JournalEvent}
 use Rattle.desk_model.specs.declared.JournalEvent.TheVariants.{Invoked, Returned}
 use Rattle.desk_model.specs.World.{AnyEntry, AnyRequest, AnyAnswer, AnyDone, AnyEvent, kind_at, logged, logged_on}
-use Rattle.desk_model.specs.World.{entries_of, served, calls_made}
-use Rattle.desk_model.specs.World.{tickets_drawn, invoked, journal_of, IsLegal, StartsWith}
+use Rattle.desk_model.specs.World.{entries_of_client, served, calls_made}
+use Rattle.desk_model.specs.World.{tickets_drawn, invoked, journal_of, IsLegalLog, StartsWith}
 use Rattle.desk_model.specs.Images.{request_in, answer_in, event_in}
 use Rattle.desk_model.proofs.Entries.{served_more, logged_here, logged_else}
 use Rattle.desk_invariant.specs.declared.board.Journal.{Journal}
@@ -26,7 +26,7 @@ use Rattle.desk_invariant.specs.Views.{seen_of, own_request, is_waiting, with_ow
 use Rattle.desk_invariant.specs.Views.{MayHold, IsAccount, IsAtRest}
 use Rattle.desk_invariant.proofs.Seeing.{seen_all}
 use Rattle.publication.specs.Handles.{Agrees, IsClient, at_hand}
-use Rattle.publication.specs.Calls.{Posted, Polled}
+use Rattle.publication.specs.Calls.{IsPosted, IsPollAnswer}
 use Rattle.desk_model.proofs.Tickets.{journal_begun, journal_over}
 
 -- ---- the own call, and the length of a journal
@@ -153,7 +153,7 @@ module _ {S O R : Type 0} (op_in : O → AnyOp) (reply_in : R → AnyReply) wher
       → d ≡ (
         with_own (own.Waiting record { object = x; ticket = t; op = op_in op }) m.0,
         (48 + number, slot.Nothing) ∷ [],
-      ) → Posted v x (op_in op) d.0
+      ) → IsPosted v x (op_in op) d.0
   posted number calls quota x t j op v m d k is e =
       let same = own_idle m.0.own k.agrees.at_rest (sym k.agrees.outstanding_is) in
       let q : AnyRequest = record { object = x; ticket = t; op = op_in op } in rw (is, e) record {
@@ -184,8 +184,9 @@ module _ {S O R : Type 0} (op_in : O → AnyOp) (reply_in : R → AnyReply) wher
   pub poll_ok : (number calls quota t : ℕ) (j j' : Journal O R) (q : AnyRequest) (e : Answer R) (l : List AnyEntry)
       (m d : Me (Slot S O R) DeskView)
       → IsClient op_in reply_in number calls quota true j m → m.0.own ≡ own.Waiting q → q.object < 16
-      → IsLegal (kind_at m.0.kinds q.object) l
-      → entries_of m.0.number l ≡ served q.object m.0.number m.0.done ++ logged m.0.number q (answer_in reply_in e)
+      → IsLegalLog (kind_at m.0.kinds q.object) l
+      → entries_of_client m.0.number l ≡ served q.object m.0.number m.0.done
+      ++ logged m.0.number q (answer_in reply_in e)
       → d ≡ (
         after_return q (answer_in reply_in e) t (after_take q (answer_in reply_in e) l m.0),
         (16 + number, slot.Nothing) ∷ (48 + number, slot.Nothing) ∷ [],
@@ -218,7 +219,7 @@ module _ {S O R : Type 0} (op_in : O → AnyOp) (reply_in : R → AnyReply) wher
           room = omega arith;
           wide = length-set m.0.seen q.object l ∙ wide;
           -- the log that was seen is legal, and accounts for the calls of the client
-          legal = seen_all (λ x z. IsLegal (kind_at m.0.kinds x) z) m.0.seen q.object l (omega arith) legal
+          legal = seen_all (λ x z. IsLegalLog (kind_at m.0.kinds x) z) m.0.seen q.object l (omega arith) legal
               (λ x _. h.legal x);
           accounts = seen_all (λ x z. IsAccount x (after_return q w t (after_take q w l m.0)) z) m.0.seen q.object l
               (omega arith) (
@@ -251,13 +252,14 @@ module _ {S O R : Type 0} (op_in : O → AnyOp) (reply_in : R → AnyReply) wher
       (v u : DeskView)
       (m d : Me (Slot S O R) DeskView) → IsClient op_in reply_in number calls quota true j m → v ≡ m.0
       → m.0.own ≡ own.Waiting q → q.object < 16
-      → IsLegal (kind_at m.0.kinds q.object) l → StartsWith l (seen_of m.0 q.object)
-      → entries_of m.0.number l ≡ served q.object m.0.number m.0.done ++ logged m.0.number q (answer_in reply_in e)
+      → IsLegalLog (kind_at m.0.kinds q.object) l → StartsWith l (seen_of m.0 q.object)
+      → entries_of_client m.0.number l ≡ served q.object m.0.number m.0.done
+      ++ logged m.0.number q (answer_in reply_in e)
       → u ≡ after_take q (answer_in reply_in e) l m.0 → All (λ y. y.ticket < t) (seen_of u q.object)
       → d ≡ (
         after_return q (answer_in reply_in e) t (after_take q (answer_in reply_in e) l m.0),
         (16 + number, slot.Nothing) ∷ (48 + number, slot.Nothing) ∷ [],
-      ) → Polled v (answer_in reply_in e) d.0
+      ) → IsPollAnswer v (answer_in reply_in e) d.0
   polled number calls quota t j q e l v u m d k is waits low legal begins counted took later f =
       let w : AnyAnswer = answer_in reply_in e in let wide = k.agrees.wide in
       let now : seen_of u q.object ≡ l =

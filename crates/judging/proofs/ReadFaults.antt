@@ -6,7 +6,7 @@ use Rattle.edn_reader.specs.Sound.{IsShort}
 use Rattle.edn_reader.proofs.Progress.{one_reading_of}
 use Rattle.events.specs.declared.event.Event.{Event}
 use Rattle.history.specs.Denotes.{Denotes}
-use Rattle.history.specs.Texts.{IsTextFault}
+use Rattle.history.specs.Texts.{IsHistoryTextFault}
 use Rattle.history.specs.declared.fault.HistoryFault.{HistoryFault}
 use Rattle.history.specs.declared.fault.TextFault.TheVariants.{Maps}
 use Rattle.history.proofs.Reading.{fault_refutes}
@@ -15,7 +15,8 @@ use Rattle.report.specs.declared.verdict.Fault.TheVariants.{HistoryText, History
 use Rattle.judging.specs.declared.texts.TextFailure.{TextFailure}
 use Rattle.judging.specs.declared.texts.TextFailure.TheVariants as stop
 use Rattle.judging.specs.declared.texts.TextFailure.TheVariants.{Faulty}
-use Rattle.judging.specs.Texts.{DenotesHistory, DenotesCertificates, IsFailureOf, IsHistoryFault, IsCertificatesFault}
+use Rattle.judging.specs.Texts.{DenotesHistory, DenotesCertificates, IsTextFailureOf, IsHistoryFault}
+use Rattle.judging.specs.Texts.{IsCertificatesFault}
 use Rattle.certificate.specs.declared.Certificate.{Certificate}
 use Rattle.certificate.specs.declared.fault.CertFault.{CertFault}
 use Rattle.certificate.specs.declared.fault.CertTextFault.TheVariants.{Forms}
@@ -23,8 +24,8 @@ use Rattle.certificate.specs.Denotes as certificate_meaning
 use Rattle.certificate.specs.Texts as certificate_texts
 use Rattle.certificate.proofs.Reading.{not_denoted}
 
-pub stopped_maps : (h : List ℕ) (f : HistoryFault) (s : TextFailure) → IsTextFault h (Maps f)
-    → IsFailureOf (HistoryMaps f) s → IsHistoryFault h s
+pub stopped_maps : (h : List ℕ) (f : HistoryFault) (s : TextFailure) → IsHistoryTextFault h (Maps f)
+    → IsTextFailureOf (HistoryMaps f) s → IsHistoryFault h s
 stopped_maps h f (Faulty g) (short, ds, spells, found) k = subst (λ (x : Fault). IsHistoryFault h (Faulty x))
     (sym k.0) (short, ds, spells, found.0 k.1)
 stopped_maps h f stop.NoMemory (short, ds, spells, found) k = let a = found.1 k in
@@ -44,8 +45,9 @@ stops_for_memory h (Faulty (CertificateText e)) es f d short = absurd f
 stops_for_memory h (Faulty (CertificateForms g)) es f d short = absurd f
 
 -- the same of a text of certificates
-pub stopped_forms : (c : List ℕ) (f : CertFault) (s : TextFailure) → certificate_texts.IsTextFault c (Forms f)
-    → IsFailureOf (CertificateForms f) s → IsCertificatesFault c s
+pub stopped_forms : (c : List ℕ) (f : CertFault) (s : TextFailure)
+    → certificate_texts.IsCertificateTextFault c (Forms f)
+    → IsTextFailureOf (CertificateForms f) s → IsCertificatesFault c s
 stopped_forms c f (Faulty g) (short, ds, spells, found) k = subst (λ (x : Fault). IsCertificatesFault c (Faulty x))
     (sym k.0) (short, ds, spells, found.0 k.1)
 stopped_forms c f stop.NoMemory (short, ds, spells, found) k = (short, inr (ds, spells, f.form, found.1 k))

@@ -8,7 +8,7 @@ use Rattle.model.proofs.Lists.{In, in_filter_from, in_map_from, all_from_in}
 use Rattle.locality.specs.Locality.{HasValidOrder}
 use Rattle.locality.proofs.OneKind.{locality_of_kinds, named_kinds, orders_of_kinds}
 use Rattle.events.specs.declared.event.Event.{Event}
-use Rattle.events.specs.Events.{denoted, kind_in, kind_at, IsProper}
+use Rattle.events.specs.Events.{denoted, kind_in_action, kind_of_object, IsProper}
 use Rattle.events.specs.Operations.{calls_of}
 use Rattle.events.proofs.ProcessRuns.{idle, runs_from_start}
 use Rattle.events.proofs.Calls.{proper_calls}
@@ -30,17 +30,18 @@ calls_kept has x es own proper =
     ∙ proper_calls es proper x)
 
 -- and the same kind
-pub kind_kept : (has : ℕ → Bool) (x : ℕ) (es : List Event) → has x ≡ true → kind_at (events_on has es) x ≡ kind_at es x
+pub kind_kept : (has : ℕ → Bool) (x : ℕ) (es : List Event) → has x ≡ true → kind_of_object (events_on has es) x
+    ≡ kind_of_object es x
 kind_kept has x [] own = refl
 kind_kept has x (e ∷ es) own = go (has e.object) refl (kind_kept has x es own)
   where
-    go : (b : Bool) → has e.object ≡ b → kind_at (events_on has es) x ≡ kind_at es x
-        → kind_at (cond b (e ∷ events_on has es) (events_on has es)) x ≡ kind_at (e ∷ es) x
-    go true q later = ap (λ k. cond (e.object == x) (kind_in e.action k) k) later
+    go : (b : Bool) → has e.object ≡ b → kind_of_object (events_on has es) x ≡ kind_of_object es x
+        → kind_of_object (cond b (e ∷ events_on has es) (events_on has es)) x ≡ kind_of_object (e ∷ es) x
+    go true q later = ap (λ k. cond (e.object == x) (kind_in_action e.action k) k) later
     go false q later =
         let own_object : e.object ≡ x → has e.object ≡ true = λ s. ap has s ∙ own in
         let ne : (e.object == x) ≡ false = ne_eqb e.object x (λ s. let t = own_object s in absurd (cc (q, t))) in
-        later ∙ sym (ap (λ b. cond b (kind_in e.action (kind_at es x)) (kind_at es x)) ne)
+        later ∙ sym (ap (λ b. cond b (kind_in_action e.action (kind_of_object es x)) (kind_of_object es x)) ne)
 
 -- so it has a valid order among them where it has one among all
 order_kept : (has : ℕ → Bool) (x : ℕ) (es : List Event) → has x ≡ true → IsProper es → OrderedAt es x
@@ -75,19 +76,22 @@ part_linearizable : (has : ℕ → Bool) (es : List Event) → IsProper es → D
     → DenoteLinearizable (events_on has es)
 part_linearizable has es proper l =
     let part = events_on has es in
-    let orders = orders_of_kinds (kind_at es) (denoted es) (denoted_is_history es proper) l in
-    named_kinds (kind_at part) (denoted part) (denoted_is_history part (proper_on has es proper))
-    (all_from_in (λ (c : ProcessCall). HasValidOrder (kind_at part) (denoted part) c.object) (calls_in (denoted part))
+    let orders = orders_of_kinds (kind_of_object es) (denoted es) (denoted_is_history es proper) l in
+    named_kinds (kind_of_object part) (denoted part) (denoted_is_history part (proper_on has es proper))
+    (all_from_in (λ (c : ProcessCall). HasValidOrder (kind_of_object part) (denoted part) c.object)
+    (calls_in (denoted part))
     (λ c i. order_kept has c.object es (called_is_own has es proper c i) proper (orders c.object)))
 
 -- a whole, where the part with each object is linearizable
 whole_linearizable : (has : ℕ → ℕ → Bool) (es : List Event) → IsProper es → ((x : ℕ) → has x x ≡ true)
     → ((x : ℕ) → DenoteLinearizable (events_on (has x) es)) → DenoteLinearizable es
-whole_linearizable has es proper own each = locality_of_kinds (kind_at es) (denoted es) (denoted_is_history es proper)
+whole_linearizable has es proper own each = locality_of_kinds (kind_of_object es) (denoted es)
+    (denoted_is_history es proper)
     (λ x.
     let part = events_on (has x) es in
     order_found (has x) x es (own x) proper
-    (orders_of_kinds (kind_at part) (denoted part) (denoted_is_history part (proper_on (has x) es proper)) (each x) x))
+    (orders_of_kinds (kind_of_object part) (denoted part) (denoted_is_history part (proper_on (has x) es proper))
+    (each x) x))
 
 -- ---- shards
 

@@ -26,7 +26,7 @@ use Rattle.edn_reader.specs.TokenBuffers.{IsSoundAfter}
 use Rattle.edn_reader.proofs.Progress.{Progress, plain, left, is_next, goes_on, next_at, at_end, ends_there}
 use Rattle.edn_reader.proofs.Progress.{spells_there, closed_are, stops, sound}
 use Rattle.edn_reader.proofs.Prefixes.{same_front}
-use Rattle.edn_reader.proofs.Shaped.{step_shape}
+use Rattle.edn_reader.proofs.StepsOnShapes.{step_shape}
 
 -- ---- what was read is one element of the text
 
@@ -268,8 +268,12 @@ module _ {keeping : Keeping} {text rest : List ℕ} {now_open : Shapes} {kept : 
           state = t.after;
           progress = goes_on text rest t.token r m.state t.after n t.steps_to m.progress;
           shaped = t.shaped;
-          kept = rw (step_consumed rest t.token r m.state t.after n t.steps_to, k t.token r t.is,
-              hold_append (consumed m.state) (t.token ∷ []) (nothing_held keeping), m.kept) refl;
+          kept = rw (
+            step_consumed rest t.token r m.state t.after n t.steps_to,
+            k t.token r t.is,
+            hold_append (consumed m.state) (t.token ∷ []) (nothing_held keeping),
+            m.kept,
+          ) refl;
           going = step_going t.token m.state t.after t.steps_to (inside o);
         }
 

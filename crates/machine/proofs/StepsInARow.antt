@@ -1,5 +1,5 @@
 -- Steps that are taken or passed over, one list after another: the transitions of both lists together are those of
--- their concatenation (`more`). By induction along the steps.
+-- their concatenation (`joined_steps`). By induction along the steps.
 use Rattle.std.proofs.lemmas.List.{take_more, map-append}
 use Rattle.std.proofs.Common.{◌≡◌, inl, inr, ℕ, ◌+◌, ◌<◌, List, [], ◌∷◌, ◌++◌, take, length}
 use Rattle.std.proofs.Common.{get_or, map, ap, sym, ◌∙◌, subst, arith}
@@ -10,22 +10,22 @@ use Rattle.machine.specs.Machines.{State}
 use Rattle.machine.specs.Runs.{TakesPossible}
 use Rattle.machine.specs.Steps.{IsLike}
 
-pub more : (kinds : List Kind) (quota : ℕ) (w : World) (ms : List (ℕ × Step)) (n : ℕ) (between : World)
+pub joined_steps : (kinds : List Kind) (quota : ℕ) (w : World) (ms : List (ℕ × Step)) (n : ℕ) (between : World)
     (ns : List (ℕ × Step)) (k : ℕ) (after : World)
     → TakesPossible kinds quota w ms n between → TakesPossible kinds quota between ns k after
     → TakesPossible kinds quota w (ms ++ ns) (n + k) after
-more kinds quota w [] n between ns k after h j = let none = h.0 in
+joined_steps kinds quota w [] n between ns k after h j = let none = h.0 in
     subst (λ (m : ℕ). TakesPossible kinds quota w ns m after) (let e : k ≡ n + k = omega arith in e)
     (subst (λ (z : World). TakesPossible kinds quota z ns k after) h.1 j)
-more kinds quota w (m ∷ ms) n between ns k after h j = elim h [
-  | inl t ↦ inl (t.0, t.1, more kinds quota t.0 ms n between ns k after t.2 j)
+joined_steps kinds quota w (m ∷ ms) n between ns k after h j = elim h [
+  | inl t ↦ inl (t.0, t.1, joined_steps kinds quota t.0 ms n between ns k after t.2 j)
   | inr p ↦
       let e = p.2 in inr (
         p.0,
         p.1 + k,
         let f : n + k ≡ p.1 + k + 1 = omega arith in
             f,
-        more kinds quota w ms p.1 between ns k after p.3 j,
+        joined_steps kinds quota w ms p.1 between ns k after p.3 j,
       )
 ]
 

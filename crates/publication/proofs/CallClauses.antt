@@ -10,7 +10,7 @@ use Rattle.model.specs.declared.AnyReply.{AnyReply}
 use Rattle.model.specs.Objects.{Content, empty, kind_of, next}
 use Rattle.desk_model.specs.declared.Request.{Request}
 use Rattle.desk_model.specs.Images.{request_in}
-use Rattle.desk_model.specs.World.{AnyEntry, AnyRequest, AnyAnswer, logged, kind_at, Replays, IsLegal, StartsWith}
+use Rattle.desk_model.specs.World.{AnyEntry, AnyRequest, AnyAnswer, logged, kind_at, Replays, IsLegalLog, StartsWith}
 use Rattle.desk_model.proofs.SameKind.{replays_once}
 use Rattle.desk_invariant.specs.declared.board.Core.{Core}
 use Rattle.desk_invariant.specs.declared.board.Slot.{Slot}
@@ -19,17 +19,17 @@ use Rattle.desk_invariant.specs.declared.board.Own.TheVariants as own
 use Rattle.desk_invariant.specs.declared.board.DeskView.{DeskView}
 use Rattle.desk_invariant.specs.Views.{row_place, seen_of, after_win, after_row_miss, after_pick, after_put_back}
 use Rattle.desk_invariant.specs.Views.{after_answer, after_release}
-use Rattle.desk_invariant.specs.Rule.{Fits}
+use Rattle.desk_invariant.specs.Rule.{CoreFits}
 use Rattle.publication.specs.Handles.{DeskId, Known, PassState, Holding, Handling, log_of}
-use Rattle.publication.specs.Calls.{Opened, Got, NotGot, CanDo, kind_held, Answered, IsPutBack}
+use Rattle.publication.specs.Calls.{IsWon, IsPicked, IsPickMiss, CanDoAfter, kind_held, IsAnsweredCall, IsPutBack}
 
 -- ---- a miss, a release and an answer
 
 -- A miss at the row r tells that the pass got no request there (w: the view after the miss).
-pub not_got : (p : Holding) (d : DeskId) (n : PassState) (r : ℕ) (w : DeskView) (v : Holding) → p ≡ v
+pub pick_misses : (p : Holding) (d : DeskId) (n : PassState) (r : ℕ) (w : DeskView) (v : Holding) → p ≡ v
     → w ≡ after_row_miss (row_place r) v.object v.knows → All (λ b. b.row ≢ r) v.knows.back
-    → NotGot p r (record { desk = d; knows = w; object = v.object; log = v.log; state = n })
-not_got p d n r w v is e none_back = rw is (assumption (e, none_back))
+    → IsPickMiss p r (record { desk = d; knows = w; object = v.object; log = v.log; state = n })
+pick_misses p d n r w v is e none_back = rw is (assumption (e, none_back))
 
 -- After `release` the client knows the log that it left (b: with the core in its slot; d: after the step).
 pub is_released : {S O R : Type 0} (p : Holding) (b d : Me (Slot S O R) DeskView) (v : Holding) (i : ℕ)
@@ -48,36 +48,36 @@ log_is_seen p b d v i s tl is e f low wide = rw (f, e, is)
 
 -- After `answer` the request has this answer, and the log has its entry, if it is a reply (b: with the answer in its
 -- slot; d: after the step).
-pub answered : {S O R : Type 0} (h : Handling) (z : DeskId) (n : PassState) (a : AnyAnswer)
+pub answer_gives : {S O R : Type 0} (h : Handling) (z : DeskId) (n : PassState) (a : AnyAnswer)
     (b d : Me (Slot S O R) DeskView) (v : Handling)
     (log : List AnyEntry) (i : ℕ) (s : Slot S O R) (tl : List (ℕ × Slot S O R)) → h ≡ v → b ≡ (v.knows, (i, s) ∷ tl)
     → d ≡ (after_answer v.row v.object (v.log ++ logged v.row v.request a) b.0, tl)
-    → log ≡ v.log ++ logged v.row v.request a → IsLegal (kind_at v.knows.kinds v.object) log
-    → Answered h a (record { desk = z; knows = d.0; object = v.object; log = log; state = n })
-answered h z n a b d v log i s tl is e f grown legal =
+    → log ≡ v.log ++ logged v.row v.request a → IsLegalLog (kind_at v.knows.kinds v.object) log
+    → IsAnsweredCall h a (record { desk = z; knows = d.0; object = v.object; log = log; state = n })
+answer_gives h z n a b d v log i s tl is e f grown legal =
     rw (is, f, e) (assumption (grown, legal, ap (λ z. after_answer v.row v.object z v.knows) (sym grown)))
 
 -- ---- what the object can do
 
 -- what the object can do by its log is what it can do
 can_do : (kind : Kind) (log : List AnyEntry) (op : AnyOp) (content : Content) → Replays (empty kind) log content
-    → IsSome (next content op) → CanDo kind log op
+    → IsSome (next content op) → CanDoAfter kind log op
 can_do kind log op content h can = (content, h, can)
 
 does : (kind : Kind) (log : List AnyEntry) (op : AnyOp) (content : Content) → Replays (empty kind) log content
-    → CanDo kind log op → IsSome (next content op)
+    → CanDoAfter kind log op → IsSome (next content op)
 does kind log op content h can = rw (replays_once (empty kind) can.0 content log can.1 h) at can.2
 
 -- a test of the object's content tells whether the object can do the request in hand
 pub can_says : (h v : Handling) (content : Content) (b : Bool) → h ≡ v → Replays (empty (kind_held v)) v.log content
-    → (IsTrue b ↔ IsSome (next content v.request.op)) → IsTrue b ↔ CanDo (kind_held h) h.log h.request.op
+    → (IsTrue b ↔ IsSome (next content v.request.op)) → IsTrue b ↔ CanDoAfter (kind_held h) h.log h.request.op
 can_says h v content b is replays can = rw is (
   (λ t. can_do (kind_held v) v.log v.request.op content replays (can.0 t)),
   λ t. can.1 (does (kind_held v) v.log v.request.op content replays t),
 )
 
 pub may_serve : (h v : Handling) (content : Content) → h ≡ v → Replays (empty (kind_held v)) v.log content
-    → CanDo (kind_held h) h.log h.request.op → IsSome (next content v.request.op)
+    → CanDoAfter (kind_held h) h.log h.request.op → IsSome (next content v.request.op)
 may_serve h v content is replays can = does (kind_held v) v.log v.request.op content replays (rw is at can)
 
 -- ---- a request put back, an object opened, a request got
@@ -93,14 +93,14 @@ is_put_back h z n b d v i s tl is e f = rw (is, f, e) assumption
 module _ {S O R : Type 0} (content : S → Content) (op_in : O → AnyOp) (reply_in : R → AnyReply) where
   -- After a win the client has opened the object x, whose log goes on from what it had seen (m: before; a: after the
   -- win; b: with nothing in the slot).
-  pub opened : (c : Known) (x : ℕ) (k core : Core S O R) (l : List AnyEntry) (m a b : Me (Slot S O R) DeskView)
+  pub win_gives : (c : Known) (x : ℕ) (k core : Core S O R) (l : List AnyEntry) (m a b : Me (Slot S O R) DeskView)
       (d : DeskId) (n : PassState)
       → c.desk.kinds ≡ m.0.kinds → c.knows ≡ m.0 → a ≡ (after_win x l m.0, (x, slot.Core k) ∷ m.1)
       → b ≡ (a.0, (x, slot.Nothing) ∷ rest a.1)
-      → core ≡ k → Fits content op_in reply_in (kind_at m.0.kinds x) (get_elem? m.0.lists x) k l
+      → core ≡ k → CoreFits content op_in reply_in (kind_at m.0.kinds x) (get_elem? m.0.lists x) k l
       → StartsWith l (seen_of m.0 x)
-      → Opened c x (record { desk = d; knows = b.0; object = x; log = log_of op_in reply_in core; state = n })
-  opened c x k core l m a b d n kinds is e f same fits begins = rw (f, e, same) record {
+      → IsWon c x (record { desk = d; knows = b.0; object = x; log = log_of op_in reply_in core; state = n })
+  win_gives c x k core l m a b d n kinds is e f same fits begins = rw (f, e, same) record {
     object = refl;
     knows = λ i. after_win x (sym fits.0 i) (sym is i);
     legal = rw (kinds, fits.0) (content k.object, fits.1);
@@ -109,7 +109,7 @@ module _ {S O R : Type 0} (content : S → Content) (op_in : O → AnyOp) (reply
 
 module _ {S O R : Type 0} (op_in : O → AnyOp) where
   -- After a pick the client has got the request of the row r (a: after the pick; b: with nothing in the slot).
-  pub got : (p : Holding) (d : DeskId) (n : PassState) (r : ℕ) (q q' : Request O) (tl : List (ℕ × Slot S O R))
+  pub pick_gives : (p : Holding) (d : DeskId) (n : PassState) (r : ℕ) (q q' : Request O) (tl : List (ℕ × Slot S O R))
       (a b : Me (Slot S O R) DeskView)
       (v : Holding) → p ≡ v → a
       ≡ (after_pick v.object v.log r (request_in op_in q) v.knows, (16 + r, slot.Request q) ∷ tl)
@@ -117,7 +117,7 @@ module _ {S O R : Type 0} (op_in : O → AnyOp) where
       → kind_of (op_in q.op) ≡ kind_at v.knows.kinds v.object
       → All (λ b. b.row ≡ r → b.request ≡ request_in op_in q) v.knows.back
       → ((p : AnyRequest) → r ≡ v.knows.number → v.knows.own ≡ own.Waiting p → request_in op_in q ≡ p)
-      → Got p r (record {
+      → IsPicked p r (record {
         desk = d;
         knows = b.0;
         object = v.object;
@@ -126,4 +126,4 @@ module _ {S O R : Type 0} (op_in : O → AnyOp) where
         row = r;
         request = request_in op_in q';
       })
-  got p d n r q q' tl a b v is e f same on of_kind again is_own = rw (is, f, e, ← same) assumption
+  pick_gives p d n r q q' tl a b v is e f same on of_kind again is_own = rw (is, f, e, ← same) assumption

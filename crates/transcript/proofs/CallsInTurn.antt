@@ -12,7 +12,7 @@ use Rattle.events.specs.declared.event.Action.TheVariants.{Invoke}
 use Rattle.events.specs.declared.event.Event.{Event}
 use Rattle.events.specs.Events.{Follows, IsProper}
 use Rattle.events.proofs.ProcessRuns.{State, idle, MayDo, Runs, runs_from_start}
-use Rattle.recorder.specs.Histories.{AreEventsOf, action_of, events_from}
+use Rattle.recorder.specs.Histories.{AreEventsOf, action_of, events_of_journal}
 use Rattle.recorder.proofs.Journals.{InTurn, none, last, call}
 
 -- a process does in its own events what it does among all
@@ -23,7 +23,7 @@ own_runs p s (e ∷ es) h = let rest = λ (t : State) (k : Runs p t es). own_run
 pub no_return : (x : ℕ) (a : AnyAnswer) → MayDo idle x (action_of a) → ⊥
 no_return x a m = grind arith
 
-turns : (c x : ℕ) (js : List AnyEvent) → Runs c idle (events_from c x js) → InTurn js
+turns : (c x : ℕ) (js : List AnyEvent) → Runs c idle (events_of_journal c x js) → InTurn js
 turns c x [] h = none
 turns c x (Invoked t y op ∷ []) h = last t y op
 turns c x (Invoked t y op ∷ Returned u (Reply r) ∷ js) h =
