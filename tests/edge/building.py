@@ -22,7 +22,7 @@ print(runpy.run_path(f"{top}/callers/build")["are_proved"]([name]))
 
 def copy_of_scripts(top, *names):
     """Copies these scripts, and what they import, into a folder, as those of another repository."""
-    for it in (*names, "crates/sources.py", "crates/usage.py"):
+    for it in (*names, "scripts/arguments.py", "scripts/crates_list.py"):
         os.makedirs(os.path.dirname(f"{top}/{it}"), exist_ok=True)
         shutil.copy(f"{ROOT}/{it}", f"{top}/{it}")
 
