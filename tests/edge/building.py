@@ -47,7 +47,7 @@ def is_taken_for_current(changed):
 
 
 def changed_while_proved(program, report):
-    """A library that is proved is out of date where its crate, or one that it uses, was changed since its proof began."""
+    """A proved library is out of date if its crate, or one that it uses, was changed since its proof began."""
     for changed in ((), ("high",), ("low",)):
         is_current = is_taken_for_current(changed)
         report.equal(f"building: a library is current if {' '.join(changed) or 'nothing'} was changed while it was proved", f"{not changed}\n", is_current)
@@ -77,7 +77,7 @@ def not_named(text):
 
 
 def without_the_kit(program, report):
-    """Where the program is to be built, ./fcbench says that the kit is missing. Help and the finder need none, nor does a program that is built."""
+    """If the program must be built, ./fcbench says that the kit is missing. Help, find, and a program that is built need no kit."""
     if shutil.which("rt", path=BARE):
         return f"SKIPPED: rt is in one of {BARE}"
     top = not_built(program)
@@ -111,7 +111,7 @@ def without_the_kit(program, report):
 
 
 def put_back(program, report):
-    """The verifier is out of date where a source is put back, with the old time of its content."""
+    """The verifier is out of date if a source is put back with the old time of its content."""
     top = not_built(program)
     shutil.copy(program.path, f"{top}/crates/fcbench/out/fcbench")
     is_proved = lambda: subprocess.run([f"{top}/crates/build", "--is-proved"]).returncode  # noqa: E731
@@ -124,9 +124,9 @@ def put_back(program, report):
 
 
 def nothing_to_prove(program, report):
-    """Where the verifier is not proved, and the words are refused or a file cannot be read, ./fcbench says so and proves nothing. Otherwise it
-    begins to, which ends at once here, where the crates have no code. It has no first answer where a pipe is read, and gives the version of
-    the unproved build."""
+    """If a command line is refused or a file cannot be read, ./fcbench says so and proves nothing. Otherwise it begins to prove the verifier,
+    which ends at once here, since the crates have no code. It gives no first answer if a pipe is read. It prints the version of an unproved
+    build."""
     top, folder = not_built(program), f"{program.room}/with_rt"
     os.mkdir(folder)
     with open(f"{folder}/rt", "w") as file:

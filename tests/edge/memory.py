@@ -187,7 +187,7 @@ def refuse(it):
 
 
 def refused_memory(program, report):
-    """Each chosen allocation of each case is refused in a run of its own."""
+    """Each chosen allocation of each case fails in a run of its own, which says that it is out of memory, or answers as usual."""
     tried = 0
     with multiprocessing.get_context("fork").Pool(os.cpu_count()) as pool:
         for case in cases():
@@ -221,7 +221,7 @@ MOST_REFUSED = 60
 
 
 def is_well_without_memory(program, command, whole, ran):
-    """Whether the tools said nothing that does not hold, where each of their processes is refused an allocation. A program in Rust that is refused
+    """Whether the tools gave no wrong yes or no when an allocation of each of their processes failed. A program in Rust that is refused
     memory is ended by a signal, and one that is refused a thread ends with 101."""
     if ran.status not in (0, 1):
         return ran.status in (NO_MEMORY, 4, 70, 101) or ran.status < 0
@@ -231,7 +231,7 @@ def is_well_without_memory(program, command, whole, ran):
 
 
 def refused_memory_of_tools(program, report):
-    """An allocation of each process of judge, find, draw and import is refused: the status is 0 or 1 only where the answer holds."""
+    """An allocation of each process of judge, find, draw and import fails: the status is 0 or 1 only if the answer is right."""
     tried, ended = 0, set()
     for text in OF_THE_TOOLS:
         program.write(HISTORY, text)
@@ -338,7 +338,7 @@ AT_ONCE = 26
 
 
 def bounded_memory_of_calls_at_once(program, report):
-    """Neither does a judgement of many calls at once."""
+    """A judgement of many calls at once takes no more memory than it may."""
     name = program.write("pushes_at_once.edn", pushes_at_once(AT_ONCE))
     status, peak = peak_of(program, "judge", name)
     report.holds(f"memory: judge of {AT_ONCE} pushes at once: status {status}", status in (1, 3))
@@ -349,7 +349,7 @@ def bounded_memory_of_calls_at_once(program, report):
 # A stack of 500,000 calls over 5 values, 8 of them at once, some failed and some pending. It stays open, and takes the most memory of all kinds.
 LONG_STACK = ["--kind", "stack", "--calls", "500000", "--concurrency", "8", "--values", "5", "--fail", "0.05", "--info", "0.02", "--seed", "1"]
 def bounded_memory_of_long_histories(program, report):
-    """Neither does a judgement of a long history take more, beyond its text."""
+    """A judgement of a long history takes no more memory than it may, in addition to its text."""
     folder = f"{program.room}/long_stack"
     os.makedirs(folder)
     subprocess.run([sys.executable, f"{ROOT}/bench/gen.py", "history", folder, *LONG_STACK], check=True, stdout=subprocess.DEVNULL)

@@ -178,7 +178,8 @@ def ended(program, words, stdout=None, **how):
 
 
 def each_status(program, report):
-    """Each cell of the table has an example that ends so. With 4, 64 and 70 nothing is printed, and with 64 standard error says why."""
+    """Each cell of the table of exit statuses has an example that ends with its status. With 4, 64 and 70 nothing is printed, and with 64
+    standard error says why."""
     for name, text in FILES.items():
         os.makedirs(os.path.dirname(f"{program.room}/{name}"), exist_ok=True)
         program.write(name, text)

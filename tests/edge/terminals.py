@@ -76,7 +76,7 @@ def waits_until_it_tells(program):
 
 
 def long_command(program, report):
-    """A command of more than a second says once that it is under way, where standard error is a terminal."""
+    """A command of more than a second says once that it is under way, if standard error is a terminal."""
     program.write(CERTIFICATES, worked_rows.order(1, 0, 4))
     for _ in range(LONG_TRIES):
         ran, times = waits_until_it_tells(program)

@@ -289,7 +289,7 @@ WITH_FILES = re.compile(r"(?:`|^    )(?:fcbench )?([a-z]+)((?: \[?[A-Z]{3,}\]?)+
 
 
 def files_in_pages(program, report):
-    """Where a page names the files of a command, their names are those of its help."""
+    """If a page names the files of a command, it uses the names of the help."""
     for page in sorted(("README.md", *[f"docs/{it}" for it in os.listdir(f"{ROOT}/docs") if it.endswith(".md")])):
         with open(f"{ROOT}/{page}") as file:
             named = [it for it in WITH_FILES.findall(file.read()) if it[0] in (*COMMANDS, *OF_TOOLS)]
@@ -339,7 +339,7 @@ def version(program, report):
 
 
 def accepted(program, report):
-    """A command line that is accepted asks for what its words say. No other file is there."""
+    """An accepted command line does what its words say, on the files that it names."""
     for line, texts, out, status in ACCEPTED:
         words = line.split()
         files = [it for it in words if it.endswith(".edn")]
@@ -359,7 +359,7 @@ def refused(program, report):
 
 
 def refused_words_are_named(program, report):
-    """Where the tools refuse a command line, the first line of standard error says what is wrong and in which word; then comes the usage."""
+    """If the tools refuse a command line, the first line of standard error says what is wrong and in which word; then comes the usage."""
     for line, says in NAMED.items():
         words = line.split() if line else ()
         ran = subprocess.run([program.tools, *words], cwd=program.room, capture_output=True, text=True)
@@ -370,7 +370,7 @@ def refused_words_are_named(program, report):
 
 
 def bad_words_are_told(program, report):
-    """An option that takes one of some words, and is given another, is named, with the words that it takes."""
+    """If an option takes one of some words, and is given another, the error names the option and the words that it takes."""
     kinds = "queue, stack, heap, register, map, mutex, set, counter, lock, mixed"
     for words, said in (
         (("run", "--kind", "tree"), f"error: --kind takes one of the words {kinds}\n"),

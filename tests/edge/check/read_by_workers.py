@@ -1,4 +1,4 @@
-"""Long histories, which workers read in pieces: the verdict is the one of a single worker, which reads the text in one piece.
+"""Long histories, which several workers read in pieces: the verdict is the same as with one worker, which reads the text in one piece.
 
 The histories are those of bench/gen.py, so that the lines of a verdict are known from outside."""
 import functools
@@ -103,7 +103,7 @@ def valid_texts_in_pieces(program, report):
 
 
 def faults_at_seams(program, report):
-    """Faults that no piece has by itself, each by its place: a process that is busy, one that is not, and an object of another kind."""
+    """Faults that no piece shows alone are named with their places: a busy process, an idle one, and an object of another kind."""
     history, certificates, _ = generated(program, "mixed", HISTORIES["mixed"], 0)
     history, certificates = in_all(history, certificates)
     maps = history.count("\n")
@@ -126,7 +126,7 @@ def faults_at_seams(program, report):
 
 
 def judgements_of_long_texts(program, report):
-    """judge, of which both halves read by workers, answers the same with each number of workers: yes, no, and that a history is malformed."""
+    """judge gives the same answer with each number of workers: yes, no, and malformed. Both halves of it read by workers."""
     yes, _, lines = generated(program, "one queue", HISTORIES["one queue"], list(HISTORIES).index("one queue"))
     no = yes + "".join(f"{{:process {OTHER[0]}, :type :{it}, :f :dequeue, :value {value}}}\n" for it, value in (("invoke", "nil"), ("ok", -1)))
     for name, history, status in (("yes", yes, 0), ("no", no, 1), ("malformed", yes + "{:process 0}\n", 2)):
@@ -141,7 +141,7 @@ def judgements_of_long_texts(program, report):
 
 
 def long_texts_are_read_in_pieces(program, report):
-    """A verdict does not tell how the text was read, but the number of allocations does. Each of 16 workers makes several for its piece."""
+    """Sixteen workers read a long text in pieces. The verdict does not show it, but the number of allocations does: several for each piece."""
     words = "--kind all --objects 12 --calls 5200 --concurrency 24 --processes 40 --time --index"
     history, certificates, lines = generated(program, "not long", words, 5)
     orders = program.write("pieces.certificates.edn", certificates)

@@ -119,7 +119,7 @@ def each_read_fails(program, report, words, names, reads):
 
 
 def failing_reads(program, report):
-    """Where any one read fails, its file is named and nothing is printed."""
+    """If one read fails, whichever, its file is named and nothing is printed."""
     for words, files, out, status in proved_runs():
         for name, text in files:
             program.write(name, text)
@@ -140,8 +140,8 @@ MOST_READS = 12
 
 
 def failing_reads_of_tools(program, report):
-    """Where any one read of each process fails, find and draw name the file. judge ends with 4, or says what verify
-    says of the evidence that came."""
+    """If one read fails, whichever, in each process, find and draw name the file. judge ends with 4, or says what verify says with the evidence
+    that came."""
     program.write(HISTORY, worked_rows.OVERLAPPING)
     whole = program.run("judge", HISTORY)
     report.answers("judge, with no read that fails", whole, worked_rows.THREE_YES, 0)
@@ -165,7 +165,7 @@ def failing_reads_of_tools(program, report):
 
 
 def failing_reads_of_long_texts(program, report):
-    """Where any one read of a long history fails, it is named, with one worker and with several: no read is tried again."""
+    """If one read of a long history fails, whichever, the file is named, with one worker and with several: no read is tried again."""
     maps = "".join(f"{{:process 0, :type :{it}, :f :write, :value {n}}}\n" for n in range(12_000) for it in ("invoke", "ok"))
     program.write(HISTORY, maps)
     program.write(CERTIFICATES, worked_rows.order(*range(0, 24_000, 2)))
@@ -179,7 +179,7 @@ def failing_reads_of_long_texts(program, report):
 
 
 def in_pieces(program, report):
-    """Texts that come in pieces, with pauses, and an empty pipe."""
+    """Texts that come in pieces, with pauses, get the usual answer, and so does an empty pipe."""
     for words, files, out, status in (it for it in good_runs() if it[0][0] != "judge"):
         for size in (1, 50):
             ran = through_pipes(program, files, words, size, 0.0002 * size)
@@ -202,7 +202,7 @@ def with_zeros(program, name, length, first=b""):
 
 
 def too_long(program, report):
-    """A text one byte too long, which is no UTF-8, and a device that never ends: nothing in them is looked at."""
+    """A text that is one byte too long, and a device that never ends, are refused before their bytes are looked at."""
     write_good(program)
     with_zeros(program, "long.edn", LONGEST + 1, b"\xff")
     for name in ("long.edn", "/dev/zero"):
@@ -226,7 +226,7 @@ def too_long(program, report):
 
 
 def longest(program, report):
-    """A history of the greatest length, whose last map is at its end, counts to its last byte. So does evidence."""
+    """A history of the greatest length is read to its last byte, and so is evidence. One byte more is a fault."""
     text = worked_rows.OVERLAPPING.encode()
     head, _, last = text.rstrip(b"\n").rpartition(b"\n")
     program.write(CERTIFICATES, worked_rows.order(1, 0, 4))

@@ -261,7 +261,7 @@ def page_without_memory(program, report):
 
 
 def drawn_pages(program, report):
-    """Each situation has the status of judge or check, and a page that is as it must be, in the browser too."""
+    """draw ends with the status of judge or check in each situation, and its page is as it must be, in the browser too."""
     cases = (*situations(program), *options_and_faults(), *hostile(), *extreme(), forty_objects(), many_objects())
     wanted = [*at_once(lambda case: look(program, report, case), cases), page_without_memory(program, report)]
     answers = {it["answer"] for it in wanted if it}
@@ -274,7 +274,7 @@ def drawn_pages(program, report):
 
 
 def drawn_sentences(program, report):
-    """What pages of generated histories say of them is true, with at least OF_EACH of each verdict."""
+    """The sentences on pages of generated histories are true: at least OF_EACH histories of each verdict."""
     counts, said, wrong = collections.Counter(), collections.Counter(), 0
 
     def draw(case):
@@ -301,7 +301,7 @@ def drawn_sentences(program, report):
 
 
 def drawn_faults(program, report):
-    """Of OF_EACH malformed texts of each sort the page marks the place, and what it says is true."""
+    """Pages of malformed texts mark the place of the fault, and what they say of it is true: OF_EACH texts of each sort."""
     counts = {}
 
     def draw(numbered):
@@ -524,7 +524,7 @@ def finding(case, page, told, orders):
 
 
 def falsified_pages(program, report):
-    """What is made false on a page is found, by the check that is to find it and by no other one."""
+    """The checks of these tests find a page that was made false: the check that is meant to find it, and no other."""
     for case, those in falsified():
         drawn, told, orders = run(program, case)
         report.equal(f"draw: {case.name}: nothing is false", set(), finding(case, drawn.out, told, orders))
@@ -550,7 +550,7 @@ FALSIFIED_STYLES = (
 
 
 def falsified_styles(program, report):
-    """What a style makes wrong is found in the browser, and nothing else."""
+    """The checks in the browser find what a wrong style does to a page, and nothing else."""
     if not is_in_browser():
         return
     queue = played(("queue",), 600, 4)

@@ -115,7 +115,7 @@ def said_of(program, path):
 
 
 def explained_codes(program, report):
-    """A text of each fault that is printed is explained by a line that says where and what it is."""
+    """judge explains each code of a malformed history by a line that says where the fault is and what it is."""
     for code, text, wanted in OF_CODES:
         path = program.write("explained.edn", text or "")
         if text is None:
@@ -126,8 +126,7 @@ def explained_codes(program, report):
 
 
 def import_is_advised(program, report):
-    """If import can make a history of a malformed text, judge says with which line of a shell, and that line judges it;
-    otherwise it does not say so."""
+    """If import can make a history of a malformed text, judge prints a line of shell that imports and judges it; otherwise it prints none."""
     for text, options in IMPORTED:
         path = program.write("ad vised.edn", text)
         ran, lines = said_of(program, path)
@@ -140,7 +139,7 @@ def import_is_advised(program, report):
 
 
 def explained_faults(program, report):
-    """Each of these texts is malformed, and a line after that says what is wrong; check says the line of the verifier alone."""
+    """judge says that each text is malformed, and in a second line what is wrong. check prints the first line alone."""
     events = [(f"{{:process 0, :type :invoke, {keys}}}", f"; event 0, line 1: {said}") for keys, said in OF_EVENTS]
     for text, wanted in (*events, *OF_TEXTS):
         path = program.write("explained.edn", text)
@@ -206,8 +205,8 @@ SUMMARIES = (
 
 
 def summaries(program, report):
-    """A yes of a sequential history warns, and so do puts whose replies tell nothing where it is no yes; --summary
-    prints the figures, and find tells them too."""
+    """judge warns of a sequential history to which it says yes, and of puts whose replies tell nothing if it does not say yes. With --summary
+    judge and find print the figures."""
     for text, status, figures, warned in SUMMARIES:
         path = program.write("summarized.edn", text)
         ran = subprocess.run(program.line(("judge", path)), capture_output=True, cwd=program.room, check=False)
@@ -221,7 +220,7 @@ def summaries(program, report):
 
 
 def out_of_steps(program, report):
-    """Where the steps of a search did not suffice, a line on standard error says what to do."""
+    """If a search ran out of steps, a line on standard error says what to do."""
     path = program.write("long.edn", worked_rows.FIRST_WRITE_LAST)
     for steps, wanted in (("7", 1), ("1000000", 0)):
         ran = subprocess.run(program.line(("judge", "--steps", steps, path)), capture_output=True, cwd=program.room, check=False)

@@ -101,8 +101,8 @@ def imports(program, report):
 
 
 def failed_operations(program, report):
-    """A failed removal that says that the queue was empty is left out with a warning, so the history is a yes; or, if the user says so, it is
-    a reply of nil, and the history is a no."""
+    """A failed removal from an empty queue is left out with a warning, and the history is a yes. With an option it is a reply of nil, and the
+    history is a no."""
     for error, option, warns in EMPTIES:
         path = program.write("empty.edn", WRONGLY_EMPTY.format(error))
         left_out, reply = program.run("import", path), program.run("import", option, path)
@@ -113,7 +113,7 @@ def failed_operations(program, report):
 
 
 def failed_swaps(program, report):
-    """Failed swaps are left out with a warning. With the option a store that refuses a swap that it should make gets a no."""
+    """Failed swaps are left out with a warning. With an option they are replies, and a store that wrongly refuses a swap gets a no."""
     for error, option in SWAPS:
         path = program.write("refusing.edn", WRONGLY_REFUSED.format(error))
         left_out, reply = program.run("import", path), program.run("import", option, path)
@@ -238,8 +238,8 @@ def judged_in_words(program, seed):
 
 
 def generated_files(program, report):
-    """Files of tuples, keywords and strings: each operation of the text has the words of the file, by a table that is one to one, and so has
-    the operation that judge names as impossible."""
+    """Imports files of tuples, keywords and strings: the table of names, which is one to one, gives each operation the words of the file, also
+    that which judge names as impossible."""
     for seed, wrong in enumerate(at_once(lambda seed: judged_in_words(program, seed), range(FILES))):
         report.equal(f"import: generated file {seed}", None, wrong)
     return f"{FILES} files"

@@ -527,7 +527,7 @@ LINEARIZABLE = ((PENDING_TAKING, "yes: 4 operations, 1 objects"), (PASSED_ON, "y
 
 
 def planted_bugs(program, report):
-    """What is wrong with each history is told by its sentence and a few operations, which have no valid order."""
+    """judge says in a sentence what is wrong with each history, and lists a few operations, which have no valid order."""
     rows = [(history, sentence, size, size) for history, sentence, size in SMALL]
     rows += [(history, sentence, 1, most) for history, sentence, most in LONG]
     rows += [(history, sentence, 1, 1000) for history, sentence in SENTENCES]

@@ -105,8 +105,8 @@ def uses_of(part, path):
 
 
 def library(program, report):
-    """The library is built where it is missing, needs no kit then, and has five functions in two halves. The proved half calls only what allocates
-    and copies, and has no state; of its functions, a program that uses these alone takes no other code."""
+    """The library is built if it is missing, needs no kit then, and has five functions in two halves. The proved half calls only what allocates
+    and copies, and has no state. A program that uses only its functions is linked with no other code."""
     done(report, "the library is built", [f"{SOURCES}/build"], seconds=SECONDS_TO_PROVE)
     ran = subprocess.run([sys.executable, f"{SOURCES}/build"], env={**os.environ, "PATH": BARE}, capture_output=True, text=True)
     report.equal("embedding: a library that is built, without the kit", (0, ""), (ran.returncode, ran.stderr))
@@ -174,7 +174,7 @@ def of_the_program(program, words):
 
 
 def as_the_program(program, report):
-    """The library answers each example as the program does; and where the buffer is too small, a beginning of it."""
+    """The library answers each example as the program does. If the buffer is too small, it gets the beginning of the answer."""
     if missing("gcc"):
         return missing("gcc")
     answer, every = answering(program, report), list(cases())
@@ -207,7 +207,7 @@ ANSWERS = (
 
 
 def answers_of_each_export(program, report):
-    """Each function of the library: its status and lines, and what of them is in a buffer of 3 bytes and of none."""
+    """Each function of the library gives the expected status and lines, and fills a buffer of 3 bytes, and of none, with their beginning."""
     if missing("gcc"):
         return missing("gcc")
     answer = answering(program, report)
@@ -238,7 +238,7 @@ def is_without_memory(command, whole, ran):
 
 
 def refused_memory_of_calls(program, report):
-    """Each allocation of a call is refused in turn."""
+    """Each allocation of a call fails in turn."""
     if missing("gcc"):
         return missing("gcc")
     answer, count = answering(program, report), 0
@@ -252,7 +252,7 @@ def refused_memory_of_calls(program, report):
 
 
 def c_callers(program, report):
-    """The caller and the recorder in C, and both without a leak or a wrong access."""
+    """The caller and the recorder in C pass their tests, without a leak or a wrong access."""
     if missing("gcc"):
         return missing("gcc")
     judge = built(program, report, C, f"{SOURCES}/c/test_judge.c", "c_judge")
@@ -268,7 +268,7 @@ def c_callers(program, report):
 
 
 def cpp_callers(program, report):
-    """The same in C++."""
+    """The caller and the recorder in C++ pass their tests, without a leak or a wrong access."""
     if missing("g++"):
         return missing("g++")
     judge = built(program, report, CPP, f"{SOURCES}/cpp/test_judge.cpp", "cpp_judge")
@@ -307,7 +307,7 @@ def without_the_library(program, report):
 
 
 def rust_callers(program, report):
-    """The same in Rust: a package without dependencies."""
+    """The caller and the recorder in Rust, a package without dependencies, pass their tests."""
     if missing("cargo"):
         return missing("cargo")
     package = ["--quiet", "--offline", "--manifest-path", f"{SOURCES}/rust/Cargo.toml"]
@@ -329,7 +329,7 @@ def rust_callers(program, report):
 
 
 def python_callers(program, report):
-    """The same in Python, by ctypes."""
+    """The caller and the recorder in Python, by ctypes, pass their tests."""
     said = ""
     for name in ("judge", "recorder"):
         said += done(
@@ -345,7 +345,7 @@ def python_callers(program, report):
 
 
 def go_callers(program, report):
-    """The same in Go, by cgo."""
+    """The caller and the recorder in Go, by cgo, pass their tests."""
     if missing("go", "gcc"):
         return missing("go", "gcc")
     env = {
@@ -361,7 +361,7 @@ def go_callers(program, report):
 
 
 def java_recorder(program, report):
-    """The recorder in Java, on a queue of the JDK and on one with a race."""
+    """The recorder in Java passes its tests, on a queue of the JDK and on one with a race."""
     if missing("javac"):
         return missing("javac")
     room = f"{program.room}/java"
@@ -386,7 +386,7 @@ def dispatcher(program):
 
 
 def clojure_checker(program, report):
-    """The checker for Jepsen: on histories as a store of Jepsen has them, without Jepsen."""
+    """The checker for Jepsen passes its tests, without Jepsen, on histories as a store of Jepsen has them."""
     if missing("clojure"):
         return missing("clojure")
     words = ["clojure", "-cp", f"{SOURCES}/clojure", f"{SOURCES}/clojure/fcbench_test.clj", dispatcher(program)]

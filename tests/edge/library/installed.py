@@ -61,7 +61,7 @@ def times_in(folder):
 
 
 def installed(program, report):
-    """What ./install puts under its prefix: it says each, and a caller is built from it alone."""
+    """./install prints each file that it puts under its prefix, and a caller can be built from these files alone."""
     prefix = f"{program.room}/prefix"
     said = done(report, "./install", [f"{ROOT}/install", prefix], seconds=SECONDS_TO_PROVE)
     report.equal("installed: the files", INSTALLED, put_in(prefix))

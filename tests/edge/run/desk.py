@@ -20,7 +20,7 @@ OUT = b"Error: Kind(OutOfMemory)\n"
 
 
 def refused_reserve(program, report):
-    """Each allocation of the example is refused in a run of its own."""
+    """Each allocation of the desk's example fails in a run of its own."""
     if not os.path.exists(DESK):
         report.holds("desk: the example is built", False, f"{DESK} is missing: rt run in crates/desk_example builds it")
         return None
@@ -53,7 +53,7 @@ REFUSED_PASSES = {
 
 
 def refused_passes(program, report):
-    """Each allocation of these tests is refused in a run of its own."""
+    """Each allocation of two tests of the combiner fails in a run of its own."""
     if not os.path.exists(TESTS):
         report.holds("desk: the tests of the combiner are built", False, f"{TESTS} is missing: rt test in crates/combiner_tests builds it")
         return None

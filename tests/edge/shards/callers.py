@@ -204,7 +204,7 @@ def with_a_finder_that_fails(python, program, report):
 
 
 def shards_by_dask(program, report):
-    """The client for Dask, on workers of one machine, and where a worker is killed by its process id."""
+    """The client for Dask gets the evidence from workers on one machine, also if one of them is killed."""
     python = python_with_dask()
     if not python:
         return "SKIPPED: missing, apt-get update; apt-get install -y python3-distributed"

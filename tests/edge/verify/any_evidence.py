@@ -1,4 +1,4 @@
-"""Evidence of every sort: any bytes, evidence that was spoilt, and what find prints. No evidence leads verify to an answer that does not hold."""
+"""Evidence of every sort: any bytes, evidence that was damaged, and what find prints. No evidence leads verify to a wrong yes or no."""
 import os
 import random
 import re
@@ -111,7 +111,7 @@ def cases_of_spoilt_evidence(program):
 
 
 def spoilt_evidence(program, report):
-    """What find prints decides each short history, and where it is spoilt verify says nothing that does not hold."""
+    """What find prints decides each short history. If it is damaged, verify never gives a wrong yes or no."""
     cases = list(cases_of_spoilt_evidence(program))
     runs = at_once(lambda it: verified(program, it[0], it[2]), cases)
     came = {}
@@ -126,7 +126,7 @@ def spoilt_evidence(program, report):
 
 
 def any_bytes(program, report):
-    """Random bytes, and random words of evidence, lead to no answer that does not hold."""
+    """Random bytes, and random words of evidence, never lead to a wrong yes or no."""
     rng = random.Random("any bytes")
     texts = [rng.randbytes(rng.choice((1, 3, 10, 100, 10_000))) for _ in range(RANDOM)]
     texts += [" ".join(rng.choice(WORDS) for _ in range(rng.choice((2, 5, 20, 200)))).encode() for _ in range(RANDOM)]
@@ -142,7 +142,7 @@ def any_bytes(program, report):
 
 
 def as_check(program, report):
-    """By the certificates of each row of check verify answers yes where check does. Where check refuses an order, verify leaves its object open."""
+    """Gives verify the certificates of each row of check: it says yes if check does. If check refuses an order, verify leaves its object open."""
     for row in (*worked_rows.YES, *worked_rows.NO, *orders_to_find.ROWS):
         if row.words[0] != "check":
             continue
@@ -161,7 +161,7 @@ def as_check(program, report):
 
 
 def as_refute(program, report):
-    """By the reasons of each row of refute verify says no where refute does."""
+    """Gives verify the reasons of each row of refute: it says no if refute does."""
     for row in worked_rows.REFUTATIONS:
         if "malformed reasons" in row.out or row.words[0] != "refute":
             continue
@@ -182,7 +182,7 @@ def as_refute(program, report):
 
 
 def found_evidence(program, report):
-    """What judge says is what verify says by what find prints, of each history that is not linearizable and of each example."""
+    """judge says what verify says with the evidence that find prints, for each example and each history that is not linearizable."""
     texts = [(name, history, options) for name, history, *options in worked_rows.NOT_LINEARIZABLE]
     for name in sorted(os.listdir(EXAMPLES)):
         if name.endswith(".history.edn"):
@@ -257,7 +257,7 @@ FORGED = (
 
 
 def forged_sentences(program, report):
-    """A sentence of the evidence is printed as it is, unless it could be taken for a line that is proved: then there is none."""
+    """verify prints the sentence of a reason, unless a reader could take it for a proved line: then it prints none."""
     history = program.write("forged.history.edn", OF_TWO)
 
     def answer(note):

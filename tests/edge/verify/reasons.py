@@ -329,7 +329,7 @@ def why_not_explained(program, history, ran):
 
 
 def explanations(program, report):
-    """Where judge says that an object is impossible, the operations that it tells are of the history and have no valid order."""
+    """If judge says that an object is impossible, the operations that it lists are in the history and have no valid order."""
     cases = [(name, history, options) for name, history, *options in worked_rows.NOT_LINEARIZABLE]
     for name in sorted(os.listdir(EXAMPLES)):
         stem, _, kind = name.partition(".")
