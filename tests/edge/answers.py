@@ -54,7 +54,7 @@ def through_pipes(program, files, words, size=7, pause=0.0, **how):
     """Runs the program while its files are named pipes, which are fed in pieces of n bytes."""
     threads = []
     for name, text in files:
-        path = f"{program.room}/{name}"
+        path = f"{program.folder}/{name}"
         if os.path.exists(path):
             os.remove(path)
         os.mkfifo(path)
@@ -64,7 +64,7 @@ def through_pipes(program, files, words, size=7, pause=0.0, **how):
         it.start()
     ran = program.run(*words, **how)
     for (name, _), it in zip(files, threads):
-        end_feeder(f"{program.room}/{name}", it)
+        end_feeder(f"{program.folder}/{name}", it)
     return ran
 
 

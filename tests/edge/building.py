@@ -55,7 +55,7 @@ def changed_while_proved(program, report):
 
 def not_built(program):
     """The folder of a repository whose tools are built, and whose verifier has no code and is not built."""
-    top = f"{program.room}/not_built"
+    top = f"{program.folder}/not_built"
     for it in ("out", "src", "specs", "proofs"):
         os.makedirs(f"{top}/crates/fcbench/{it}")
     copy_of_scripts(top, "fcbench", "crates.txt", "crates/build")
@@ -102,7 +102,7 @@ def without_the_kit(program, report):
             report.equal(f"building: ./fcbench {' '.join(words)} needs no kit", (0, own, ""), (ran.returncode, ran.stdout, ran.stderr))
     ran = run()
     report.equal("building: ./fcbench names each command, and needs no kit", (64, "", []), (ran.returncode, ran.stdout, not_named(ran.stderr)))
-    ran = run("find", f"{program.room}/{program.write('of_find.edn', '')}")
+    ran = run("find", f"{program.folder}/{program.write('of_find.edn', '')}")
     report.equal("building: ./fcbench find needs no kit", (0, ""), (ran.returncode, ran.stderr))
     shutil.copy(program.path, f"{top}/crates/fcbench/out/fcbench")
     ran = run("--version")
@@ -127,13 +127,13 @@ def nothing_to_prove(program, report):
     """If a command line is refused or a file cannot be read, ./fcbench says so and proves nothing. Otherwise it begins to prove the verifier,
     which ends at once here, since the crates have no code. It gives no first answer if a pipe is read. It prints the version of an unproved
     build."""
-    top, folder = not_built(program), f"{program.room}/with_rt"
+    top, folder = not_built(program), f"{program.folder}/with_rt"
     os.mkdir(folder)
     with open(f"{folder}/rt", "w") as file:
         file.write("#!/bin/sh\nexit 1\n")
     os.chmod(f"{folder}/rt", 0o755)
     shutil.copy(program.path, f"{top}/crates/fcbench/out/unproved")
-    history = f"{program.room}/{program.write('judged.edn', '')}"
+    history = f"{program.folder}/{program.write('judged.edn', '')}"
     run = script_of(top, f"{folder}:{BARE}")
     for words, status in ((("judge",), 64), (("judge", "--json", history), 64), (("judge", "/not/there.edn"), 4), (("judge", history), 1)):
         ran = run(*words)

@@ -147,7 +147,7 @@ def is_out_of_memory(command, whole, ran):
 def is_other_reason(program, words, whole, ran):
     """Whether a verification or judgement says no as it does with ample memory, and for a reason that holds."""
     history = next(it for it in words if it.endswith(HISTORY))
-    with open(f"{program.room}/{history}") as file:
+    with open(f"{program.folder}/{history}") as file:
         history = file.read()
     return (whole.status, reasons.why_not_explained(program, history, ran)) == (1, None)
 
@@ -300,7 +300,7 @@ def limit_time():
 def peak_of(program, *words):
     """The status of a run, and how much memory each of its processes had at most, in KiB."""
     quiet = {"stdin": subprocess.DEVNULL, "stdout": subprocess.DEVNULL, "stderr": subprocess.DEVNULL}
-    run = subprocess.Popen(program.line(words), cwd=program.room, preexec_fn=limit_time, **quiet)
+    run = subprocess.Popen(program.line(words), cwd=program.folder, preexec_fn=limit_time, **quiet)
     _, status, usage = os.wait4(run.pid, 0)
     run.returncode = os.waitstatus_to_exitcode(status)
     return run.returncode, usage.ru_maxrss
@@ -350,7 +350,7 @@ def bounded_memory_of_calls_at_once(program, report):
 LONG_STACK = ["--kind", "stack", "--calls", "500000", "--concurrency", "8", "--values", "5", "--fail", "0.05", "--info", "0.02", "--seed", "1"]
 def bounded_memory_of_long_histories(program, report):
     """A judgement of a long history takes no more memory than it may, in addition to its text."""
-    folder = f"{program.room}/long_stack"
+    folder = f"{program.folder}/long_stack"
     os.makedirs(folder)
     subprocess.run([sys.executable, f"{ROOT}/bench/gen.py", "history", folder, *LONG_STACK], check=True, stdout=subprocess.DEVNULL)
     history = f"{folder}/history.edn"

@@ -56,7 +56,7 @@ def output_cut_short(program, report):
         resource.setrlimit(resource.RLIMIT_FSIZE, (room, room))
 
     for room in (0, 1, 20, len(whole) - 1):
-        path = f"{program.room}/output"
+        path = f"{program.folder}/output"
         with open(path, "wb") as file:
             ran = program.run("check", HISTORY, CERTIFICATES, stdout=file, preexec_fn=lambda: limit(room))
         with open(path, "rb") as file:

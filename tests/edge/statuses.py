@@ -181,7 +181,7 @@ def each_status(program, report):
     """Each cell of the table of exit statuses has an example that ends with its status. With 4, 64 and 70 nothing is printed, and with 64
     standard error says why."""
     for name, text in FILES.items():
-        os.makedirs(os.path.dirname(f"{program.room}/{name}"), exist_ok=True)
+        os.makedirs(os.path.dirname(f"{program.folder}/{name}"), exist_ok=True)
         program.write(name, text)
     table = dict(in_table())
     report.equal("statuses: the commands of the table", list(EXAMPLES), list(table))

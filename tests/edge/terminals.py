@@ -42,7 +42,7 @@ def on_terminal(program, words, got=None):
     begun = time.monotonic()
     try:
         started = subprocess.Popen(
-            program.line(words), stdin=subprocess.DEVNULL, stdout=subprocess.PIPE, stderr=its, cwd=program.room
+            program.line(words), stdin=subprocess.DEVNULL, stdout=subprocess.PIPE, stderr=its, cwd=program.folder
         )
         os.close(its)
         reader = threading.Thread(target=read_all, args=(own, got))
@@ -66,7 +66,7 @@ def feed_when_told(pipe, text, got):
 
 def waits_until_it_tells(program):
     """A command whose history comes when it has told something, and the seconds at which it did."""
-    pipe, got = f"{program.room}/late.edn", []
+    pipe, got = f"{program.folder}/late.edn", []
     os.mkfifo(pipe)
     late = threading.Thread(target=feed_when_told, args=(pipe, worked_rows.OVERLAPPING.encode(), got))
     late.start()

@@ -347,7 +347,7 @@ def accepted(program, report):
             program.write(name, text)
         report.answers(line, program.run(*words), out, status)
         for name in files:
-            os.remove(f"{program.room}/{name}")
+            os.remove(f"{program.folder}/{name}")
 
 
 def refused(program, report):
@@ -362,7 +362,7 @@ def refused_words_are_named(program, report):
     """If the tools refuse a command line, the first line of standard error says what is wrong and in which word; then comes the usage."""
     for line, says in NAMED.items():
         words = line.split() if line else ()
-        ran = subprocess.run([program.tools, *words], cwd=program.room, capture_output=True, text=True)
+        ran = subprocess.run([program.tools, *words], cwd=program.folder, capture_output=True, text=True)
         first, *more = ran.stderr.splitlines()
         usage = f"Usage: fcbench {words[0]} [OPTIONS] <HISTORY>" if words and words[0] in OF_TOOLS else "Usage: fcbench <COMMAND>"
         is_well = first.startswith("error: ") and says in first and any(it.startswith(usage) for it in more)
@@ -412,7 +412,7 @@ def dispatched(program, report):
     program.write(HISTORY, worked_rows.OVERLAPPING)
     program.write(CERTIFICATES, worked_rows.order(1, 0, 4))
     env = {**os.environ, "FCBENCH": program.path, "FCBENCH_TOOLS": program.tools}
-    script = lambda *words: subprocess.run([DISPATCH, *words], cwd=program.room, env=env, capture_output=True)  # noqa: E731
+    script = lambda *words: subprocess.run([DISPATCH, *words], cwd=program.folder, env=env, capture_output=True)  # noqa: E731
     lines = [("judge", HISTORY), ("find", HISTORY), ("draw", HISTORY), ("search", HISTORY), ("verify", HISTORY, CERTIFICATES)]
     lines += [("check", HISTORY, CERTIFICATES), ("judge",), ("check",), ("--version",)]
     lines += [(it, "--help") for it in (*COMMANDS, *OF_TOOLS)]

@@ -33,7 +33,7 @@ OTHER = 1_000_000, 60_000
 @functools.cache
 def generated(program, name, words, seed):
     """A history of bench/gen.py with its certificates, and the lines of the verdict."""
-    folder = f"{program.room}/pieces {name}"
+    folder = f"{program.folder}/pieces {name}"
     os.makedirs(folder, exist_ok=True)
     made = [sys.executable, f"{ROOT}/bench/gen.py", "history", folder, *words.split(), "--seed", str(seed)]
     subprocess.run(made, check=True, stdout=subprocess.DEVNULL)

@@ -72,7 +72,7 @@ def proved_runs():
 def unreadable(program: Program, report: Report):
     """The first file that cannot be read is named, and nothing is printed."""
     write_good(program)
-    os.makedirs(f"{program.room}/folder", exist_ok=True)
+    os.makedirs(f"{program.folder}/folder", exist_ok=True)
     for name in ("missing.edn", "folder"):
         for words in with_each_file(name):
             ran = program.run(*words)
@@ -86,16 +86,16 @@ def unreadable(program: Program, report: Report):
     ran = program.run("check", "first.edn", "second.edn")
     report.answers("check: both files are missing", ran, "", 4, "fcbench: cannot read first.edn\n")
     # A pipe into which nothing is written: a program that opens it waits.
-    os.mkfifo(f"{program.room}/never.edn")
+    os.mkfifo(f"{program.folder}/never.edn")
     ran = program.run("check", "missing.edn", "never.edn")
     report.answers("check: the history is read first", ran, "", 4, "fcbench: cannot read missing.edn\n")
-    os.remove(f"{program.room}/never.edn")
+    os.remove(f"{program.folder}/never.edn")
     program.write("bad.edn", "007")
     ran = program.run("check", "bad.edn", "missing.edn")
     message = "fcbench: cannot read missing.edn\n"
     report.answers("check: files are read before anything is judged", ran, "", 4, message)
     secret = program.write("secret.edn", worked_rows.OVERLAPPING)
-    os.chmod(f"{program.room}/{secret}", 0)
+    os.chmod(f"{program.folder}/{secret}", 0)
     # The superuser may read every file, so then the program runs as another user.
     how = AS_NOBODY if os.geteuid() == 0 else {}
     for words in with_each_file(secret):
@@ -187,16 +187,16 @@ def in_pieces(program, report):
     ran = through_pipes(program, ((HISTORY, ""), (CERTIFICATES, "")), ("check", HISTORY, CERTIFICATES))
     report.answers("check: two empty pipes", ran, worked_rows.yes(0, 0), 0)
     # Two programs read the history of judge and draw, so it is no pipe.
-    os.mkfifo(f"{program.room}/pipe.edn")
+    os.mkfifo(f"{program.folder}/pipe.edn")
     for words in (("judge", "pipe.edn"), ("draw", "pipe.edn"), ("judge", "-"), ("draw", "-")):
         said = f"fcbench: cannot read {words[1]}: it is read twice, so it must be a file and not a pipe\n"
         report.answers(f"{' '.join(words)}: a pipe", program.run(*words), "", 4, said)
-    os.remove(f"{program.room}/pipe.edn")
+    os.remove(f"{program.folder}/pipe.edn")
 
 
 def with_zeros(program, name, length, first=b""):
     """Makes a file of n bytes, which are zero after the first ones. They take no room on the disk."""
-    with open(f"{program.room}/{name}", "wb") as file:
+    with open(f"{program.folder}/{name}", "wb") as file:
         file.write(first)
         file.truncate(length)
 
@@ -222,7 +222,7 @@ def too_long(program, report):
     with_zeros(program, "long.edn", LONGEST)
     ran = program.run("check", "long.edn", CERTIFICATES)
     report.answers("check: zeros of the greatest length", ran, "malformed history: E9 at byte 0\n", 2)
-    os.remove(f"{program.room}/long.edn")
+    os.remove(f"{program.folder}/long.edn")
 
 
 def longest(program, report):
@@ -230,25 +230,25 @@ def longest(program, report):
     text = worked_rows.OVERLAPPING.encode()
     head, _, last = text.rstrip(b"\n").rpartition(b"\n")
     program.write(CERTIFICATES, worked_rows.order(1, 0, 4))
-    with open(f"{program.room}/longest.edn", "wb") as file:
+    with open(f"{program.folder}/longest.edn", "wb") as file:
         file.write(head + b"\n" + b" " * (LONGEST - len(head) - 1 - len(last)) + last)
     ran = program.run("check", "longest.edn", CERTIFICATES)
     report.answers("check: a history of the greatest length", ran, worked_rows.THREE_YES, 0)
-    with open(f"{program.room}/longest.edn", "ab") as file:
+    with open(f"{program.folder}/longest.edn", "ab") as file:
         file.write(b" ")
     ran = program.run("check", "longest.edn", CERTIFICATES)
     report.answers("check: a history one byte longer", ran, "malformed history: E10 at byte 0\n", 2)
     program.write(HISTORY, worked_rows.OVERLAPPING)
     evidence = worked_rows.order(1, 0, 4).encode()
-    with open(f"{program.room}/longest.edn", "wb") as file:
+    with open(f"{program.folder}/longest.edn", "wb") as file:
         file.write(b" " * (LONGEST - len(evidence)) + evidence)
     ran = program.run("verify", HISTORY, "longest.edn")
     report.answers("verify: evidence of the greatest length", ran, worked_rows.THREE_YES, 0)
-    with open(f"{program.room}/longest.edn", "ab") as file:
+    with open(f"{program.folder}/longest.edn", "ab") as file:
         file.write(b" ")
     ran = program.run("verify", HISTORY, "longest.edn")
     report.answers("verify: evidence one byte longer", ran, "malformed evidence: E10 at byte 0\n", 3)
-    os.remove(f"{program.room}/longest.edn")
+    os.remove(f"{program.folder}/longest.edn")
 
 
 def same_file_twice(program, report):

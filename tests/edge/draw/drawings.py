@@ -190,7 +190,7 @@ def look(program, report, case):
     except Exception as error:  # A page that can't be read is wrong.
         report.holds(f"draw: {case.name}: the page can be read", False, f"{type(error).__name__}: {error} {drawn.out[:300]}")
         return None
-    path = f"{program.room}/{case.stem()}.html"
+    path = f"{program.folder}/{case.stem()}.html"
     with open(path, "wb") as file:
         file.write(drawn.out)
     return wanted_of(case, told, path)
@@ -211,7 +211,7 @@ def in_browser(program, report, wanted):
     """Whether the browser finds nothing wrong with the pages, but with one that has all that a page must not have."""
     if not is_in_browser():
         return
-    broken = f"{program.room}/broken.html"
+    broken = f"{program.folder}/broken.html"
     with open(broken, "w") as file:
         file.write(
             '<body class="yes" style="color:#777;background:#888"><script>1</script><a href="#nowhere">x</a><p id="a">text</p><p id="a">x</p></body>'
@@ -229,7 +229,7 @@ def found_in_browser(program, report, wanted):
     cases = program.write("cases.json", json.dumps(wanted))
     # What was found until the time was over is told.
     line = ["timeout", str(10 * SECONDS), "node", "--experimental-websocket", CHECKS, cases]
-    ran = subprocess.run(line, cwd=program.room, capture_output=True, text=True)
+    ran = subprocess.run(line, cwd=program.folder, capture_output=True, text=True)
     found = [(it["file"], it["bad"]) for it in map(json.loads, ran.stdout.splitlines())]
     missing = {it["file"] for it in wanted} - {file for file, _ in found}
     report.equal("draw: pages at which the browser has not looked", set(), missing, ran.stderr[-2000:])
@@ -249,13 +249,13 @@ def page_without_memory(program, report):
     history, certificates = program.write(HISTORY, worked_rows.OVERLAPPING), program.write(CERTIFICATES, text_writers.order(1, 0, 4))
     _, count, _ = program.counts("check", history, certificates)
     for at in range(1, count + 1):
-        without = f"{program.room}/{program.write('without_memory', WITHOUT_MEMORY.format(at=at, faults=program.faults, program=program.path))}"
+        without = f"{program.folder}/{program.write('without_memory', WITHOUT_MEMORY.format(at=at, faults=program.faults, program=program.path))}"
         os.chmod(without, 0o755)
         ran = program.run("draw", history, certificates, env={"FCBENCH": without})
         if ran.status == 3 and b'<body class="memory">' in ran.out:
             report.equal("draw: the lines of a page without memory", "out of memory", Drawn(ran.out).lines)
             path = program.write("memory.html", ran.out)
-            return {"file": f"{program.room}/{path}", "most": MOST_BYTES, "answer": "memory"}
+            return {"file": f"{program.folder}/{path}", "most": MOST_BYTES, "answer": "memory"}
     report.holds("draw: there is a page without memory", False, count)
     return None
 
@@ -561,7 +561,7 @@ def falsified_styles(program, report):
     wanted = {}
     for number, (name, style, words) in enumerate(FALSIFIED_STYLES):
         page, told, _ = drawn[name]
-        path = f"{program.room}/{program.write(f'style {number}.html', page.out.replace(b'</style>', style.encode() + b'</style>', 1))}"
+        path = f"{program.folder}/{program.write(f'style {number}.html', page.out.replace(b'</style>', style.encode() + b'</style>', 1))}"
         wanted[path] = (style, words, wanted_of(cases[name], told, path))
     for file, bad in found_in_browser(program, report, [it for _, _, it in wanted.values()]):
         style, words, _ = wanted[file]

@@ -132,7 +132,7 @@ def nemesis_room(program, report):
 
 def named_pages(program, report):
     """With the table of names that import wrote, the page and the lines of judge on it use these names for values, keys, processes and objects."""
-    names = f"{program.room}/names.edn"
+    names = f"{program.folder}/names.edn"
     text = program.write("named.edn", program.run("import", "--names", names, program.write("store.edn", STORE)).out)
     drawn, told = (program.run(it, "--names", names, text) for it in ("draw", "judge"))
     page = Drawn(drawn.out)
@@ -154,7 +154,7 @@ def named_pages(program, report):
 
 def named_events(program, report):
     """Events of a history with an initial value keep their own numbers, also in the sentence on the first one, and in --from and --to."""
-    names = f"{program.room}/names.edn"
+    names = f"{program.folder}/names.edn"
     made = program.run("import", "--initial", "0", "--names", names, program.write("initial.edn", INITIAL))
     text = program.write("named.edn", made.out)
     page = Drawn(program.run("draw", "--names", names, text).out)
@@ -166,7 +166,7 @@ def named_events(program, report):
 
 def named_keys(program, report):
     """A sentence on a key of a map uses the name of the key, and sentences and tables use the names of objects."""
-    names = f"{program.room}/names.edn"
+    names = f"{program.folder}/names.edn"
     text = program.write("named.edn", program.run("import", "--names", names, program.write("keyed.edn", KEYED)).out)
     page = Drawn(program.run("draw", "--names", names, text).out)
     said = " ".join(page.said)

@@ -136,8 +136,8 @@ def scripts_of_wrong_evidence(program):
 
 def finder(program, name, script, evidence):
     """Writes a finder: a script, for which $evidence is a file with this evidence."""
-    file = f"{program.room}/{program.write(f'finder.{name}.edn', evidence)}"
-    path = f"{program.room}/{program.write(f'finder.{name}', lines('#!/bin/sh', f'evidence={file}', script))}"
+    file = f"{program.folder}/{program.write(f'finder.{name}.edn', evidence)}"
+    path = f"{program.folder}/{program.write(f'finder.{name}', lines('#!/bin/sh', f'evidence={file}', script))}"
     os.chmod(path, 0o755)
     return path
 
@@ -272,12 +272,12 @@ def finders_that_cannot_start(program, report):
     """If the finder is missing, may not be run, or is another program, there is no evidence, and standard error says why."""
     program.write("finder.0.edn", "")
     program.write("finder.text", "{:object 0, :order [1 0 4]}")
-    os.makedirs(f"{program.room}/finder.folder", exist_ok=True)
+    os.makedirs(f"{program.folder}/finder.folder", exist_ok=True)
     missing = b"the finder cannot be started, so there is no evidence"
     finders = {
         "a finder that is not there": ("/not/there", missing),
-        "a finder that may not be run": (f"{program.room}/finder.text", missing),
-        "a folder for a finder": (f"{program.room}/finder.folder", missing),
+        "a finder that may not be run": (f"{program.folder}/finder.text", missing),
+        "a folder for a finder": (f"{program.folder}/finder.folder", missing),
         "the proved program for a finder": (program.path, b"the finder failed"),
         "a finder that says nothing": ("/bin/true", b""),
     }

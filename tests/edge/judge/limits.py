@@ -46,7 +46,7 @@ def started(program, *words, env=None):
     """Starts a command, of a group of processes of its own."""
     own = {name: value for name, value in os.environ.items() if name not in ("FCBENCH", "FCBENCH_FINDER")}
     return subprocess.Popen(program.line(words), stdin=subprocess.DEVNULL, stdout=subprocess.PIPE, stderr=subprocess.PIPE,
-                            env={**own, **(env or {})}, cwd=program.room, start_new_session=True)
+                            env={**own, **(env or {})}, cwd=program.folder, start_new_session=True)
 
 
 def ended(child):

@@ -443,7 +443,7 @@ MOST_SECONDS = 1
 
 def generated(program, kind, words):
     """Makes a history and returns its name, and the answer for it."""
-    folder = f"{program.room}/generated"
+    folder = f"{program.folder}/generated"
     os.makedirs(folder, exist_ok=True)
     words = ["--kind", kind, "--fail", "0.05", *words.split()]
     subprocess.run([sys.executable, f"{ROOT}/bench/gen.py", "history", folder, *words], check=True, stdout=subprocess.DEVNULL)

@@ -15,7 +15,7 @@ def refused_heaps(program, report):
     if not os.path.exists(TESTS):
         report.holds("heap: the tests of objects are built", False, f"{TESTS} is missing: rt test in crates/object_tests builds it")
         return None
-    tests, tried = alone(TESTS, program.room), 0
+    tests, tried = alone(TESTS, program.folder), 0
     for name in (COMPARES, LEAVES):
         whole, count, _ = tests.counts(name)
         report.holds(f"heap: {name}: with ample memory", whole.status == 0, whole)

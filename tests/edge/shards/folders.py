@@ -62,8 +62,8 @@ def folders_that_cannot_be_written(program, report):
     """A folder that cannot be made or written is named, and so is a history that cannot be read."""
     whole = program.write("whole.edn", TWO_QUEUES)
     program.write("file", "")
-    os.makedirs(f"{program.room}/locked")
-    os.chmod(f"{program.room}/locked", 0o555)
+    os.makedirs(f"{program.folder}/locked")
+    os.chmod(f"{program.folder}/locked", 0o555)
     how = AS_NOBODY if os.geteuid() == 0 else {}
     for name, more in (("file", {}), ("locked", how), ("locked/shards", how)):
         ran = program.run("split", whole, name, **more)

@@ -86,7 +86,7 @@ def maps_of(on, count, process):
 
 def large_objects(program, report):
     """split names the shards with more than a million maps, then the objects with more than a million, and none with exactly a million."""
-    with open(f"{program.room}/large.edn", "w", encoding="ascii") as file:
+    with open(f"{program.folder}/large.edn", "w", encoding="ascii") as file:
         for process, (on, count) in enumerate(LARGE.items()):
             file.write(maps_of(on, count, process))
     folder = Folder(program, "large", 4)
