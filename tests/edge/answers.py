@@ -154,7 +154,7 @@ def beginnings(program, report):
         return program.run("check", first, second)
 
     cuts = [(it, len(certificates)) for it in range(len(history) + 1)]
-    cuts += [(len(history), it) for it in range(len(certificates))]
+    cuts += [(len(history), number) for number in range(len(certificates))]
     for cut, ran in zip(cuts, at_once(run, cuts)):
         is_well = statuses.get(ran.out[:5]) == ran.status and ran.err == b"" and ran.out.endswith(b"\n")
         report.holds(f"check: the first {cut[0]} and {cut[1]} bytes of the texts of two queues", is_well, ran)
@@ -256,7 +256,7 @@ def is_accepted(program, output):
     texts = output.decode().splitlines()
     history = [it for it in texts if not it.startswith(";")]
     certificates = [it[2:] for it in texts if it.startswith("; {")]
-    comments = [it[2:] for it in texts if it.startswith("; ") and not it.startswith(("; {", "; refused steps"))]
+    comments = [text[2:] for text in texts if text.startswith("; ") and not text.startswith(("; {", "; refused steps"))]
     stem = f"accepted.{os.getpid()}.{threading.get_ident()}"
     first = program.write(f"{stem}.history.edn", lines(*history))
     second = program.write(f"{stem}.certificates.edn", lines(*certificates))

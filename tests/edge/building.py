@@ -73,7 +73,7 @@ def script_of(top, path):
 
 def not_named(text):
     """The commands that a text does not name."""
-    return [it for it in (*COMMANDS, *OF_TOOLS) if not re.search(rf"\b{it}\b", text)]
+    return [command for command in (*COMMANDS, *OF_TOOLS) if not re.search(rf"\b{command}\b", text)]
 
 
 def without_the_kit(program, report):
@@ -95,9 +95,9 @@ def without_the_kit(program, report):
         ran = run(*words)
         came = (ran.returncode, not_named(ran.stdout), ran.stderr)
         report.equal(f"building: ./fcbench {' '.join(words)} names each command, and needs no kit", (0, [], ""), came)
-    for it in OF_TOOLS:
-        own = program.run(it, "--help").out.decode()
-        for words in ((it, "--help"), ("help", it)):
+    for command in OF_TOOLS:
+        own = program.run(command, "--help").out.decode()
+        for words in ((command, "--help"), ("help", command)):
             ran = run(*words)
             report.equal(f"building: ./fcbench {' '.join(words)} needs no kit", (0, own, ""), (ran.returncode, ran.stdout, ran.stderr))
     ran = run()

@@ -50,7 +50,7 @@ def of_row(row, *more, stride=1):
     name = f"{row.name} {' '.join(more)}".strip()
     stem = "".join(it if it.isalnum() else "_" for it in name)
     names = {file: f"{stem}.{file}" for file, _ in row.files()}
-    words = (row.words[0], *more, *[names.get(it, it) for it in row.words[1:]])
+    words = (row.words[0], *more, *[names.get(word, word) for word in row.words[1:]])
     return Case(name, words, tuple((names[file], text) for file, text in row.files()), stride)
 
 
@@ -93,7 +93,7 @@ def cases():
             yield of_row(it)
     for name, history, *_ in (it for it in worked_rows.NOT_LINEARIZABLE if len(it[1]) < LONG):
         yield of_row(worked_rows.verify(name, history, "{:object 0} {:object 3}", "", 1), stride=3)
-    yield of_row(next(it for it in worked_rows.YES if it.texts[0] == worked_rows.TWO_QUEUES), "--workers", "4")
+    yield of_row(next(row for row in worked_rows.YES if row.texts[0] == worked_rows.TWO_QUEUES), "--workers", "4")
     yield Case(" ".join(ONE_CLIENT), ONE_CLIENT)
     for kind in workloads.KINDS_OF_A_RUN:
         words = ("run", "--kind", kind, "--clients", "2", "--calls", "3")
@@ -146,7 +146,7 @@ def is_out_of_memory(command, whole, ran):
 
 def is_other_reason(program, words, whole, ran):
     """Whether a verification or judgement says no as it does with ample memory, and for a reason that holds."""
-    history = next(it for it in words if it.endswith(HISTORY))
+    history = next(word for word in words if word.endswith(HISTORY))
     with open(f"{program.folder}/{history}") as file:
         history = file.read()
     return (whole.status, reasons.why_not_explained(program, history, ran)) == (1, None)

@@ -84,7 +84,7 @@ class Program:
         name = f"{self.folder}/counts.{os.getpid()}"
         ran = self.run(*words, faults={"COUNT_TO": name})
         with open(name) as file:
-            return ran, [int(it) for it in file.read().split()]
+            return ran, [int(count) for count in file.read().split()]
 
     def counts(self, *words):
         """Runs the program of these words, and returns also how many allocations and reads it made."""
@@ -101,8 +101,8 @@ class Program:
             valgrind = ["valgrind", "--tool=callgrind", "--trace-children=yes", f"--callgrind-out-file={folder}/%p"]
             subprocess.run([*valgrind, *self.line(words)], cwd=self.folder, stdout=subprocess.DEVNULL, stderr=subprocess.DEVNULL)
             counted = 0
-            for it in os.scandir(folder):
-                with open(it.path, encoding="utf-8") as file:
+            for entry in os.scandir(folder):
+                with open(entry.path, encoding="utf-8") as file:
                     counted += int(re.search(r"^(?:totals|summary): (\d+)", file.read(), re.M)[1])
             return counted
 

@@ -290,7 +290,7 @@ WITH_FILES = re.compile(r"(?:`|^    )(?:fcbench )?([a-z]+)((?: \[?[A-Z]{3,}\]?)+
 
 def files_in_pages(program, report):
     """If a page names the files of a command, it uses the names of the help."""
-    for page in sorted(("README.md", *[f"docs/{it}" for it in os.listdir(f"{ROOT}/docs") if it.endswith(".md")])):
+    for page in sorted(("README.md", *[f"docs/{name}" for name in os.listdir(f"{ROOT}/docs") if name.endswith(".md")])):
         with open(f"{ROOT}/{page}") as file:
             named = [it for it in WITH_FILES.findall(file.read()) if it[0] in (*COMMANDS, *OF_TOOLS)]
         for command, files in named:
@@ -342,7 +342,7 @@ def accepted(program, report):
     """An accepted command line does what its words say, on the files that it names."""
     for line, texts, out, status in ACCEPTED:
         words = line.split()
-        files = [it for it in words if it.endswith(".edn")]
+        files = [word for word in words if word.endswith(".edn")]
         for name, text in zip(files, texts):
             program.write(name, text)
         report.answers(line, program.run(*words), out, status)

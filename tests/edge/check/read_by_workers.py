@@ -47,7 +47,7 @@ def generated(program, name, words, seed):
 def same_with_each(program, report, name, history, certificates, workers=WORKERS):
     """The verdict is the same with each number of workers, of check and of verify. Returns the one of a single worker."""
     files = program.write("pieces.history.edn", history), program.write("pieces.certificates.edn", certificates)
-    lines = [(command, *files, "--workers", it) for command in COMMANDS for it in workers]
+    lines = [(command, *files, "--workers", worker) for command in COMMANDS for worker in workers]
     whole, *others = at_once(lambda it: program.run(*it), lines)
     report.holds(f"pieces: {name}: one worker", whole.status in (0, 2) and whole.out and not whole.err, whole)
     for (command, *_, it), ran in zip(lines[1:], others):
@@ -93,7 +93,7 @@ def valid_texts_in_pieces(program, report):
         report.holds(f"pieces: {name}: is long", len(history) >= LEAST_LENGTH, len(history))
         whole = same_with_each(program, report, name, history, certificates)
         report.answers(f"pieces: {name}: verdict", whole, lines, 0)
-        operations, objects = (int(it) for it in re.match(r"yes: (\d+) operations, (\d+) objects", lines).groups())
+        operations, objects = (int(group) for group in re.match(r"yes: (\d+) operations, (\d+) objects", lines).groups())
         whole = same_with_each(program, report, f"{name}: an operation over all pieces", *in_all(history, certificates))
         report.holds(f"pieces: {name}: one more", whole.out.startswith(f"yes: {operations + 1} operations, {objects + 1} objects\n".encode()), whole)
         if name == "mixed":

@@ -237,7 +237,7 @@ def texts_are_refused(program, report):
 
 def with_key_again(before, keys, again):
     """After `before` a map of this many keys, then one of them once more, or a new one, and where that is."""
-    text = before + "{" + "".join(f":key-{it} {it}, " for it in range(keys))
+    text = before + "{" + "".join(f":key-{number} {number}, " for number in range(keys))
     return text + f":key-{again} nil}}", len(text)
 
 

@@ -58,7 +58,7 @@ def good_runs():
     yield ("search", HISTORY), (history,), worked_rows.order(1, 0, 4), 0
     yield ("find", HISTORY), (history,), worked_rows.order(1, 0, 4), 0
     yield ("judge", HISTORY), (history,), worked_rows.THREE_YES, 0
-    refuted = next(it for it in worked_rows.REFUTATIONS if it.name == "refute: two of three values")
+    refuted = next(row for row in worked_rows.REFUTATIONS if row.name == "refute: two of three values")
     yield ("refute", HISTORY, REASONS), refuted.files(), refuted.out, 1
     yield ("verify", HISTORY, EVIDENCE), (history, (EVIDENCE, worked_rows.order(1, 0, 4))), worked_rows.THREE_YES, 0
     yield ("simulate", SCHEDULE), ((SCHEDULE, worked_rows.SERVED_BY_ANOTHER),), worked_rows.SERVED_LINES, 0
@@ -66,7 +66,7 @@ def good_runs():
 
 def proved_runs():
     """Those of them that the proved program does alone."""
-    return (it for it in good_runs() if it[0][0] not in OF_TOOLS)
+    return (run for run in good_runs() if run[0][0] not in OF_TOOLS)
 
 
 def unreadable(program: Program, report: Report):
@@ -151,7 +151,7 @@ def failing_reads_of_tools(program, report):
         runs = [program.run(*words, faults={"FAIL_READ_AT": at}) for at in range(1, MOST_READS + 1)]
         are_well = [is_named(it, HISTORY) or it.status >= 3 and it.out == b"" or (it.status, it.out) == (good.status, good.out) for it in runs]
         report.equal(f"{words[0]}: runs in which a read fails, and that are wrong", [], [it for it, is_well in zip(runs, are_well) if not is_well])
-        report.holds(f"{words[0]}: where it cannot be read the file is named", any(is_named(it, HISTORY) for it in runs), runs)
+        report.holds(f"{words[0]}: where it cannot be read the file is named", any(is_named(run, HISTORY) for run in runs), runs)
     failed = 0
     for at in range(1, MOST_READS + 1):
         for more in ({}, {"READ_AT_MOST": 1}):
@@ -180,7 +180,7 @@ def failing_reads_of_long_texts(program, report):
 
 def in_pieces(program, report):
     """Texts that come in pieces, with pauses, get the usual answer, and so does an empty pipe."""
-    for words, files, out, status in (it for it in good_runs() if it[0][0] != "judge"):
+    for words, files, out, status in (run for run in good_runs() if run[0][0] != "judge"):
         for size in (1, 50):
             ran = through_pipes(program, files, words, size, 0.0002 * size)
             report.answers(f"{' '.join(words)}, through pipes in pieces of {size}", ran, out, status)

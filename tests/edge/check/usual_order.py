@@ -45,7 +45,7 @@ FORMS = (usual, index_first, with_a_note, type_first, spread)
 
 def pairs_of(text):
     """The pairs of a map that is written in the usual form."""
-    return [tuple(it.split(" ", 1)) for it in text.removeprefix("{").removesuffix("}").split(", ")]
+    return [tuple(pair.split(" ", 1)) for pair in text.removeprefix("{").removesuffix("}").split(", ")]
 
 
 def invoke(f, value, more="", process="0"):
@@ -189,7 +189,7 @@ def earlier(number, form):
     """Complete calls of process 9 on object 9."""
     more = ", :object 9, :time 1"
     maps = [(invoke, ok)[it % 2]("insert", str(it // 2), more, "9") for it in range(number)]
-    return "".join(f"{form(pairs_of(it))}\n" for it in maps)
+    return "".join(f"{form(pairs_of(map_text))}\n" for map_text in maps)
 
 
 def rewritten(text, form):
@@ -327,9 +327,9 @@ def usual_histories():
     """Of each kind of object, and in each usual order: a history of some 500 maps, and its certificate."""
     for maps, _ in GOOD[:6]:
         maps = maps * (500 // len(maps))
-        order = " ".join(str(it) for it in range(0, len(maps), 2))
+        order = " ".join(str(number) for number in range(0, len(maps), 2))
         for form in (usual, index_first, with_a_node):
-            yield "".join(f"{form(pairs_of(it))}\n" for it in maps), f"{{:object 0, :order [{order}]}}\n"
+            yield "".join(f"{form(pairs_of(map_text))}\n" for map_text in maps), f"{{:object 0, :order [{order}]}}\n"
 
 
 def long_orders():

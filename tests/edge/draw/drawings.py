@@ -96,7 +96,7 @@ def lines_of(told):
     """The lines of judge or check as the page has them: of very many the first ones, and of a very long one the beginning."""
     lines = told.out.decode().removesuffix("\n").split("\n")
     more = len(lines) - MOST_LINES
-    shown = [it if len(it.encode()) <= LONGEST_LINE else it[:LONGEST_LINE] + "…" for it in lines[:MOST_LINES]]
+    shown = [line if len(line.encode()) <= LONGEST_LINE else line[:LONGEST_LINE] + "…" for line in lines[:MOST_LINES]]
     return "\n".join(shown + ([f"… {sentences.grouped(more)} more line{'' if more == 1 else 's'}"] if more > 0 else []))
 
 
@@ -123,7 +123,7 @@ def why_heading_false(page, code):
     if not heading.endswith(HEADINGS["C1"] if code == "C1" else HEADINGS.get(page.answer, "")):
         return f"the heading is {heading}"
     wanted = NO_ORDER if code == "C1" else REFUSED
-    is_said = any(it.startswith(wanted) for it in page.said)
+    is_said = any(sentence.startswith(wanted) for sentence in page.said)
     return None if is_said or code in (None, "C2") else f"it does not say {wanted}: {page.said}"
 
 
@@ -293,11 +293,11 @@ def drawn_sentences(program, report):
         wrong += why is not None
     few = {it: counts[it] for it in VERDICTS if counts[it] < OF_EACH}
     report.equal("draw: of these verdicts there are too few generated histories", {}, few)
-    forms = [*sentences.FORMS, "general", *sentences.ENDINGS, *[f"aside {it}" for it in range(len(sentences.ASIDES))]]
+    forms = [*sentences.FORMS, "general", *sentences.ENDINGS, *[f"aside {number}" for number in range(len(sentences.ASIDES))]]
     # A range of first events is said only of histories that are too long for all their beginnings to be tried.
     rare = {it: said[it] for it in forms if said[it] < OF_EACH_FORM and it != "first_events"}
     report.equal("draw: these sentences are said too rarely", {}, rare)
-    return f"{sum(counts.values())} pages, {wrong} false, of each sentence at least {min(said[it] for it in forms)}"
+    return f"{sum(counts.values())} pages, {wrong} false, of each sentence at least {min(said[form] for form in forms)}"
 
 
 def drawn_faults(program, report):
@@ -528,7 +528,7 @@ def falsified_pages(program, report):
     for case, those in falsified():
         drawn, told, orders = run(program, case)
         report.equal(f"draw: {case.name}: nothing is false", set(), finding(case, drawn.out, told, orders))
-        for names, (old, new) in ((names, it) for names, pairs in those.items() for it in pairs):
+        for names, (old, new) in ((names, pair) for names, pairs in those.items() for pair in pairs):
             page = drawn.out.replace(old.encode(), new.encode(), 1)
             report.holds(f"draw: {case.name} has {old}", page != drawn.out, drawn.out[:3000])
             report.equal(f"draw: {case.name} with {new} in place of {old}: what finds it", set(names.split()), finding(case, page, told, orders))
@@ -580,7 +580,7 @@ def rounds(processes, maps, on=None):
         begun, values = len(made), range(value, value + count)
         made += [text_writers.invoke(it, "enqueue", value + it, on) for it in range(count)]
         made += [text_writers.ok(it, "enqueue", value + it, on) for it in range(count)]
-        made += [text_writers.invoke(it, "dequeue", None, on) for it in range(count)]
+        made += [text_writers.invoke(number, "dequeue", None, on) for number in range(count)]
         made += [text_writers.ok(it, "dequeue", own, on) for it, own in enumerate(values)]
         order += [*range(begun, begun + count), *range(begun + 2 * count, begun + 3 * count)]
         value += count
@@ -595,7 +595,7 @@ def with_wrong_reply(maps, at):
 
 def with_value_twice(maps, at):
     """The history in which a value that is taken out after a map is the one that was taken out before."""
-    one, other = itertools.islice((it for it in range(at, len(maps)) if ":ok" in maps[it] and ":dequeue" in maps[it]), 2)
+    one, other = itertools.islice((number for number in range(at, len(maps)) if ":ok" in maps[number] and ":dequeue" in maps[number]), 2)
     value = re.search(r":value (\d+)", maps[one])[1]
     return [*maps[:other], re.sub(r":value \d+", f":value {value}", maps[other]), *maps[other + 1 :]]
 
@@ -660,7 +660,7 @@ def rounds_of_a_map(processes, maps):
         made += [text_writers.ok(it, "put", before[it]) for it in range(processes)]
         before = {it: value + it for it in range(processes)}
         made += [text_writers.invoke(it, "get", it) for it in range(processes)]
-        made += [text_writers.ok(it, "get", before[it]) for it in range(processes)]
+        made += [text_writers.ok(number, "get", before[number]) for number in range(processes)]
         value += processes
     return made
 

@@ -166,7 +166,7 @@ def as_refute(program, report):
         if "malformed reasons" in row.out or row.words[0] != "refute":
             continue
         files = program.write(HISTORY, row.texts[0]), program.write(EVIDENCE, row.texts[1])
-        ran = program.run("verify", *[it for it in row.words[1:] if it not in (HISTORY, REASONS)], *files)
+        ran = program.run("verify", *[word for word in row.words[1:] if word not in (HISTORY, REASONS)], *files)
         name = f"verify: the texts of {row.name}"
         if row.status == 1:
             report.equal(name, (1, None), (ran.status, why_not_explained(program, row.texts[0], ran)))
@@ -210,7 +210,7 @@ def found_evidence(program, report):
 
 def many_claims(program, report):
     """Evidence of many claims, and of many objects, is checked claim by claim."""
-    wrong = lines(*[certificate(0, it) for it in range(20_000)])
+    wrong = lines(*[certificate(0, number) for number in range(20_000)])
     ran = verified(program, worked_rows.OVERLAPPING, wrong + worked_rows.order(1, 0, 4))
     report.answers("verify: a valid order after 20,000 wrong ones", ran, worked_rows.THREE_YES, 0)
     ran = verified(program, worked_rows.THREE_VALUES, wrong)
