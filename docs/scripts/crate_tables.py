@@ -22,19 +22,19 @@ ROW = re.compile(r"\| `(\w+)` \| (.*) \|([^|]*)\|$")
 
 def groups():
     """The headings of crates.txt, each with its crates and what these depend on."""
-    found, used = [], dependencies()
+    headings, used = [], dependencies()
     with open(LIST) as file:
         for line in map(str.strip, file):
             if line.startswith("# ") and not line.startswith("# Each line"):
-                found.append((line[2:], []))
+                headings.append((line[2:], []))
             elif name := re.match(r"\w+", line):
-                found[-1][1].append((name[0], used[name[0]]))
-    return found
+                headings[-1][1].append((name[0], used[name[0]]))
+    return headings
 
 
 def cell_of(used, own):
     """The last cell of a row: crates of this repository, then those of the kit."""
-    names = [f"`{it}`" for it in used if it in own] + [f"*{it}*" for it in used if it not in own]
+    names = [f"`{crate}`" for crate in used if crate in own] + [f"*{crate}*" for crate in used if crate not in own]
     return f" {' '.join(names)} " if names else "  "
 
 

@@ -125,7 +125,7 @@ def faults_in(folder):
     """Compiles faults.c in a folder, unless it is there."""
     faults = f"{folder}/faults.so"
     if not os.path.exists(faults):
-        compiler = next((it for it in ("cc", "gcc", "clang") if shutil.which(it)), "cc")
+        compiler = next((name for name in ("cc", "gcc", "clang") if shutil.which(name)), "cc")
         source = f"{os.path.dirname(os.path.realpath(__file__))}/faults.c"
         subprocess.run([compiler, "-O2", "-shared", "-fPIC", "-o", faults, source], check=True)
     return faults
@@ -188,4 +188,5 @@ class Report:
         self.equal(name, Ran(status, out, err), ran)
 
     def last_line(self):
+        """Returns the line with both counts, the last that a script prints."""
         return f"{self.passed} passed, {len(self.failed)} failed"

@@ -295,7 +295,7 @@ def drawn_sentences(program, report):
     report.equal("draw: of these verdicts there are too few generated histories", {}, few)
     forms = [*sentences.FORMS, "general", *sentences.ENDINGS, *[f"aside {number}" for number in range(len(sentences.ASIDES))]]
     # A range of first events is said only of histories that are too long for all their beginnings to be tried.
-    rare = {it: said[it] for it in forms if said[it] < OF_EACH_FORM and it != "first_events"}
+    rare = {form: said[form] for form in forms if said[form] < OF_EACH_FORM and form != "first_events"}
     report.equal("draw: these sentences are said too rarely", {}, rare)
     return f"{sum(counts.values())} pages, {wrong} false, of each sentence at least {min(said[form] for form in forms)}"
 
@@ -578,8 +578,8 @@ def rounds(processes, maps, on=None):
     while len(made) < maps:
         count = min(processes, (maps - len(made)) // 4)
         begun, values = len(made), range(value, value + count)
-        made += [text_writers.invoke(it, "enqueue", value + it, on) for it in range(count)]
-        made += [text_writers.ok(it, "enqueue", value + it, on) for it in range(count)]
+        made += [text_writers.invoke(number, "enqueue", value + number, on) for number in range(count)]
+        made += [text_writers.ok(number, "enqueue", value + number, on) for number in range(count)]
         made += [text_writers.invoke(number, "dequeue", None, on) for number in range(count)]
         made += [text_writers.ok(it, "dequeue", own, on) for it, own in enumerate(values)]
         order += [*range(begun, begun + count), *range(begun + 2 * count, begun + 3 * count)]
@@ -656,10 +656,10 @@ def rounds_of_a_map(processes, maps):
     made, value = [], 0
     before = dict.fromkeys(range(processes))
     while len(made) < maps:
-        made += [text_writers.invoke(it, "put", (it, value + it)) for it in range(processes)]
-        made += [text_writers.ok(it, "put", before[it]) for it in range(processes)]
-        before = {it: value + it for it in range(processes)}
-        made += [text_writers.invoke(it, "get", it) for it in range(processes)]
+        made += [text_writers.invoke(number, "put", (number, value + number)) for number in range(processes)]
+        made += [text_writers.ok(number, "put", before[number]) for number in range(processes)]
+        before = {number: value + number for number in range(processes)}
+        made += [text_writers.invoke(number, "get", number) for number in range(processes)]
         made += [text_writers.ok(number, "get", before[number]) for number in range(processes)]
         value += processes
     return made

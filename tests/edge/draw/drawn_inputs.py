@@ -385,7 +385,7 @@ def extreme():
         )
         yield Case(f"a {name} with values at the limits, impossible", text_writers.one_process(*wrong))
     for put, take in CONTAINERS:
-        values = [GREATEST - it for it in range(12)] + [LEAST + number for number in range(12)]
+        values = [GREATEST - number for number in range(12)] + [LEAST + number for number in range(12)]
         calls = [(put, value, value) for value in values] + [(take, None, values[5])]
         yield Case(f"24 values of 64 bits, {take}", text_writers.one_process(*calls), text_writers.order(*range(0, 50, 2)), says=("c6",))
         yield Case(f"24 values of 64 bits, {take}, judged", text_writers.one_process(*calls))

@@ -343,9 +343,9 @@ class Said:
         ran = [it for it in self.on(later.on) if it.is_live() and it.number < later.at and (it.returned() is None or it.returned() > earlier.number)]
         others = [it for it in ran if it.number != later.number and key_of(it) == key_of(later)]
         if found is None:
-            return is_so and not any(it.f in ("del", "dissoc", "clear") for it in others)
+            return is_so and not any(other.f in ("del", "dissoc", "clear") for other in others)
         # What replaces a value by the same does not make it that again.
-        keeps = [it for it in others if it.f in ("cas", "replace") and it.argument[-2:] == (found, found)]
+        keeps = [other for other in others if other.f in ("cas", "replace") and other.argument[-2:] == (found, found)]
         return is_so and not any(value_put(other) == found and other not in keeps for other in others)
 
     def left_in_words(self, call, left):
@@ -369,7 +369,7 @@ class Said:
         others = [call for call in self.on(one.on) if call.number < int(until) and call.is_live()]
         is_so = one.returned() == int(at) < two.number and (one.argument, two.argument) == (int(v), int(w))
         is_so &= (taker.reply, taker.at) == (int(w), int(until)) and (again, once_more) == (w, v)
-        is_so &= sum(it.f == "enqueue" and it.argument == int(w) for it in others) == 1
+        is_so &= sum(other.f == "enqueue" and other.argument == int(w) for other in others) == 1
         if then is not None:
             after = self.calls[int(then)]
             is_so &= (after.f, after.reply, after.on) == ("dequeue", int(v), one.on) and after.number > int(until)
@@ -388,7 +388,7 @@ class Said:
         taken = [it.reply for it in live if it.f in TAKES and it.end == "ok" and it.at < call.at]
         # What else may have taken one of the values: a removal that returned it late, or one that is pending, if no other took all of it.
         takers = [it for it in live if it.f in TAKES and it.number < call.at]
-        late = sum(it.end == "ok" and it.at > call.at and it.reply in dict(named) for it in takers)
+        late = sum(taker.end == "ok" and taker.at > call.at and taker.reply in dict(named) for taker in takers)
         replies = [it.reply for it in live if it.f in TAKES and it.end == "ok"]
         left = sum(sum(it.f in PUTS and it.argument == v for it in live) - replies.count(v) for v, _ in named)
         others = late + min(sum(taker.end != "ok" for taker in takers), left)
@@ -406,8 +406,8 @@ class Said:
         by = [self.calls[it] for those in named if those for it in those]
 
         def is_so(x):
-            live = [it for it in self.on(x) if it.is_live()]
-            puts = [it.number for it in live if it.number < int(until) and it.f == f and it.argument == int(v)]
+            live = [call for call in self.on(x) if call.is_live()]
+            puts = [call.number for call in live if call.number < int(until) and call.f == f and call.argument == int(v)]
             takes = [call.number for call in live if call.f in TAKES and (call.reply, call.end) == (int(v), "ok") and call.at <= int(until)]
             are_named = all(those == own if those else len(own) > FEW_NAMED for those, own in zip(named, (puts, takes)))
             return are_named and counts == [len(puts), len(takes)] and len(takes) > len(puts)
@@ -423,7 +423,7 @@ class Said:
 
     def has_order_until(self, x, until):
         """Whether what was invoked on an object before a number has an order, where what returned later is pending; None if it is much."""
-        calls = [it for it in self.on(x) if it.number < until and it.is_live()]
+        calls = [call for call in self.on(x) if call.number < until and call.is_live()]
         ended = [call.returned() if (call.returned() or until) < until else None for call in calls]
         few = len(calls) <= FEW_NAMED
         return has_order([(it.number, end, it.f, it.argument, it.reply) for it, end in zip(calls, ended)]) if few else None
@@ -465,7 +465,7 @@ class Said:
 
     def has_order_from(self, calls, content, since):
         """Whether some order of the calls is valid after this content. Those that began before the window need not be in it."""
-        free = [it for it in calls if since is not None and it.number < since]
+        free = [call for call in calls if since is not None and call.number < since]
         for left_out in itertools.chain.from_iterable(itertools.combinations(free, size) for size in range(len(free) + 1)):
             kept = [call for call in calls if call not in left_out and call.is_live()]
             if is_ordered(kept, content):
@@ -475,7 +475,7 @@ class Said:
 
 def contents_by_keys(kind, calls):
     """What a map or a set may have contained before the calls, of their keys or elements: of each a value that they name, another one, or nothing."""
-    keys = sorted({key_of(it) for it in calls})
+    keys = sorted({key_of(call) for call in calls})
     if kind == "set":
         return [those for size in range(len(keys) + 1) for those in itertools.combinations(keys, size)]
     values = [{number for call in calls if key_of(call) == key for number in integers_of(call)} | {-99, None} for key in keys]
@@ -484,7 +484,7 @@ def contents_by_keys(kind, calls):
 
 def contents_of_counter(calls):
     """The numbers before the calls of which one may be told: before the first of them that returned some pending ones may have added."""
-    pending = [it.argument for it in calls if it.returned() is None and it.f == "fetch-add"]
+    pending = [call.argument for call in calls if call.returned() is None and call.f == "fetch-add"]
     sums = {sum(those) for size in range(len(pending) + 1) for those in itertools.combinations(pending, size)}
     return [(it,) for it in {call.reply - amount for call in calls if call.returned() is not None for amount in sums}]
 
@@ -721,14 +721,14 @@ def why_bars_false(figure, calls):
 
 def counts_of(calls):
     """How many of the calls did not fail, are pending, and failed."""
-    failed = sum(it.end == "fail" for it in calls)
+    failed = sum(call.end == "fail" for call in calls)
     return len(calls) - failed, sum(call.end in ("info", "open") for call in calls), failed
 
 
 def why_counts_false(page, history):
     """What is false of the counts of a page, or None."""
     calls, maps = calls_of(history)
-    objects = sorted({it.on for it in calls.values()})
+    objects = sorted({call.on for call in calls.values()})
     live, pending, failed = counts_of(calls.values())
     ending = [f"{grouped(count)} {word}" for count, word in ((pending, "pending"), (failed, "failed")) if count]
     wanted = [f"{grouped(count)} {word}{'' if count == 1 else 's'}" for count, word in ((maps, "map"), (live, "operation"), (len(objects), "object"))]

@@ -442,7 +442,7 @@ def chosen(numbers, focus, stretch):
     """Which of an object's events are drawn, by the numbers of their maps."""
     since, until = stretch
     if since is not None or until is not None:
-        return [it for it in numbers if (since or 0) <= it and (until is None or it < until)][:MOST]
+        return [number for number in numbers if (since or 0) <= number and (until is None or number < until)][:MOST]
     if len(numbers) <= WHOLE:
         return list(numbers)
     if not focus:
@@ -460,7 +460,7 @@ def chosen(numbers, focus, stretch):
 
 def starts_of(numbers, drawn):
     """The numbers at which a stretch of drawn events begins."""
-    is_drawn = [it in drawn for it in numbers]
+    is_drawn = [number in drawn for number in numbers]
     return [number for number, was, is_now in zip(numbers, [False, *is_drawn], is_drawn) if is_now and not was]
 
 
@@ -469,12 +469,12 @@ class View:
 
     def __init__(self, shown, x, figure, stretch=None):
         self.calls, focus = shown.on(x), shown.focus
-        events = sorted([it.number for it in self.calls] + [it.at for it in self.calls if it.at is not None] + shown.nemeses)
+        events = sorted([call.number for call in self.calls] + [call.at for call in self.calls if call.at is not None] + shown.nemeses)
         spots = [it for call in self.calls if call.number in focus for it in (call.number, call.at) if it is not None]
         drawn = set(chosen(events, spots, stretch or shown.stretch))
         self.bars = {int(it.get("data-op")) for it in found(figure, "g", "op")}
         self.lanes = {shown.calls[bar].process for bar in self.bars}
-        inside = [it for it in self.calls if it.number in drawn or it.at in drawn]
+        inside = [call for call in self.calls if call.number in drawn or call.at in drawn]
         # Those without a lane.
         self.gone = [it for it in inside if it.process not in self.lanes]
         self.inside = {it.number for it in inside} - {it.number for it in self.gone}
@@ -483,7 +483,7 @@ class View:
         self.drawn = [event for event in events if event in drawn and (not self.gone or shown.process_at.get(event) in own)]
         starts = starts_of(self.kept, set(self.drawn))
         ends = lambda it: float("inf") if it.end in ("open", "info") else it.at
-        others = [it for it in self.calls if it.number not in drawn and it.at not in drawn]
+        others = [call for call in self.calls if call.number not in drawn and call.at not in drawn]
         self.through = {other.number for other in others if any(other.number < at < ends(other) for at in starts)}
 
     def note(self):
@@ -534,7 +534,7 @@ def why_view_false(shown, x, figure, stretch=None):
     titles = ["".join(it.find("title").itertext()) for it in found(figure, "g", "gap")]
     texts = ["".join(it.find("text").itertext()).removeprefix("⋯ ") for it in found(figure, "g", "gap")]
     gaps = view.gaps(shown.maps) if view.drawn else []
-    wanted = [view.words_of(it) for it in gaps]
+    wanted = [view.words_of(gap) for gap in gaps]
     if titles != wanted or texts != [grouped(len(gap)) for gap in gaps]:
         return f"the gaps are {titles}, {texts}, and not {wanted}"
     # No operation is left out without a gap that counts it.

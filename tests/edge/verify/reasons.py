@@ -205,15 +205,15 @@ def is_settled(f, found, start, puts):
 
 def is_blocked(count, calls):
     """Whether more values definitely were ahead of what a removal found than others can have taken out before it."""
-    puts, removals = [it for it in calls if it[2] in PUTS], [call for call in calls if call[2] in REMOVALS]
-    own = next((it for it in removals if it[0] == count["ahead"] and it[1] is not None), None)
+    puts, removals = [call for call in calls if call[2] in PUTS], [call for call in calls if call[2] in REMOVALS]
+    own = next((removal for removal in removals if removal[0] == count["ahead"] and removal[1] is not None), None)
     start = count.get("from", 0)
     if own is None or not is_settled(own[2], own[4], start, puts):
         return False
     number, returned, f, _, found = own
     before = number
     if f == "dequeue" and found is not None:
-        before = min(number, next((it[0] for it in puts if it[3] == found), 0))
+        before = min(number, next((put[0] for put in puts if put[3] == found), 0))
     can_be_ahead = lambda value: f != "extract-min" or found is None or value < found
     ahead = [put for put in puts if can_be_ahead(put[3]) and put[1] is not None and put[1] < before and put[0] >= start]
     others = [removal for removal in removals if removal[0] != number and removal[0] <= returned]
