@@ -153,7 +153,7 @@ def beginnings(program, report):
         second = program.write(f"orders.{of_history}.{of_certificates}.edn", certificates[:of_certificates])
         return program.run("check", first, second)
 
-    cuts = [(it, len(certificates)) for it in range(len(history) + 1)]
+    cuts = [(number, len(certificates)) for number in range(len(history) + 1)]
     cuts += [(len(history), number) for number in range(len(certificates))]
     for cut, ran in zip(cuts, at_once(run, cuts)):
         is_well = statuses.get(ran.out[:5]) == ran.status and ran.err == b"" and ran.out.endswith(b"\n")
@@ -254,8 +254,8 @@ def long_run(program, report):
 def is_accepted(program, output):
     """Whether check gives the verdict that ends the output of a run, on the history and the certificates in it."""
     texts = output.decode().splitlines()
-    history = [it for it in texts if not it.startswith(";")]
-    certificates = [it[2:] for it in texts if it.startswith("; {")]
+    history = [text for text in texts if not text.startswith(";")]
+    certificates = [text[2:] for text in texts if text.startswith("; {")]
     comments = [text[2:] for text in texts if text.startswith("; ") and not text.startswith(("; {", "; refused steps"))]
     stem = f"accepted.{os.getpid()}.{threading.get_ident()}"
     first = program.write(f"{stem}.history.edn", lines(*history))

@@ -100,7 +100,7 @@ def searched_by_force(program, report):
         counts.append(histories.counts())
         report.holds(f"search: {name}: there are histories with an order and without", 1000 < counts[-1][1] < counts[-1][0], counts)
         search_both_sorts(program, report, f"search: all small histories of a {name}", histories)
-    return f"{sum(it[0] for it in counts)} histories"
+    return f"{sum(count[0] for count in counts)} histories"
 
 
 def search_both_sorts(program, report, name, histories):
@@ -195,7 +195,7 @@ def found_by_force(program, report):
         counts.append(histories.counts())
         report.holds(f"find: {kind}: there are small histories with an order and without", 0 < counts[-1][1] < counts[-1][0], counts)
         find_both_sorts(program, report, f"find: small histories of a {kind}", histories)
-    return f"{sum(it[0] for it in counts)} histories"
+    return f"{sum(count[0] for count in counts)} histories"
 
 
 def find_both_sorts(program, report, name, histories, more="", maps_of_more=0):
@@ -327,7 +327,7 @@ class Every:
             if call:
                 others = (None, waiting[1]) if process == 0 else (waiting[0], None)
                 f, argument, replies = call
-                for kind, value in (*[("ok", it) for it in replies], ("fail", argument)):
+                for kind, value in (*[("ok", reply) for reply in replies], ("fail", argument)):
                     self.step(text, maps, left, others, state, is_named, (process, kind, f, value))
             elif left and (process == 0 or maps):
                 for it in self.calls:
@@ -346,7 +346,7 @@ def judge_both_sorts(program, report, name, histories):
 
     def impossible(history, _, count):
         ran = program.run(*words, history)
-        said = b"".join(it for it in ran.out.splitlines(True) if it.startswith(b"; object "))
+        said = b"".join(line for line in ran.out.splitlines(True) if line.startswith(b"; object "))
         differs = brute_force.difference(brute_force.all_say(count, "impossible"), said)
         reasons = ran.out.count(b"\n; {:object "), len(WHOLE.findall(ran.out))
         return [(f"{name}, without an order", (1, b"", None, (count, 0)), (ran.status, ran.err, differs, reasons))]
@@ -375,9 +375,9 @@ def search_and_judge_both_sorts(program, report, name, histories):
 
     def impossible(history, _, count):
         ran = program.run("judge", history)
-        said = b"".join(it for it in ran.out.splitlines(True) if it.startswith(b"; object "))
+        said = b"".join(line for line in ran.out.splitlines(True) if line.startswith(b"; object "))
         differs = brute_force.difference(brute_force.all_say(count, "impossible"), said)
-        reasons = b"".join(it[2:] for it in ran.out.splitlines(True) if it.startswith(b"; {:object "))
+        reasons = b"".join(line[2:] for line in ran.out.splitlines(True) if line.startswith(b"; {:object "))
         refuted = program.run("refute", history, program.write(f"{history}.reasons", reasons))
         shown = refuted.out.count(b"not linearizable: object ")
         return [(f"judge: {name}, without an order", (1, b"", None, (1, count)), (ran.status, ran.err, differs, (refuted.status, shown)))]

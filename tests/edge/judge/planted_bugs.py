@@ -353,7 +353,7 @@ LONG_STACK = lines(
 LONG_HEAP = lines(
     invoke(0, "insert", 0),
     ok(0, "insert", 0),
-    *[of for number in ROUNDS for of in (invoke(0, "insert", number), invoke(1, "extract-min"), ok(0, "insert", number), ok(1, "extract-min", number - 1))],
+    *[of for n in ROUNDS for of in (invoke(0, "insert", n), invoke(1, "extract-min"), ok(0, "insert", n), ok(1, "extract-min", n - 1))],
     invoke(0, "insert", 20000),
     ok(0, "insert", 20000),
     invoke(0, "extract-min"),

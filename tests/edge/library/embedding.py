@@ -91,7 +91,7 @@ def names_of(path, letters, *words):
 def state_of(path):
     """The names of data that can be written in a library, and its parts that hold some, with their sizes. What is written once, as it is
     loaded, is no state."""
-    names = {re.sub(r"[.]\d+$", "", it) for it in names_of(path, "bBcCdDgGsSuvV")}
+    names = {re.sub(r"[.]\d+$", "", name) for name in names_of(path, "bBcCdDgGsSuvV")}
     said = subprocess.run(["readelf", "--sections", "--wide", path], capture_output=True, text=True, check=True).stdout
     parts = re.findall(r"\] (\S+) +\S+ +[0-9a-f]+ [0-9a-f]+ ([0-9a-f]+) [0-9a-f]+ +W", said)
     return names, {part: int(size, 16) for part, size in parts if int(size, 16) and not part.startswith(".data.rel.ro")}
@@ -243,7 +243,7 @@ def refused_memory_of_calls(program, report):
     if missing("gcc"):
         return missing("gcc")
     answer, count = answering(program, report), 0
-    for words in (it for it in cases() if re.search("/(queue|lost_put|overlapping|larger_first|two_for_one)[.]", it[1])):
+    for words in (case for case in cases() if re.search("/(queue|lost_put|overlapping|larger_first|two_for_one)[.]", case[1])):
         whole, allocations, _ = answer.counts(*words)
         runs = at_once(lambda at: answer.run(*words, faults={"REFUSE_AT": at}), range(1, allocations + 1))
         bad = [ran for ran in runs if not is_without_memory(words[0], whole, ran)]

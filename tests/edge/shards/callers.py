@@ -101,7 +101,7 @@ class Cluster:
         pipes = {"stdin": subprocess.PIPE, "stdout": subprocess.PIPE, "stderr": subprocess.DEVNULL, "text": True}
         self.process = subprocess.Popen([python, script], cwd=program.folder, **pipes)
         self.address, *workers = self.process.stdout.readline().split()
-        self.workers = [int(it) for it in workers]
+        self.workers = [int(worker) for worker in workers]
 
     def __enter__(self):
         return self
@@ -139,7 +139,7 @@ def is_running(number):
 
 
 def evidence_in(folder):
-    return [it for it in folder.names() if it.endswith(".evidence")]
+    return [name for name in folder.names() if name.endswith(".evidence")]
 
 
 def by_workers_of_one_machine(python, program, report):

@@ -26,8 +26,8 @@ def faults_of_split(folder, history, expected, ran):
         return f"split: {ran}"
     files["shards"] = b"%d\n" % folder.shards
     came = folder.files()
-    others = sorted(it for it in {*came, *files} if came.get(it) != files.get(it))
-    return f"split: other files: {[(it, came.get(it)) for it in others]}" if others else None
+    others = sorted(file for file in {*came, *files} if came.get(file) != files.get(file))
+    return f"split: other files: {[(file, came.get(file)) for file in others]}" if others else None
 
 
 def faults_of_answer(folder, evidence, expected):

@@ -30,7 +30,7 @@ NO_STATUS = (
 
 def trusted(texts):
     """What is to be said of shards with these texts of their statuses, and the status."""
-    words = [WORDS.get(it, "no status") if it is not None else "no status" for it in texts]
+    words = [WORDS.get(text, "no status") if text is not None else "no status" for text in texts]
     those = [f"; shard {shard}: {word}\n" for shard, word in enumerate(words) if word]
     status = next((status for status, of in RANKS if of & {*words}), 0)
     yes = "" if those else f"yes by statuses: {len(texts)} shards\n"
@@ -52,7 +52,7 @@ def all_say_so(program, report, rows):
     """The answer of merge on a folder for each row of texts."""
     runs = at_once(lambda at: with_statuses(program, f"{len(rows)}.{at}", rows[at]).merge(TRUST), range(len(rows)))
     for texts, ran in zip(rows, runs):
-        report.answers(f"merge {TRUST}: {[it if it is None else it[:20] for it in texts[:20]]}", ran, *trusted(texts))
+        report.answers(f"merge {TRUST}: {[text if text is None else text[:20] for text in texts[:20]]}", ran, *trusted(texts))
 
 
 def statuses_of_shards(program, report):

@@ -191,7 +191,7 @@ def entries(rng, process, on):
     """The keys of a map and their values, in any order, and where that of the object is among them."""
     others = rng.sample((":note", ":a", ":objects", ":object-", ":time"), rng.randrange(4))
     values = ("70000", '":object 5"', "{:object 70000}", "[:object 70000]", ":object", "nil", '"\\""', "{:a {:object 0}}", "+70000")
-    those = [(it, rng.choice(values)) for it in others]
+    those = [(key, rng.choice(values)) for key in others]
     those += [(":process", str(process)), (":type", ":invoke"), (":f", ":read"), (":object", rng.choice(("", "+")) + str(on))]
     rng.shuffle(those)
     return those

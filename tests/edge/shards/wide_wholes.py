@@ -52,7 +52,7 @@ def other_numbers(rng, objects, shards, least):
 def widened(history, rng, shards):
     """A small history with other numbers for its objects. Where a map of a client has no `:object`, object 0 keeps its number."""
     history = history.encode()
-    named = [it for it in OBJECT.finditer(history) if names_an_object(it, history)]
+    named = [match for match in OBJECT.finditer(history) if names_an_object(match, history)]
     keeps_0 = any(object_of(it) is not None and not OBJECT.search(it) for it in MAP.findall(history))
     objects = sorted({int(it[1]) for it in named})
     numbers = {**other_numbers(rng, objects, shards, 1 if keeps_0 else 0), **({0: 0} if keeps_0 else {})}

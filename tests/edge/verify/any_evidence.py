@@ -34,7 +34,7 @@ WORDS = (
 
 def has_order(text):
     """Whether the history of one object has a valid order, by trying all."""
-    return brute_force.has_order([(it["process"], it["type"][1:], it["f"][1:], value_of(it.get("value"))) for it in maps_of(text)])
+    return brute_force.has_order([(event["process"], event["type"][1:], event["f"][1:], value_of(event.get("value"))) for event in maps_of(text)])
 
 
 def why_wrong(program, history, valid, ran):
@@ -62,7 +62,7 @@ def short_histories():
             made = histories.made(kind, f"evidence {seed}", calls=3 + seed % 4, processes=2, values=2)
             maps = made.maps if seed % 3 == 0 or kind in FREED else exchanged(made.maps, seed)
             if kind in FREED and seed % 3:
-                maps = [*maps, *[it for _ in range(2) for it in (invoke(99, *FREED[kind], 0), ok(99, FREED[kind][0], None, 0))]]
+                maps = [*maps, *[call for _ in range(2) for call in (invoke(99, *FREED[kind], 0), ok(99, FREED[kind][0], None, 0))]]
             text = lines(*maps)
             yield text, has_order(text)
 
@@ -70,9 +70,9 @@ def short_histories():
 def exchanged(maps, seed):
     """The maps with another value in the last completion that has one."""
     rng = random.Random(f"exchanged {seed}")
-    found = [(it, replies) for it, text in enumerate(maps) for pattern, replies in REPLIES if ":type :ok" in text and pattern.search(text)]
-    for it, replies in found[-1:]:
-        maps = [*maps[:it], re.sub(r":value [^,]+,", f":value {rng.choice(replies)},", maps[it]), *maps[it + 1 :]]
+    found = [(at, replies) for at, text in enumerate(maps) for pattern, replies in REPLIES if ":type :ok" in text and pattern.search(text)]
+    for at, replies in found[-1:]:
+        maps = [*maps[:at], re.sub(r":value [^,]+,", f":value {rng.choice(replies)},", maps[at]), *maps[at + 1 :]]
     return maps
 
 
@@ -93,8 +93,8 @@ def spoilt(rng, evidence, other):
             text[at:at] = other[begin : begin + rng.choice((5, 20, 200))]
         else:
             numbers = list(re.finditer(rb"\d+", text))
-            for it in rng.sample(numbers, min(1, len(numbers))):
-                text[it.start() : it.end()] = str(rng.randrange(14)).encode()
+            for match in rng.sample(numbers, min(1, len(numbers))):
+                text[match.start() : match.end()] = str(rng.randrange(14)).encode()
     return bytes(text)
 
 
@@ -113,14 +113,14 @@ def cases_of_spoilt_evidence(program):
 def spoilt_evidence(program, report):
     """What find prints decides each short history. If it is damaged, verify never gives a wrong yes or no."""
     cases = list(cases_of_spoilt_evidence(program))
-    runs = at_once(lambda it: verified(program, it[0], it[2]), cases)
+    runs = at_once(lambda case: verified(program, case[0], case[2]), cases)
     came = {}
     for (history, valid, evidence, is_whole), ran in zip(cases, runs):
         report.equal(f"verify: {evidence!r} of {history!r}", None, why_wrong(program, history, valid, ran))
         if is_whole:
             report.equal(f"verify: what find prints of {history!r}", 0 if valid else 1, ran.status, ran)
         came[is_whole, ran.status] = came.get((is_whole, ran.status), 0) + 1
-    few = {it: came.get(it, 0) for it in ((True, 0), (True, 1), (False, 0), (False, 1), (False, 3)) if came.get(it, 0) < 20}
+    few = {pair: came.get(pair, 0) for pair in ((True, 0), (True, 1), (False, 0), (False, 1), (False, 3)) if came.get(pair, 0) < 20}
     report.equal("verify: of these answers there are too few", {}, few)
     return f"{len(cases)} verifications"
 
@@ -133,7 +133,7 @@ def any_bytes(program, report):
     texts += [f"{{:object 0 {' '.join(rng.choice(WORDS) for _ in range(rng.choice((2, 4, 6))))}}}".encode() for _ in range(RANDOM)]
     of = ((worked_rows.OVERLAPPING, True), (worked_rows.OUT_OF_ORDER, False))
     cases = [(history, valid, text) for text in texts for history, valid in of]
-    for (history, valid, text), ran in zip(cases, at_once(lambda it: verified(program, it[0], it[2]), cases)):
+    for (history, valid, text), ran in zip(cases, at_once(lambda case: verified(program, case[0], case[2]), cases)):
         report.equal(f"verify: {text[:200]!r} of {history!r}", None, why_wrong(program, history, valid, ran))
     return f"{len(cases)} verifications"
 
@@ -197,7 +197,7 @@ def found_evidence(program, report):
         report.equal(f"find: {name}: its status", status, found.status, found)
         report.equal(f"find: {name}: standard error", judged.status == 2, found.err != b"", found)
         if judged.status != 2:
-            objects = [int(it) for it in re.findall(rb"^\{:object (\d+), ", found.out, re.M)]
+            objects = [int(number) for number in re.findall(rb"^\{:object (\d+), ", found.out, re.M)]
             report.holds(
                 f"find: {name}: a line for each object, in rising number",
                 objects == sorted(set(objects)) and len(objects) == found.out.count(b"\n"),
