@@ -20,13 +20,13 @@ HERE = os.path.dirname(os.path.realpath(__file__))
 KINDS = ("queue", "stack", "heap", "register", "map", "mutex")
 
 
-def history(room, kind, values, at_once, calls, faulty, seed):
+def history(folder, kind, values, at_once, calls, faulty, seed):
     """Makes a history and returns its name."""
     words = ["--kind", kind, "--calls", calls, "--concurrency", at_once, "--processes", at_once, "--seed", seed]
     words += ["--values", values] if values else ["--unique"]
     words += ["--fail", 0.05, "--info", 0.02] if faulty else ["--fail", 0, "--info", 0]
-    subprocess.run(["python3", f"{HERE}/gen.py", "history", room, *map(str, words)], check=True, stdout=subprocess.DEVNULL)
-    return f"{room}/history.edn"
+    subprocess.run(["python3", f"{HERE}/gen.py", "history", folder, *map(str, words)], check=True, stdout=subprocess.DEVNULL)
+    return f"{folder}/history.edn"
 
 
 def ran(words, seconds):
@@ -56,12 +56,12 @@ def row(asked, kind, values, calls, faulty):
     for at_once in asked.at_once:
         ours, theirs = [], []
         for seed in range(1, asked.seeds + 1):
-            room = f"{asked.dir}/h"
-            name = history(room, kind, values, at_once, calls, faulty, seed)
+            folder = f"{asked.dir}/h"
+            name = history(folder, kind, values, at_once, calls, faulty, seed)
             ours.append(ran([asked.program, "judge", name], asked.seconds))
             if asked.beside:
                 theirs.append(ran([asked.beside, "search", "--wgl-hash", "--any-size", "--steps", "1000000000", name], asked.its_seconds or asked.seconds))
-            shutil.rmtree(room)
+            shutil.rmtree(folder)
         cells.append(cell(ours) + ("; " + cell(theirs) if theirs else ""))
     return cells
 

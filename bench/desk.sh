@@ -6,6 +6,7 @@
 # Each line has the kind, the number of threads, and then the desk, a Mutex and flat combining, without
 # records and with.
 set -euo pipefail
+case ${1:-} in -h | --help) sed -n '2,/^set/s/^# \{0,1\}//p' "${BASH_SOURCE[0]}"; exit 0 ;; esac
 # What a round frees is kept for the next, so that no round pays for fresh pages.
 export MALLOC_TRIM_THRESHOLD_=2000000000 MALLOC_MMAP_THRESHOLD_=2000000000 MALLOC_TOP_PAD_=100000000
 here=$(cd "$(dirname "${BASH_SOURCE[0]}")" && pwd)

@@ -15,9 +15,9 @@ import time
 sys.dont_write_bytecode = True
 HERE = os.path.dirname(os.path.realpath(__file__))
 TOP = os.path.dirname(HERE)
-sys.path.insert(0, f"{TOP}/crates")
+sys.path.insert(0, f"{TOP}/scripts")
 
-from usage import words_for  # noqa: E402
+from arguments import arguments_or_exit  # noqa: E402
 
 KINDS = ("queue", "stack", "heap", "register", "map", "mutex")
 COMMANDS = ("check", "judge")
@@ -115,4 +115,4 @@ def main(folder, program=None, rounds=9):
 
 
 if __name__ == "__main__":
-    sys.exit(main(*words_for(__doc__, lambda words: len(words) in (1, 2, 3) and not words[0].startswith("-"))))
+    sys.exit(main(*arguments_or_exit(__doc__, lambda arguments: len(arguments) in (1, 2, 3) and not arguments[0].startswith("-"))))

@@ -15,9 +15,9 @@ import sys
 import time
 
 sys.dont_write_bytecode = True
-sys.path.insert(0, str(pathlib.Path(__file__).resolve().parents[1] / "crates"))
+sys.path.insert(0, str(pathlib.Path(__file__).resolve().parents[1] / "scripts"))
 
-from usage import words_for  # noqa: E402
+from arguments import arguments_or_exit  # noqa: E402
 
 KINDS = ["queue", "stack", "heap", "register", "map", "mutex"]
 CALLS = [4096, 500000]
@@ -75,4 +75,4 @@ def main(fcbench, folder, *plain):
 
 
 if __name__ == "__main__":
-    main(*words_for(__doc__, lambda words: len(words) in (2, 3) and not words[0].startswith("-")))
+    main(*arguments_or_exit(__doc__, lambda arguments: len(arguments) in (2, 3) and not arguments[0].startswith("-")))

@@ -43,7 +43,7 @@ def size_of(path, out):
     if len(explained) != 1 or others:
         raise SystemExit("reasons.py: %s: no judgement: %r" % (path, out[:200]))
     on, operations, reason = explained[0]
-    named = {int(it) for line in operations for it in TOLD.match(line).groups()[:2] if it}
+    named = {int(group) for line in operations for group in TOLD.match(line).groups()[:2] if group}
     with open(path) as text:
         history = "".join(line if place in named else "{}" for place, line in enumerate(text))
     wrong = why_not_shown(history, on, operations, reason)
@@ -95,7 +95,7 @@ def row(name, found):
     sizes = [it["size"] for it in refuted]
     times = [it["seconds"] for it in broken]
     ratios = [it["seconds"] / it["plain seconds"] for it in refuted if it["plain"] == 1]
-    missed = Counter(it["type"] for it in broken if it["judge"] != 1)
+    missed = Counter(row["type"] for row in broken if row["judge"] != 1)
     cells = [
         *name, len(found), linearizable, len(found) - linearizable - len(broken), len(broken), len(refuted),
         "%.0f %%" % (100 * len(refuted) / len(broken)) if broken else "-",
@@ -104,7 +104,7 @@ def row(name, found):
         "%.1f" % statistics.median(ratios) if ratios else "-",
         ", ".join("%s %d" % it for it in missed.items()) or "-",
     ]
-    return "| %s |" % " | ".join(str(it) for it in cells)
+    return "| %s |" % " | ".join(str(cell) for cell in cells)
 
 
 def main():

@@ -75,7 +75,7 @@ class Shards:
         return f"{self.folder}/{shard}"
 
     def without_evidence(self):
-        return [it for it in range(self.count) if not os.path.exists(f"{self.stem(it)}.evidence")]
+        return [number for number in range(self.count) if not os.path.exists(f"{self.stem(number)}.evidence")]
 
     def packed(self, shard):
         """The texts of a shard, as they are sent."""

@@ -84,7 +84,7 @@ def written(value):
     """The text of an argument or a reply. Raises ValueError for one that no history can have."""
     if value is not None and value is not NotGiven and not isinstance(value, bool):
         numbers = value if isinstance(value, (tuple, list)) else (value,)
-        if any(isinstance(it, bool) or not isinstance(it, int) for it in numbers):
+        if any(isinstance(number, bool) or not isinstance(number, int) for number in numbers):
             raise ValueError(f"{value!r} is neither an integer, nor integers, nor None, True or False")
     return text_of(value)
 
@@ -96,7 +96,7 @@ def check_call(function, argument):
     numbers = () if argument is None else argument if isinstance(argument, (tuple, list)) else (argument,)
     if any(isinstance(it, (str, bytes)) for it in numbers):
         raise ValueError(f"{argument!r} cannot be the argument of {function}: a history has integers, so number your strings")
-    if len(numbers) != ARGUMENTS[function] or any(isinstance(it, bool) or not isinstance(it, int) for it in numbers):
+    if len(numbers) != ARGUMENTS[function] or any(isinstance(number, bool) or not isinstance(number, int) for number in numbers):
         raise ValueError(f"{argument!r} cannot be the argument of {function}, which is {SHAPES[ARGUMENTS[function]]}")
 
 

@@ -12,8 +12,8 @@ import sys
 sys.dont_write_bytecode = True
 
 from crate_tables import ROOT, groups  # noqa: E402
-from sources import listed  # noqa: E402
-from usage import words_for  # noqa: E402
+from arguments import arguments_or_exit  # noqa: E402
+from crates_list import dependencies  # noqa: E402
 
 HEAD = """# The contracts, crate by crate
 
@@ -32,35 +32,32 @@ def lines_of(path):
         return file.read().split("\n")
 
 
-def exported(crate):
-    """The names that a crate's lib.rt makes public, and those of its modules that are."""
-    text = "\n".join(lines_of(f"{ROOT}/crates/{crate}/src/lib.rt"))
+def exported(crate, root):
+    """Returns the names that the lib.rt of a crate makes public, and the public modules."""
+    text = "\n".join(lines_of(f"{root}/crates/{crate}/src/lib.rt"))
     names, modules = set(), set(re.findall(r"^pub mod (\w+)", text, re.M))
     for found in re.finditer(r"^pub use ([\w:]+?)(?:::\{([^}]*)\})?;", text, re.M):
         path, many = found.groups()
-        names |= {it.strip() for it in many.split(",")} if many else {path.split("::")[-1]}
+        names |= {name.strip() for name in many.split(",")} if many else {path.split("::")[-1]}
     return names, modules
 
 
 def about(crate):
     """What the crate is: the first lines of its lib.rt."""
-    found = []
+    paragraph = []
     for line in lines_of(f"{ROOT}/crates/{crate}/src/lib.rt"):
-        if not line.startswith("//!"):
+        if not line.startswith("//!") or line == "//!":
             break
-        if line == "//!":
-            break
-        found.append(line[3:].strip())
-    return " ".join(found)
+        paragraph.append(line[3:].strip())
+    return " ".join(paragraph)
 
 
 def comment_before(lines, at, mark):
-    """The comment that ends right before a line."""
+    """The lines of the comment that ends right before a line."""
     first = at
     while first and (lines[first - 1].strip().startswith(mark) or mark == "///" and lines[first - 1].strip().startswith("#[")):
         first -= 1
-    said = [it.strip()[len(mark):].strip() for it in lines[first:at] if it.strip().startswith(mark)]
-    return said
+    return [line.strip()[len(mark):].strip() for line in lines[first:at] if line.strip().startswith(mark)]
 
 
 def closed(lines, at, opening):
@@ -100,10 +97,10 @@ def clauses(lines, at):
     return found
 
 
-def functions(crate):
-    """The public functions of a crate: where each is, its name, its doc comment and its clauses."""
-    names, modules = exported(crate)
-    folder = f"{ROOT}/crates/{crate}/src"
+def functions(crate, root=ROOT):
+    """The public functions of a crate of the repository in `root`: the name, doc comment and clauses of each."""
+    names, modules = exported(crate, root)
+    folder = f"{root}/crates/{crate}/src"
     for base, folders, files in os.walk(folder):
         folders.sort()
         for file in sorted(files):
@@ -129,7 +126,8 @@ def first_paragraph(doc):
 
 
 def page(chosen):
-    made = [HEAD]
+    """Returns the text with the contracts of these crates, or of all if there are none."""
+    sections = [HEAD]
     for heading, crates in groups():
         if heading.startswith("Tests"):
             continue
@@ -137,19 +135,19 @@ def page(chosen):
         for crate, _ in crates:
             if chosen and crate not in chosen or not os.path.isfile(f"{ROOT}/crates/{crate}/src/lib.rt"):
                 continue
-            listed = [it for it in functions(crate) if it[2]]
             rows.append(f"\n### `{crate}`\n\n{about(crate)}")
-            for name, doc, said in listed:
+            with_clauses = ((name, doc, its_clauses) for name, doc, its_clauses in functions(crate) if its_clauses)
+            for name, doc, its_clauses in with_clauses:
                 rows.append(f"\n**`{name}`** {first_paragraph(doc)}\n")
-                for kind, label, comment, text in said:
+                for kind, label, comment, text in its_clauses:
                     mark = "*asks*" if kind == "requires" else ""
                     label = f"`{label}`" if label else ""
                     head = " ".join(filter(None, (mark, label)))
                     rows.append("- " + " ".join(filter(None, (head and f"{head}:", comment, f"`{text}`"))))
         if rows:
-            made.append(f"\n## {heading}\n" + "\n".join(rows) + "\n")
-    return "".join(made)
+            sections.append(f"\n## {heading}\n" + "\n".join(rows) + "\n")
+    return "".join(sections)
 
 
 if __name__ == "__main__":
-    print(page(words_for(__doc__, lambda words: set(words) <= set(listed()))), end="")
+    print(page(arguments_or_exit(__doc__, lambda arguments: set(arguments) <= set(dependencies()))), end="")

@@ -11,10 +11,10 @@ import sys
 
 sys.dont_write_bytecode = True
 ROOT = os.path.dirname(os.path.dirname(os.path.dirname(os.path.realpath(__file__))))
-sys.path.insert(0, f"{ROOT}/crates")
+sys.path.insert(0, f"{ROOT}/scripts")
 
-from sources import LIST, listed  # noqa: E402
-from usage import words_for  # noqa: E402
+from arguments import arguments_or_exit  # noqa: E402
+from crates_list import LIST, dependencies  # noqa: E402
 
 PAGE = f"{ROOT}/docs/architecture.md"
 ROW = re.compile(r"\| `(\w+)` \| (.*) \|([^|]*)\|$")
@@ -22,26 +22,26 @@ ROW = re.compile(r"\| `(\w+)` \| (.*) \|([^|]*)\|$")
 
 def groups():
     """The headings of crates.txt, each with its crates and what these depend on."""
-    found, used = [], listed()
+    headings, used = [], dependencies()
     with open(LIST) as file:
         for line in map(str.strip, file):
             if line.startswith("# ") and not line.startswith("# Each line"):
-                found.append((line[2:], []))
+                headings.append((line[2:], []))
             elif name := re.match(r"\w+", line):
-                found[-1][1].append((name[0], used[name[0]]))
-    return found
+                headings[-1][1].append((name[0], used[name[0]]))
+    return headings
 
 
 def cell_of(used, own):
     """The last cell of a row: crates of this repository, then those of the kit."""
-    names = [f"`{it}`" for it in used if it in own] + [f"*{it}*" for it in used if it not in own]
+    names = [f"`{crate}`" for crate in used if crate in own] + [f"*{crate}*" for crate in used if crate not in own]
     return f" {' '.join(names)} " if names else "  "
 
 
 def page(text):
     """The page with its tables made anew, and the names of crates that have no words yet."""
     rows = {name: words for name, words, _ in (found.groups() for found in map(ROW.match, text.split("\n")) if found)}
-    own = listed()
+    own = dependencies()
     missing = [name for name in own if not rows.get(name, '').strip()]
     for heading, crates in groups():
         made = "\n".join(f"| `{name}` | {rows.get(name, '')} |{cell_of(used, own)}|" for name, used in crates)
@@ -68,4 +68,4 @@ def main(options):
 
 
 if __name__ == "__main__":
-    sys.exit(main(words_for(__doc__, lambda words: words in ([], ["--check"]))))
+    sys.exit(main(arguments_or_exit(__doc__, lambda arguments: arguments in ([], ["--check"]))))

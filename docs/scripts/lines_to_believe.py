@@ -16,9 +16,9 @@ import sys
 
 sys.dont_write_bytecode = True
 ROOT = os.path.dirname(os.path.dirname(os.path.dirname(os.path.realpath(__file__))))
-sys.path.insert(0, f"{ROOT}/crates")
+sys.path.insert(0, f"{ROOT}/scripts")
 
-from usage import words_for  # noqa: E402
+from arguments import arguments_or_exit  # noqa: E402
 
 WORD = re.compile(r"[^\s(){}\[\],;.λ]+")
 # What a yes says of a history in memory, and what judge says of a text.
@@ -213,4 +213,4 @@ def main(names):
 
 
 if __name__ == "__main__":
-    main(words_for(__doc__, lambda words: words in ([], ["--twice"]) or len(words) == 1 and words[0].count(".") == 2))
+    main(arguments_or_exit(__doc__, lambda arguments: arguments in ([], ["--twice"]) or len(arguments) == 1 and arguments[0].count(".") == 2))

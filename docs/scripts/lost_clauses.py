@@ -3,7 +3,9 @@
 otherwise now: a reader has to say which. With "added" before it, it prints each requires that this tree has and the commit does not, of a
 function whose name the commit has too.
 
-    docs/scripts/lost_clauses.py COMMIT [FUNCTION..]     of the functions of these names, or of all"""
+    docs/scripts/lost_clauses.py COMMIT [FUNCTION..]     of the functions of these names, or of all
+
+The exit status is 0, or 4 if git cannot read the commit."""
 import collections
 import os
 import subprocess
@@ -12,18 +14,18 @@ import tempfile
 
 sys.dont_write_bytecode = True
 
-import contract_list  # noqa: E402
-from usage import words_for  # noqa: E402
+from contract_list import ROOT, functions  # noqa: E402
+from arguments import arguments_or_exit  # noqa: E402
 
 
 def contracts(root):
     """The clauses of each public function of the crates in a folder, by its name without its type."""
-    contract_list.ROOT, found = root, {}
+    clauses = {}
     for crate in sorted(os.listdir(f"{root}/crates")):
         if not crate.endswith("_tests") and os.path.isfile(f"{root}/crates/{crate}/src/lib.rt"):
-            for name, _, said in contract_list.functions(crate):
-                found.setdefault(name.split("::")[-1], []).extend((crate, kind, label, text) for kind, label, _, text in said)
-    return found
+            for name, _, its_clauses in functions(crate, root):
+                clauses.setdefault(name.split("::")[-1], []).extend((crate, kind, label, text) for kind, label, _, text in its_clauses)
+    return clauses
 
 
 def beyond(clauses, others):
@@ -36,14 +38,13 @@ def beyond(clauses, others):
             yield crate, kind, label, text
 
 
-def main(words):
-    (commit, *names), here = words, contract_list.ROOT
-    now = contracts(here)
-    with tempfile.TemporaryDirectory(prefix="lost-clauses-") as room:
-        made = subprocess.run(["git", "-C", here, "archive", commit, "crates"], stdout=subprocess.PIPE)
-        if made.returncode or subprocess.run(["tar", "-x", "-C", room], input=made.stdout).returncode:
+def main(commit, *names):
+    now = contracts(ROOT)
+    with tempfile.TemporaryDirectory(prefix="lost-clauses-") as folder:
+        archive = subprocess.run(["git", "-C", ROOT, "archive", commit, "crates"], stdout=subprocess.PIPE)
+        if archive.returncode or subprocess.run(["tar", "-x", "-C", folder], input=archive.stdout).returncode:
             return 4
-        before = contracts(room)
+        before = contracts(folder)
     count, lost, added = 0, 0, 0
     for name, clauses in sorted(before.items()):
         if names and name not in names:
@@ -61,4 +62,4 @@ def main(words):
 
 
 if __name__ == "__main__":
-    sys.exit(main(words_for(__doc__, lambda words: words and not words[0].startswith("-"))))
+    sys.exit(main(*arguments_or_exit(__doc__, lambda arguments: arguments and not arguments[0].startswith("-"))))

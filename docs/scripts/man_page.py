@@ -9,9 +9,9 @@ import sys
 
 sys.dont_write_bytecode = True
 ROOT = os.path.dirname(os.path.dirname(os.path.dirname(os.path.realpath(__file__))))
-sys.path.insert(0, f"{ROOT}/crates")
+sys.path.insert(0, f"{ROOT}/scripts")
 
-from usage import words_for  # noqa: E402
+from arguments import arguments_or_exit  # noqa: E402
 
 HEAD = """.\\" Made by docs/scripts/man_page.py from docs/commands.md, docs/formats.md and docs/import.md
 .TH FCBENCH 1 "" "fcbench" "User Commands"
@@ -133,5 +133,5 @@ def page():
 
 
 if __name__ == "__main__":
-    words_for(__doc__, lambda words: not words)
+    arguments_or_exit(__doc__, lambda arguments: not arguments)
     sys.stdout.write(page())

@@ -54,7 +54,7 @@ def through_pipes(program, files, words, size=7, pause=0.0, **how):
     """Runs the program while its files are named pipes, which are fed in pieces of n bytes."""
     threads = []
     for name, text in files:
-        path = f"{program.room}/{name}"
+        path = f"{program.folder}/{name}"
         if os.path.exists(path):
             os.remove(path)
         os.mkfifo(path)
@@ -64,13 +64,13 @@ def through_pipes(program, files, words, size=7, pause=0.0, **how):
         it.start()
     ran = program.run(*words, **how)
     for (name, _), it in zip(files, threads):
-        end_feeder(f"{program.room}/{name}", it)
+        end_feeder(f"{program.folder}/{name}", it)
     return ran
 
 
 def answers_of_worked_rows(program, report):
-    """Each row on plain files, with reads of one byte, on named pipes, and where it is a check with four workers. The tools read a history
-    twice, so theirs is no pipe."""
+    """Runs each row on plain files, with reads of one byte, and on named pipes; a row of check also with four workers. The tools read a
+    history twice, so they get no pipe."""
     for row in worked_rows.ROWS + worked_evidence.ROWS:
         in_files(program, report, row)
         if row.words[0] == "check":
@@ -83,7 +83,7 @@ def answers_of_worked_rows(program, report):
 
 
 def rows_of_tables(program, report):
-    """Each malformed text, order, count of steps and schedule, on plain files; a check also with two workers, which read side by side."""
+    """Runs the rows with malformed texts, orders, counts of steps and schedules, on plain files; a row of check also with two workers."""
     for row in malformed_texts.ROWS + orders_to_find.ROWS + worked_rows.STEPS + schedules.ROWS:
         in_files(program, report, row)
         if row.words[0] == "check":
@@ -91,8 +91,7 @@ def rows_of_tables(program, report):
 
 
 def every_number_of_workers(program, report):
-    """Each number of workers gives the same answer: of check; of verify, where the certificates are evidence, and which is yes where check says yes;
-    and of judge."""
+    """check, verify and judge give the same answer with 1 to 16 workers. verify gets the certificates as evidence, and says yes if check does."""
     for number, (history, certificates, out) in enumerate(orders_to_find.OF_ALL_WORKERS):
         first = program.write(f"shared.{number}.history.edn", history)
         second = program.write(f"shared.{number}.certificates.edn", certificates)
@@ -106,7 +105,7 @@ def every_number_of_workers(program, report):
 
 
 def found_orders_are_valid(program, report):
-    """Of each history that is answered yes by its certificates, judge answers the same, and check by what search and find print."""
+    """If check says yes to a row, judge does too, and check also says yes by the orders that search and find print."""
     for row in worked_rows.YES:
         history = program.write(HISTORY, row.texts[0])
         report.answers(f"judge alone: {row.name}", program.run("judge", "--steps", "0", history), row.out, 0)
@@ -131,7 +130,7 @@ def long_history(program, report):
 
 
 def maps_of_no_client(program, report):
-    """A map counts whether or not it is a client's: each can be the last of a million, and none comes after them."""
+    """A history has at most a million maps, of which those of no client count too."""
     other, others = "{:process :x}\n", "{:process :x}\n" * 999_999
     popped = lines(certificate(0, 999_999)), worked_rows.yes(1, 1, "stack: 1 objects, 1 operations")
     for last, certificates, out in (("{:process :nemesis}", "", worked_rows.yes(0, 0)), ("{:process 0 :type :invoke :f :pop}", *popped)):
@@ -144,7 +143,7 @@ def maps_of_no_client(program, report):
 
 
 def beginnings(program, report):
-    """Each beginning of a history and of its certificates is answered, with a line and the status of it."""
+    """Each prefix of a history, and of its certificates, gets an answer: a line, and the status that belongs to it."""
     history, certificates = worked_rows.TWO_QUEUES, worked_rows.TWO_ORDERS
     statuses = {b"yes: ": 0, b"no: C": 1, b"malfo": 2}
 
@@ -154,15 +153,15 @@ def beginnings(program, report):
         second = program.write(f"orders.{of_history}.{of_certificates}.edn", certificates[:of_certificates])
         return program.run("check", first, second)
 
-    cuts = [(it, len(certificates)) for it in range(len(history) + 1)]
-    cuts += [(len(history), it) for it in range(len(certificates))]
+    cuts = [(number, len(certificates)) for number in range(len(history) + 1)]
+    cuts += [(len(history), number) for number in range(len(certificates))]
     for cut, ran in zip(cuts, at_once(run, cuts)):
         is_well = statuses.get(ran.out[:5]) == ran.status and ran.err == b"" and ran.out.endswith(b"\n")
         report.holds(f"check: the first {cut[0]} and {cut[1]} bytes of the texts of two queues", is_well, ran)
 
 
 def examples(program, report):
-    """Each example has the answer that is beside it, and what is found in it is valid."""
+    """Each example gets the answer in the file beside it, and the order or reason that is found for it is valid."""
 
     def expected(name):
         with open(f"{EXAMPLES}/{name}") as file:
@@ -255,9 +254,9 @@ def long_run(program, report):
 def is_accepted(program, output):
     """Whether check gives the verdict that ends the output of a run, on the history and the certificates in it."""
     texts = output.decode().splitlines()
-    history = [it for it in texts if not it.startswith(";")]
-    certificates = [it[2:] for it in texts if it.startswith("; {")]
-    comments = [it[2:] for it in texts if it.startswith("; ") and not it.startswith(("; {", "; refused steps"))]
+    history = [text for text in texts if not text.startswith(";")]
+    certificates = [text[2:] for text in texts if text.startswith("; {")]
+    comments = [text[2:] for text in texts if text.startswith("; ") and not text.startswith(("; {", "; refused steps"))]
     stem = f"accepted.{os.getpid()}.{threading.get_ident()}"
     first = program.write(f"{stem}.history.edn", lines(*history))
     second = program.write(f"{stem}.certificates.edn", lines(*certificates))

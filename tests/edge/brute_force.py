@@ -25,7 +25,7 @@ class Chance:
 
 
 def without(pairs, process):
-    return tuple(it for it in pairs if it[0] != process)
+    return tuple(pair for pair in pairs if pair[0] != process)
 
 
 def effects(known, running):
@@ -103,7 +103,7 @@ class Sorted:
 
 def all_say(count, words):
     """What a command says that says the same of each object."""
-    return lines(*[f"; object {it}: {words}" for it in range(count)]).encode()
+    return lines(*[f"; object {number}: {words}" for number in range(count)]).encode()
 
 
 def difference(expected, came):

@@ -22,7 +22,7 @@ print(runpy.run_path(f"{top}/callers/build")["are_proved"]([name]))
 
 def copy_of_scripts(top, *names):
     """Copies these scripts, and what they import, into a folder, as those of another repository."""
-    for it in (*names, "crates/sources.py", "crates/usage.py"):
+    for it in (*names, "scripts/arguments.py", "scripts/crates_list.py"):
         os.makedirs(os.path.dirname(f"{top}/{it}"), exist_ok=True)
         shutil.copy(f"{ROOT}/{it}", f"{top}/{it}")
 
@@ -47,7 +47,7 @@ def is_taken_for_current(changed):
 
 
 def changed_while_proved(program, report):
-    """A library that is proved is out of date where its crate, or one that it uses, was changed since its proof began."""
+    """A proved library is out of date if its crate, or one that it uses, was changed since its proof began."""
     for changed in ((), ("high",), ("low",)):
         is_current = is_taken_for_current(changed)
         report.equal(f"building: a library is current if {' '.join(changed) or 'nothing'} was changed while it was proved", f"{not changed}\n", is_current)
@@ -55,7 +55,7 @@ def changed_while_proved(program, report):
 
 def not_built(program):
     """The folder of a repository whose tools are built, and whose verifier has no code and is not built."""
-    top = f"{program.room}/not_built"
+    top = f"{program.folder}/not_built"
     for it in ("out", "src", "specs", "proofs"):
         os.makedirs(f"{top}/crates/fcbench/{it}")
     copy_of_scripts(top, "fcbench", "crates.txt", "crates/build")
@@ -73,11 +73,11 @@ def script_of(top, path):
 
 def not_named(text):
     """The commands that a text does not name."""
-    return [it for it in (*COMMANDS, *OF_TOOLS) if not re.search(rf"\b{it}\b", text)]
+    return [command for command in (*COMMANDS, *OF_TOOLS) if not re.search(rf"\b{command}\b", text)]
 
 
 def without_the_kit(program, report):
-    """Where the program is to be built, ./fcbench says that the kit is missing. Help and the finder need none, nor does a program that is built."""
+    """If the program must be built, ./fcbench says that the kit is missing. Help, find, and a program that is built need no kit."""
     if shutil.which("rt", path=BARE):
         return f"SKIPPED: rt is in one of {BARE}"
     top = not_built(program)
@@ -95,14 +95,14 @@ def without_the_kit(program, report):
         ran = run(*words)
         came = (ran.returncode, not_named(ran.stdout), ran.stderr)
         report.equal(f"building: ./fcbench {' '.join(words)} names each command, and needs no kit", (0, [], ""), came)
-    for it in OF_TOOLS:
-        own = program.run(it, "--help").out.decode()
-        for words in ((it, "--help"), ("help", it)):
+    for command in OF_TOOLS:
+        own = program.run(command, "--help").out.decode()
+        for words in ((command, "--help"), ("help", command)):
             ran = run(*words)
             report.equal(f"building: ./fcbench {' '.join(words)} needs no kit", (0, own, ""), (ran.returncode, ran.stdout, ran.stderr))
     ran = run()
     report.equal("building: ./fcbench names each command, and needs no kit", (64, "", []), (ran.returncode, ran.stdout, not_named(ran.stderr)))
-    ran = run("find", f"{program.room}/{program.write('of_find.edn', '')}")
+    ran = run("find", f"{program.folder}/{program.write('of_find.edn', '')}")
     report.equal("building: ./fcbench find needs no kit", (0, ""), (ran.returncode, ran.stderr))
     shutil.copy(program.path, f"{top}/crates/fcbench/out/fcbench")
     ran = run("--version")
@@ -111,7 +111,7 @@ def without_the_kit(program, report):
 
 
 def put_back(program, report):
-    """The verifier is out of date where a source is put back, with the old time of its content."""
+    """The verifier is out of date if a source is put back with the old time of its content."""
     top = not_built(program)
     shutil.copy(program.path, f"{top}/crates/fcbench/out/fcbench")
     is_proved = lambda: subprocess.run([f"{top}/crates/build", "--is-proved"]).returncode  # noqa: E731
@@ -124,16 +124,16 @@ def put_back(program, report):
 
 
 def nothing_to_prove(program, report):
-    """Where the verifier is not proved, and the words are refused or a file cannot be read, ./fcbench says so and proves nothing. Otherwise it
-    begins to, which ends at once here, where the crates have no code. It has no first answer where a pipe is read, and gives the version of
-    the unproved build."""
-    top, folder = not_built(program), f"{program.room}/with_rt"
+    """If a command line is refused or a file cannot be read, ./fcbench says so and proves nothing. Otherwise it begins to prove the verifier,
+    which ends at once here, since the crates have no code. It gives no first answer if a pipe is read. It prints the version of an unproved
+    build."""
+    top, folder = not_built(program), f"{program.folder}/with_rt"
     os.mkdir(folder)
     with open(f"{folder}/rt", "w") as file:
         file.write("#!/bin/sh\nexit 1\n")
     os.chmod(f"{folder}/rt", 0o755)
     shutil.copy(program.path, f"{top}/crates/fcbench/out/unproved")
-    history = f"{program.room}/{program.write('judged.edn', '')}"
+    history = f"{program.folder}/{program.write('judged.edn', '')}"
     run = script_of(top, f"{folder}:{BARE}")
     for words, status in ((("judge",), 64), (("judge", "--json", history), 64), (("judge", "/not/there.edn"), 4), (("judge", history), 1)):
         ran = run(*words)

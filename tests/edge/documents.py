@@ -10,12 +10,12 @@ import tokenize
 
 from .running import ROOT
 
-sys.path[:0] = [f"{ROOT}/crates", f"{ROOT}/docs/scripts", f"{ROOT}/bench"]
+sys.path[:0] = [f"{ROOT}/scripts", f"{ROOT}/docs/scripts", f"{ROOT}/bench"]
 
 import contract_list  # noqa: E402
 import lines_to_believe  # noqa: E402
 import reasons  # noqa: E402
-from sources import listed, with_below  # noqa: E402
+from crates_list import dependencies as listed, with_below  # noqa: E402
 
 PAGES = [
     f"{base}/{file}"

@@ -50,7 +50,7 @@ def of_row(row, *more, stride=1):
     name = f"{row.name} {' '.join(more)}".strip()
     stem = "".join(it if it.isalnum() else "_" for it in name)
     names = {file: f"{stem}.{file}" for file, _ in row.files()}
-    words = (row.words[0], *more, *[names.get(it, it) for it in row.words[1:]])
+    words = (row.words[0], *more, *[names.get(word, word) for word in row.words[1:]])
     return Case(name, words, tuple((names[file], text) for file, text in row.files()), stride)
 
 
@@ -93,7 +93,7 @@ def cases():
             yield of_row(it)
     for name, history, *_ in (it for it in worked_rows.NOT_LINEARIZABLE if len(it[1]) < LONG):
         yield of_row(worked_rows.verify(name, history, "{:object 0} {:object 3}", "", 1), stride=3)
-    yield of_row(next(it for it in worked_rows.YES if it.texts[0] == worked_rows.TWO_QUEUES), "--workers", "4")
+    yield of_row(next(row for row in worked_rows.YES if row.texts[0] == worked_rows.TWO_QUEUES), "--workers", "4")
     yield Case(" ".join(ONE_CLIENT), ONE_CLIENT)
     for kind in workloads.KINDS_OF_A_RUN:
         words = ("run", "--kind", kind, "--clients", "2", "--calls", "3")
@@ -146,8 +146,8 @@ def is_out_of_memory(command, whole, ran):
 
 def is_other_reason(program, words, whole, ran):
     """Whether a verification or judgement says no as it does with ample memory, and for a reason that holds."""
-    history = next(it for it in words if it.endswith(HISTORY))
-    with open(f"{program.room}/{history}") as file:
+    history = next(word for word in words if word.endswith(HISTORY))
+    with open(f"{program.folder}/{history}") as file:
         history = file.read()
     return (whole.status, reasons.why_not_explained(program, history, ran)) == (1, None)
 
@@ -187,7 +187,7 @@ def refuse(it):
 
 
 def refused_memory(program, report):
-    """Each chosen allocation of each case is refused in a run of its own."""
+    """Each chosen allocation of each case fails in a run of its own, which says that it is out of memory, or answers as usual."""
     tried = 0
     with multiprocessing.get_context("fork").Pool(os.cpu_count()) as pool:
         for case in cases():
@@ -221,7 +221,7 @@ MOST_REFUSED = 60
 
 
 def is_well_without_memory(program, command, whole, ran):
-    """Whether the tools said nothing that does not hold, where each of their processes is refused an allocation. A program in Rust that is refused
+    """Whether the tools gave no wrong yes or no when an allocation of each of their processes failed. A program in Rust that is refused
     memory is ended by a signal, and one that is refused a thread ends with 101."""
     if ran.status not in (0, 1):
         return ran.status in (NO_MEMORY, 4, 70, 101) or ran.status < 0
@@ -231,7 +231,7 @@ def is_well_without_memory(program, command, whole, ran):
 
 
 def refused_memory_of_tools(program, report):
-    """An allocation of each process of judge, find, draw and import is refused: the status is 0 or 1 only where the answer holds."""
+    """An allocation of each process of judge, find, draw and import fails: the status is 0 or 1 only if the answer is right."""
     tried, ended = 0, set()
     for text in OF_THE_TOOLS:
         program.write(HISTORY, text)
@@ -300,7 +300,7 @@ def limit_time():
 def peak_of(program, *words):
     """The status of a run, and how much memory each of its processes had at most, in KiB."""
     quiet = {"stdin": subprocess.DEVNULL, "stdout": subprocess.DEVNULL, "stderr": subprocess.DEVNULL}
-    run = subprocess.Popen(program.line(words), cwd=program.room, preexec_fn=limit_time, **quiet)
+    run = subprocess.Popen(program.line(words), cwd=program.folder, preexec_fn=limit_time, **quiet)
     _, status, usage = os.wait4(run.pid, 0)
     run.returncode = os.waitstatus_to_exitcode(status)
     return run.returncode, usage.ru_maxrss
@@ -338,7 +338,7 @@ AT_ONCE = 26
 
 
 def bounded_memory_of_calls_at_once(program, report):
-    """Neither does a judgement of many calls at once."""
+    """A judgement of many calls at once takes no more memory than it may."""
     name = program.write("pushes_at_once.edn", pushes_at_once(AT_ONCE))
     status, peak = peak_of(program, "judge", name)
     report.holds(f"memory: judge of {AT_ONCE} pushes at once: status {status}", status in (1, 3))
@@ -349,8 +349,8 @@ def bounded_memory_of_calls_at_once(program, report):
 # A stack of 500,000 calls over 5 values, 8 of them at once, some failed and some pending. It stays open, and takes the most memory of all kinds.
 LONG_STACK = ["--kind", "stack", "--calls", "500000", "--concurrency", "8", "--values", "5", "--fail", "0.05", "--info", "0.02", "--seed", "1"]
 def bounded_memory_of_long_histories(program, report):
-    """Neither does a judgement of a long history take more, beyond its text."""
-    folder = f"{program.room}/long_stack"
+    """A judgement of a long history takes no more memory than it may, in addition to its text."""
+    folder = f"{program.folder}/long_stack"
     os.makedirs(folder)
     subprocess.run([sys.executable, f"{ROOT}/bench/gen.py", "history", folder, *LONG_STACK], check=True, stdout=subprocess.DEVNULL)
     history = f"{folder}/history.edn"

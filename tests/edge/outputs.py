@@ -46,7 +46,7 @@ def failing_output(program, report):
 
 
 def output_cut_short(program, report):
-    """Of an output that takes n bytes and then fails, these bytes were written, and the status is 4."""
+    """If the output takes n bytes and then fails, exactly these bytes are written, and the status is 4."""
     program.write(HISTORY, worked_rows.ENQUEUE_DEQUEUE)
     program.write(CERTIFICATES, worked_rows.order(0, 2))
     whole = worked_rows.QUEUE_YES.encode()
@@ -56,7 +56,7 @@ def output_cut_short(program, report):
         resource.setrlimit(resource.RLIMIT_FSIZE, (room, room))
 
     for room in (0, 1, 20, len(whole) - 1):
-        path = f"{program.room}/output"
+        path = f"{program.folder}/output"
         with open(path, "wb") as file:
             ran = program.run("check", HISTORY, CERTIFICATES, stdout=file, preexec_fn=lambda: limit(room))
         with open(path, "rb") as file:
@@ -85,7 +85,7 @@ def cut_rows():
 
 
 def beginnings_of_output(program, report):
-    """Of an output that takes n bytes in all, whatever n is, these bytes are written, and the status is 4."""
+    """For each n, if the output takes n bytes in all, exactly these bytes are written, and the status is 4."""
     for words, files, out in cut_rows():
         for name, text in files:
             program.write(name, text)
@@ -96,7 +96,7 @@ def beginnings_of_output(program, report):
 
 
 def short_writes(program, report):
-    """An output that takes a few bytes at a time gets all."""
+    """If the output takes a few bytes at a time, all are written."""
     for words, files, out, status in good_runs():
         for name, text in files:
             program.write(name, text)
@@ -105,7 +105,7 @@ def short_writes(program, report):
 
 
 def no_thread(program, report):
-    """Where no thread can be started, a run says so. A check by several workers does all in its own thread."""
+    """If no thread can be started, a run says so, and a check by several workers does all in its own thread."""
     program.write(HISTORY, worked_rows.TWO_QUEUES)
     program.write(CERTIFICATES, worked_rows.TWO_ORDERS)
     how = {"preexec_fn": lambda: resource.setrlimit(resource.RLIMIT_NPROC, (1, 1))}

@@ -46,7 +46,7 @@ class Program:
     """The proved program under test, and the tools beside it, in a folder of their own that everybody may read."""
 
     path: str
-    room: str
+    folder: str
     faults: str
     tools: str = None
     label: str = ""
@@ -72,7 +72,7 @@ class Program:
                 stderr=subprocess.PIPE,
                 timeout=SECONDS,
                 env=env,
-                cwd=self.room,
+                cwd=self.folder,
                 **how,
             )
         except subprocess.TimeoutExpired:
@@ -81,10 +81,10 @@ class Program:
 
     def counted(self, *words):
         """Runs the program of these words, and returns also what faults.c counts of it: of several processes, of the last to end."""
-        name = f"{self.room}/counts.{os.getpid()}"
+        name = f"{self.folder}/counts.{os.getpid()}"
         ran = self.run(*words, faults={"COUNT_TO": name})
         with open(name) as file:
-            return ran, [int(it) for it in file.read().split()]
+            return ran, [int(count) for count in file.read().split()]
 
     def counts(self, *words):
         """Runs the program of these words, and returns also how many allocations and reads it made."""
@@ -97,54 +97,54 @@ class Program:
 
     def instructions(self, *words):
         """How many instructions a run takes, as valgrind counts them in each of its processes."""
-        with tempfile.TemporaryDirectory(dir=self.room) as folder:
+        with tempfile.TemporaryDirectory(dir=self.folder) as folder:
             valgrind = ["valgrind", "--tool=callgrind", "--trace-children=yes", f"--callgrind-out-file={folder}/%p"]
-            subprocess.run([*valgrind, *self.line(words)], cwd=self.room, stdout=subprocess.DEVNULL, stderr=subprocess.DEVNULL)
+            subprocess.run([*valgrind, *self.line(words)], cwd=self.folder, stdout=subprocess.DEVNULL, stderr=subprocess.DEVNULL)
             counted = 0
-            for it in os.scandir(folder):
-                with open(it.path, encoding="utf-8") as file:
+            for entry in os.scandir(folder):
+                with open(entry.path, encoding="utf-8") as file:
                     counted += int(re.search(r"^(?:totals|summary): (\d+)", file.read(), re.M)[1])
             return counted
 
     def write(self, name, text):
         """Writes a file into the folder in which the program runs, and returns its name."""
-        with open(f"{self.room}/{name}", "wb") as file:
+        with open(f"{self.folder}/{name}", "wb") as file:
             file.write(text if isinstance(text, bytes) else text.encode())
         return name
 
 
-def copied(path, room, name):
+def copied(path, folder, name):
     """Copies a program into a folder."""
-    program = f"{room}/{name}"
+    program = f"{folder}/{name}"
     shutil.copyfile(path, program)
     os.chmod(program, 0o755)
     return program
 
 
-def faults_in(room):
+def faults_in(folder):
     """Compiles faults.c in a folder, unless it is there."""
-    faults = f"{room}/faults.so"
+    faults = f"{folder}/faults.so"
     if not os.path.exists(faults):
-        compiler = next((it for it in ("cc", "gcc", "clang") if shutil.which(it)), "cc")
+        compiler = next((name for name in ("cc", "gcc", "clang") if shutil.which(name)), "cc")
         source = f"{os.path.dirname(os.path.realpath(__file__))}/faults.c"
         subprocess.run([compiler, "-O2", "-shared", "-fPIC", "-o", faults, source], check=True)
     return faults
 
 
-def alone(path, room):
+def alone(path, folder):
     """A program that is no fcbench, in a folder."""
     name = os.path.basename(path)
-    return Program(copied(path, room, name), room, faults_in(room), label=name)
+    return Program(copied(path, folder, name), folder, faults_in(folder), label=name)
 
 
 @contextlib.contextmanager
-def in_room(proved, tools, room):
+def in_own_folder(proved, tools, folder):
     """The proved program and the tools beside each other in a new folder of this folder, as long as one part of the tests runs, so that no
     part finds a file of another one. The label is the name of the proved program."""
-    with tempfile.TemporaryDirectory(prefix="room-", dir=room) as own:
+    with tempfile.TemporaryDirectory(prefix="part-", dir=folder) as own:
         # Some runs are those of another user.
         os.chmod(own, 0o777)
-        yield Program(copied(proved, own, "fcbench"), own, faults_in(room), copied(tools, own, "fcbench-tools"), os.path.basename(proved))
+        yield Program(copied(proved, own, "fcbench"), own, faults_in(folder), copied(tools, own, "fcbench-tools"), os.path.basename(proved))
 
 
 def at_once(call, values):
@@ -188,4 +188,5 @@ class Report:
         self.equal(name, Ran(status, out, err), ran)
 
     def last_line(self):
+        """Returns the line with both counts, the last that a script prints."""
         return f"{self.passed} passed, {len(self.failed)} failed"

@@ -27,7 +27,7 @@ FILES = {
 
 def shard(folder, history, evidence):
     """The files of a folder with one shard, whose places are those of the whole."""
-    places = "".join(f"{it}\n" for it in range(history.count("{")))
+    places = "".join(f"{number}\n" for number in range(history.count("{")))
     return {f"{folder}/shards": "1\n", f"{folder}/0.edn": history, f"{folder}/0.places": places, f"{folder}/0.evidence": evidence}
 
 
@@ -36,7 +36,7 @@ FILES.update(shard("refuted", worked_rows.THREE_VALUES, worked_rows.TWO_OF_THREE
 FILES.update(shard("faulty", worked_rows.AFTER_INFO, ""))
 FILES.update(shard("open", worked_rows.OVERLAPPING, ""))
 # A folder for each status that a worker may have: the fast form of a merge believes it.
-FILES.update({f"believed.{it}/{name}": text for it in range(4) for name, text in (("shards", "1\n"), ("0.status", f"{it}\n"))})
+FILES.update({f"believed.{number}/{name}": text for number in range(4) for name, text in (("shards", "1\n"), ("0.status", f"{number}\n"))})
 FULL = "/dev/full"
 NO_VERIFIER = {"env": {"FCBENCH": "/not/there"}}
 NO_MEMORY = {"faults": {"REFUSE_AT": 1}}
@@ -116,7 +116,7 @@ EXAMPLES = {
         (64, ("merge", "valid", "--no-such-option")),
     ],
     "merge --trust-statuses": [
-        *((it, ("merge", f"believed.{it}", "--trust-statuses")) for it in range(4)),
+        *((number, ("merge", f"believed.{number}", "--trust-statuses")) for number in range(4)),
         (3, ("merge", "valid", "--trust-statuses")),
         (3, ("merge", "believed.0", "--trust-statuses"), NO_MEMORY),
         (4, ("merge", "missing", "--trust-statuses")),
@@ -163,9 +163,9 @@ def in_table():
     with open(f"{ROOT}/docs/commands.md", encoding="utf-8") as file:
         text = file.read().partition("\n## Exit statuses\n")[2].partition("\n## ")[0]
     head, _, *those = re.findall(r"^\|(.*)\|$", text, re.M)
-    statuses = [int(it) for it in head.split("|")[1:]]
+    statuses = [int(cell) for cell in head.split("|")[1:]]
     for row in those:
-        name, *cells = (it.strip() for it in row.split("|"))
+        name, *cells = (cell.strip() for cell in row.split("|"))
         yield name.partition("`")[2].partition("`")[0], {status for status, cell in zip(statuses, cells, strict=True) if cell != "-"}
 
 
@@ -178,9 +178,10 @@ def ended(program, words, stdout=None, **how):
 
 
 def each_status(program, report):
-    """Each cell of the table has an example that ends so. With 4, 64 and 70 nothing is printed, and with 64 standard error says why."""
+    """Each cell of the table of exit statuses has an example that ends with its status. With 4, 64 and 70 nothing is printed, and with 64
+    standard error says why."""
     for name, text in FILES.items():
-        os.makedirs(os.path.dirname(f"{program.room}/{name}"), exist_ok=True)
+        os.makedirs(os.path.dirname(f"{program.folder}/{name}"), exist_ok=True)
         program.write(name, text)
     table = dict(in_table())
     report.equal("statuses: the commands of the table", list(EXAMPLES), list(table))

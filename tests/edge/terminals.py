@@ -42,7 +42,7 @@ def on_terminal(program, words, got=None):
     begun = time.monotonic()
     try:
         started = subprocess.Popen(
-            program.line(words), stdin=subprocess.DEVNULL, stdout=subprocess.PIPE, stderr=its, cwd=program.room
+            program.line(words), stdin=subprocess.DEVNULL, stdout=subprocess.PIPE, stderr=its, cwd=program.folder
         )
         os.close(its)
         reader = threading.Thread(target=read_all, args=(own, got))
@@ -66,7 +66,7 @@ def feed_when_told(pipe, text, got):
 
 def waits_until_it_tells(program):
     """A command whose history comes when it has told something, and the seconds at which it did."""
-    pipe, got = f"{program.room}/late.edn", []
+    pipe, got = f"{program.folder}/late.edn", []
     os.mkfifo(pipe)
     late = threading.Thread(target=feed_when_told, args=(pipe, worked_rows.OVERLAPPING.encode(), got))
     late.start()
@@ -76,7 +76,7 @@ def waits_until_it_tells(program):
 
 
 def long_command(program, report):
-    """A command of more than a second says once that it is under way, where standard error is a terminal."""
+    """A command of more than a second says once that it is under way, if standard error is a terminal."""
     program.write(CERTIFICATES, worked_rows.order(1, 0, 4))
     for _ in range(LONG_TRIES):
         ran, times = waits_until_it_tells(program)

@@ -289,8 +289,8 @@ WITH_FILES = re.compile(r"(?:`|^    )(?:fcbench )?([a-z]+)((?: \[?[A-Z]{3,}\]?)+
 
 
 def files_in_pages(program, report):
-    """Where a page names the files of a command, their names are those of its help."""
-    for page in sorted(("README.md", *[f"docs/{it}" for it in os.listdir(f"{ROOT}/docs") if it.endswith(".md")])):
+    """If a page names the files of a command, it uses the names of the help."""
+    for page in sorted(("README.md", *[f"docs/{name}" for name in os.listdir(f"{ROOT}/docs") if name.endswith(".md")])):
         with open(f"{ROOT}/{page}") as file:
             named = [it for it in WITH_FILES.findall(file.read()) if it[0] in (*COMMANDS, *OF_TOOLS)]
         for command, files in named:
@@ -339,15 +339,15 @@ def version(program, report):
 
 
 def accepted(program, report):
-    """A command line that is accepted asks for what its words say. No other file is there."""
+    """An accepted command line does what its words say, on the files that it names."""
     for line, texts, out, status in ACCEPTED:
         words = line.split()
-        files = [it for it in words if it.endswith(".edn")]
+        files = [word for word in words if word.endswith(".edn")]
         for name, text in zip(files, texts):
             program.write(name, text)
         report.answers(line, program.run(*words), out, status)
         for name in files:
-            os.remove(f"{program.room}/{name}")
+            os.remove(f"{program.folder}/{name}")
 
 
 def refused(program, report):
@@ -359,10 +359,10 @@ def refused(program, report):
 
 
 def refused_words_are_named(program, report):
-    """Where the tools refuse a command line, the first line of standard error says what is wrong and in which word; then comes the usage."""
+    """If the tools refuse a command line, the first line of standard error says what is wrong and in which word; then comes the usage."""
     for line, says in NAMED.items():
         words = line.split() if line else ()
-        ran = subprocess.run([program.tools, *words], cwd=program.room, capture_output=True, text=True)
+        ran = subprocess.run([program.tools, *words], cwd=program.folder, capture_output=True, text=True)
         first, *more = ran.stderr.splitlines()
         usage = f"Usage: fcbench {words[0]} [OPTIONS] <HISTORY>" if words and words[0] in OF_TOOLS else "Usage: fcbench <COMMAND>"
         is_well = first.startswith("error: ") and says in first and any(it.startswith(usage) for it in more)
@@ -370,7 +370,7 @@ def refused_words_are_named(program, report):
 
 
 def bad_words_are_told(program, report):
-    """An option that takes one of some words, and is given another, is named, with the words that it takes."""
+    """If an option takes one of some words, and is given another, the error names the option and the words that it takes."""
     kinds = "queue, stack, heap, register, map, mutex, set, counter, lock, mixed"
     for words, said in (
         (("run", "--kind", "tree"), f"error: --kind takes one of the words {kinds}\n"),
@@ -412,7 +412,7 @@ def dispatched(program, report):
     program.write(HISTORY, worked_rows.OVERLAPPING)
     program.write(CERTIFICATES, worked_rows.order(1, 0, 4))
     env = {**os.environ, "FCBENCH": program.path, "FCBENCH_TOOLS": program.tools}
-    script = lambda *words: subprocess.run([DISPATCH, *words], cwd=program.room, env=env, capture_output=True)  # noqa: E731
+    script = lambda *words: subprocess.run([DISPATCH, *words], cwd=program.folder, env=env, capture_output=True)  # noqa: E731
     lines = [("judge", HISTORY), ("find", HISTORY), ("draw", HISTORY), ("search", HISTORY), ("verify", HISTORY, CERTIFICATES)]
     lines += [("check", HISTORY, CERTIFICATES), ("judge",), ("check",), ("--version",)]
     lines += [(it, "--help") for it in (*COMMANDS, *OF_TOOLS)]

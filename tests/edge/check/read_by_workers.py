@@ -1,4 +1,4 @@
-"""Long histories, which workers read in pieces: the verdict is the one of a single worker, which reads the text in one piece.
+"""Long histories, which several workers read in pieces: the verdict is the same as with one worker, which reads the text in one piece.
 
 The histories are those of bench/gen.py, so that the lines of a verdict are known from outside."""
 import functools
@@ -33,7 +33,7 @@ OTHER = 1_000_000, 60_000
 @functools.cache
 def generated(program, name, words, seed):
     """A history of bench/gen.py with its certificates, and the lines of the verdict."""
-    folder = f"{program.room}/pieces {name}"
+    folder = f"{program.folder}/pieces {name}"
     os.makedirs(folder, exist_ok=True)
     made = [sys.executable, f"{ROOT}/bench/gen.py", "history", folder, *words.split(), "--seed", str(seed)]
     subprocess.run(made, check=True, stdout=subprocess.DEVNULL)
@@ -47,7 +47,7 @@ def generated(program, name, words, seed):
 def same_with_each(program, report, name, history, certificates, workers=WORKERS):
     """The verdict is the same with each number of workers, of check and of verify. Returns the one of a single worker."""
     files = program.write("pieces.history.edn", history), program.write("pieces.certificates.edn", certificates)
-    lines = [(command, *files, "--workers", it) for command in COMMANDS for it in workers]
+    lines = [(command, *files, "--workers", worker) for command in COMMANDS for worker in workers]
     whole, *others = at_once(lambda it: program.run(*it), lines)
     report.holds(f"pieces: {name}: one worker", whole.status in (0, 2) and whole.out and not whole.err, whole)
     for (command, *_, it), ran in zip(lines[1:], others):
@@ -93,7 +93,7 @@ def valid_texts_in_pieces(program, report):
         report.holds(f"pieces: {name}: is long", len(history) >= LEAST_LENGTH, len(history))
         whole = same_with_each(program, report, name, history, certificates)
         report.answers(f"pieces: {name}: verdict", whole, lines, 0)
-        operations, objects = (int(it) for it in re.match(r"yes: (\d+) operations, (\d+) objects", lines).groups())
+        operations, objects = (int(group) for group in re.match(r"yes: (\d+) operations, (\d+) objects", lines).groups())
         whole = same_with_each(program, report, f"{name}: an operation over all pieces", *in_all(history, certificates))
         report.holds(f"pieces: {name}: one more", whole.out.startswith(f"yes: {operations + 1} operations, {objects + 1} objects\n".encode()), whole)
         if name == "mixed":
@@ -103,7 +103,7 @@ def valid_texts_in_pieces(program, report):
 
 
 def faults_at_seams(program, report):
-    """Faults that no piece has by itself, each by its place: a process that is busy, one that is not, and an object of another kind."""
+    """Faults that no piece shows alone are named with their places: a busy process, an idle one, and an object of another kind."""
     history, certificates, _ = generated(program, "mixed", HISTORIES["mixed"], 0)
     history, certificates = in_all(history, certificates)
     maps = history.count("\n")
@@ -126,7 +126,7 @@ def faults_at_seams(program, report):
 
 
 def judgements_of_long_texts(program, report):
-    """judge, of which both halves read by workers, answers the same with each number of workers: yes, no, and that a history is malformed."""
+    """judge gives the same answer with each number of workers: yes, no, and malformed. Both halves of it read by workers."""
     yes, _, lines = generated(program, "one queue", HISTORIES["one queue"], list(HISTORIES).index("one queue"))
     no = yes + "".join(f"{{:process {OTHER[0]}, :type :{it}, :f :dequeue, :value {value}}}\n" for it, value in (("invoke", "nil"), ("ok", -1)))
     for name, history, status in (("yes", yes, 0), ("no", no, 1), ("malformed", yes + "{:process 0}\n", 2)):
@@ -141,7 +141,7 @@ def judgements_of_long_texts(program, report):
 
 
 def long_texts_are_read_in_pieces(program, report):
-    """A verdict does not tell how the text was read, but the number of allocations does. Each of 16 workers makes several for its piece."""
+    """Sixteen workers read a long text in pieces. The verdict does not show it, but the number of allocations does: several for each piece."""
     words = "--kind all --objects 12 --calls 5200 --concurrency 24 --processes 40 --time --index"
     history, certificates, lines = generated(program, "not long", words, 5)
     orders = program.write("pieces.certificates.edn", certificates)

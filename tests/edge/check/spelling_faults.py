@@ -1,4 +1,4 @@
-"""Texts that spell no forms, as histories, certificates and reasons: which fault is named, and at which byte.
+"""Texts with a spelling fault, as histories, certificates and reasons: which fault is named, and at which byte.
 
 Each is worked out from the rules of docs/formats.md. A history is read with the beginnings of its values alone, certificates beside the
 numbers of their orders, and reasons as whole forms."""
@@ -228,7 +228,7 @@ def read_as(program, number, text):
 
 
 def texts_are_refused(program, report):
-    """Each text, with the fault and the place that must be named."""
+    """Each text with a spelling fault is refused: the fault and its place are named."""
     rows = [*TEXTS, *BROKEN]
     for (text, fault), those in zip(rows, at_once(lambda it: read_as(program, it, rows[it][0]), range(len(rows)))):
         for (command, of), ran in zip(AS, those):
@@ -237,12 +237,12 @@ def texts_are_refused(program, report):
 
 def with_key_again(before, keys, again):
     """After `before` a map of this many keys, then one of them once more, or a new one, and where that is."""
-    text = before + "{" + "".join(f":key-{it} {it}, " for it in range(keys))
+    text = before + "{" + "".join(f":key-{number} {number}, " for number in range(keys))
     return text + f":key-{again} nil}}", len(text)
 
 
 def keys_again(program, report):
-    """A key that comes again is refused among few and many; with fewer than forty also after a map that had forty, whose keys are in a set."""
+    """A key that is twice in a map is refused, whether the map has few keys or many. Small maps come after one of forty keys, which are in a set."""
     large = "[" + with_key_again("", 40, 40)[0] + " "
     rows = []
     for keys in range(1, 41):
@@ -258,7 +258,7 @@ def keys_again(program, report):
 
 
 def deep_values(program, report):
-    """A value of many deep vectors is read past."""
+    """A value of many deep vectors is skipped."""
     ran = program.run("judge", program.write("deep.edn", DEEP))
     report.answers("judge: a value of many deep vectors", ran, lines("yes: 1 operations, 1 objects", "stack: 1 objects, 1 operations"), 0)
 

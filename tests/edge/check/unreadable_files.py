@@ -58,7 +58,7 @@ def good_runs():
     yield ("search", HISTORY), (history,), worked_rows.order(1, 0, 4), 0
     yield ("find", HISTORY), (history,), worked_rows.order(1, 0, 4), 0
     yield ("judge", HISTORY), (history,), worked_rows.THREE_YES, 0
-    refuted = next(it for it in worked_rows.REFUTATIONS if it.name == "refute: two of three values")
+    refuted = next(row for row in worked_rows.REFUTATIONS if row.name == "refute: two of three values")
     yield ("refute", HISTORY, REASONS), refuted.files(), refuted.out, 1
     yield ("verify", HISTORY, EVIDENCE), (history, (EVIDENCE, worked_rows.order(1, 0, 4))), worked_rows.THREE_YES, 0
     yield ("simulate", SCHEDULE), ((SCHEDULE, worked_rows.SERVED_BY_ANOTHER),), worked_rows.SERVED_LINES, 0
@@ -66,13 +66,13 @@ def good_runs():
 
 def proved_runs():
     """Those of them that the proved program does alone."""
-    return (it for it in good_runs() if it[0][0] not in OF_TOOLS)
+    return (run for run in good_runs() if run[0][0] not in OF_TOOLS)
 
 
 def unreadable(program: Program, report: Report):
     """The first file that cannot be read is named, and nothing is printed."""
     write_good(program)
-    os.makedirs(f"{program.room}/folder", exist_ok=True)
+    os.makedirs(f"{program.folder}/folder", exist_ok=True)
     for name in ("missing.edn", "folder"):
         for words in with_each_file(name):
             ran = program.run(*words)
@@ -86,16 +86,16 @@ def unreadable(program: Program, report: Report):
     ran = program.run("check", "first.edn", "second.edn")
     report.answers("check: both files are missing", ran, "", 4, "fcbench: cannot read first.edn\n")
     # A pipe into which nothing is written: a program that opens it waits.
-    os.mkfifo(f"{program.room}/never.edn")
+    os.mkfifo(f"{program.folder}/never.edn")
     ran = program.run("check", "missing.edn", "never.edn")
     report.answers("check: the history is read first", ran, "", 4, "fcbench: cannot read missing.edn\n")
-    os.remove(f"{program.room}/never.edn")
+    os.remove(f"{program.folder}/never.edn")
     program.write("bad.edn", "007")
     ran = program.run("check", "bad.edn", "missing.edn")
     message = "fcbench: cannot read missing.edn\n"
     report.answers("check: files are read before anything is judged", ran, "", 4, message)
     secret = program.write("secret.edn", worked_rows.OVERLAPPING)
-    os.chmod(f"{program.room}/{secret}", 0)
+    os.chmod(f"{program.folder}/{secret}", 0)
     # The superuser may read every file, so then the program runs as another user.
     how = AS_NOBODY if os.geteuid() == 0 else {}
     for words in with_each_file(secret):
@@ -119,7 +119,7 @@ def each_read_fails(program, report, words, names, reads):
 
 
 def failing_reads(program, report):
-    """Where any one read fails, its file is named and nothing is printed."""
+    """If one read fails, whichever, its file is named and nothing is printed."""
     for words, files, out, status in proved_runs():
         for name, text in files:
             program.write(name, text)
@@ -140,8 +140,8 @@ MOST_READS = 12
 
 
 def failing_reads_of_tools(program, report):
-    """Where any one read of each process fails, find and draw name the file. judge ends with 4, or says what verify
-    says of the evidence that came."""
+    """If one read fails, whichever, in each process, find and draw name the file. judge ends with 4, or says what verify says with the evidence
+    that came."""
     program.write(HISTORY, worked_rows.OVERLAPPING)
     whole = program.run("judge", HISTORY)
     report.answers("judge, with no read that fails", whole, worked_rows.THREE_YES, 0)
@@ -151,7 +151,7 @@ def failing_reads_of_tools(program, report):
         runs = [program.run(*words, faults={"FAIL_READ_AT": at}) for at in range(1, MOST_READS + 1)]
         are_well = [is_named(it, HISTORY) or it.status >= 3 and it.out == b"" or (it.status, it.out) == (good.status, good.out) for it in runs]
         report.equal(f"{words[0]}: runs in which a read fails, and that are wrong", [], [it for it, is_well in zip(runs, are_well) if not is_well])
-        report.holds(f"{words[0]}: where it cannot be read the file is named", any(is_named(it, HISTORY) for it in runs), runs)
+        report.holds(f"{words[0]}: where it cannot be read the file is named", any(is_named(run, HISTORY) for run in runs), runs)
     failed = 0
     for at in range(1, MOST_READS + 1):
         for more in ({}, {"READ_AT_MOST": 1}):
@@ -165,7 +165,7 @@ def failing_reads_of_tools(program, report):
 
 
 def failing_reads_of_long_texts(program, report):
-    """Where any one read of a long history fails, it is named, with one worker and with several: no read is tried again."""
+    """If one read of a long history fails, whichever, the file is named, with one worker and with several: no read is tried again."""
     maps = "".join(f"{{:process 0, :type :{it}, :f :write, :value {n}}}\n" for n in range(12_000) for it in ("invoke", "ok"))
     program.write(HISTORY, maps)
     program.write(CERTIFICATES, worked_rows.order(*range(0, 24_000, 2)))
@@ -179,30 +179,30 @@ def failing_reads_of_long_texts(program, report):
 
 
 def in_pieces(program, report):
-    """Texts that come in pieces, with pauses, and an empty pipe."""
-    for words, files, out, status in (it for it in good_runs() if it[0][0] != "judge"):
+    """Texts that come in pieces, with pauses, get the usual answer, and so does an empty pipe."""
+    for words, files, out, status in (run for run in good_runs() if run[0][0] != "judge"):
         for size in (1, 50):
             ran = through_pipes(program, files, words, size, 0.0002 * size)
             report.answers(f"{' '.join(words)}, through pipes in pieces of {size}", ran, out, status)
     ran = through_pipes(program, ((HISTORY, ""), (CERTIFICATES, "")), ("check", HISTORY, CERTIFICATES))
     report.answers("check: two empty pipes", ran, worked_rows.yes(0, 0), 0)
     # Two programs read the history of judge and draw, so it is no pipe.
-    os.mkfifo(f"{program.room}/pipe.edn")
+    os.mkfifo(f"{program.folder}/pipe.edn")
     for words in (("judge", "pipe.edn"), ("draw", "pipe.edn"), ("judge", "-"), ("draw", "-")):
         said = f"fcbench: cannot read {words[1]}: it is read twice, so it must be a file and not a pipe\n"
         report.answers(f"{' '.join(words)}: a pipe", program.run(*words), "", 4, said)
-    os.remove(f"{program.room}/pipe.edn")
+    os.remove(f"{program.folder}/pipe.edn")
 
 
 def with_zeros(program, name, length, first=b""):
     """Makes a file of n bytes, which are zero after the first ones. They take no room on the disk."""
-    with open(f"{program.room}/{name}", "wb") as file:
+    with open(f"{program.folder}/{name}", "wb") as file:
         file.write(first)
         file.truncate(length)
 
 
 def too_long(program, report):
-    """A text one byte too long, which is no UTF-8, and a device that never ends: nothing in them is looked at."""
+    """A text that is one byte too long, and a device that never ends, are refused before their bytes are looked at."""
     write_good(program)
     with_zeros(program, "long.edn", LONGEST + 1, b"\xff")
     for name in ("long.edn", "/dev/zero"):
@@ -222,33 +222,33 @@ def too_long(program, report):
     with_zeros(program, "long.edn", LONGEST)
     ran = program.run("check", "long.edn", CERTIFICATES)
     report.answers("check: zeros of the greatest length", ran, "malformed history: E9 at byte 0\n", 2)
-    os.remove(f"{program.room}/long.edn")
+    os.remove(f"{program.folder}/long.edn")
 
 
 def longest(program, report):
-    """A history of the greatest length, whose last map is at its end, counts to its last byte. So does evidence."""
+    """A history of the greatest length is read to its last byte, and so is evidence. One byte more is a fault."""
     text = worked_rows.OVERLAPPING.encode()
     head, _, last = text.rstrip(b"\n").rpartition(b"\n")
     program.write(CERTIFICATES, worked_rows.order(1, 0, 4))
-    with open(f"{program.room}/longest.edn", "wb") as file:
+    with open(f"{program.folder}/longest.edn", "wb") as file:
         file.write(head + b"\n" + b" " * (LONGEST - len(head) - 1 - len(last)) + last)
     ran = program.run("check", "longest.edn", CERTIFICATES)
     report.answers("check: a history of the greatest length", ran, worked_rows.THREE_YES, 0)
-    with open(f"{program.room}/longest.edn", "ab") as file:
+    with open(f"{program.folder}/longest.edn", "ab") as file:
         file.write(b" ")
     ran = program.run("check", "longest.edn", CERTIFICATES)
     report.answers("check: a history one byte longer", ran, "malformed history: E10 at byte 0\n", 2)
     program.write(HISTORY, worked_rows.OVERLAPPING)
     evidence = worked_rows.order(1, 0, 4).encode()
-    with open(f"{program.room}/longest.edn", "wb") as file:
+    with open(f"{program.folder}/longest.edn", "wb") as file:
         file.write(b" " * (LONGEST - len(evidence)) + evidence)
     ran = program.run("verify", HISTORY, "longest.edn")
     report.answers("verify: evidence of the greatest length", ran, worked_rows.THREE_YES, 0)
-    with open(f"{program.room}/longest.edn", "ab") as file:
+    with open(f"{program.folder}/longest.edn", "ab") as file:
         file.write(b" ")
     ran = program.run("verify", HISTORY, "longest.edn")
     report.answers("verify: evidence one byte longer", ran, "malformed evidence: E10 at byte 0\n", 3)
-    os.remove(f"{program.room}/longest.edn")
+    os.remove(f"{program.folder}/longest.edn")
 
 
 def same_file_twice(program, report):

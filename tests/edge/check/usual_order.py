@@ -45,7 +45,7 @@ FORMS = (usual, index_first, with_a_note, type_first, spread)
 
 def pairs_of(text):
     """The pairs of a map that is written in the usual form."""
-    return [tuple(it.split(" ", 1)) for it in text.removeprefix("{").removesuffix("}").split(", ")]
+    return [tuple(pair.split(" ", 1)) for pair in text.removeprefix("{").removesuffix("}").split(", ")]
 
 
 def invoke(f, value, more="", process="0"):
@@ -189,7 +189,7 @@ def earlier(number, form):
     """Complete calls of process 9 on object 9."""
     more = ", :object 9, :time 1"
     maps = [(invoke, ok)[it % 2]("insert", str(it // 2), more, "9") for it in range(number)]
-    return "".join(f"{form(pairs_of(it))}\n" for it in maps)
+    return "".join(f"{form(pairs_of(map_text))}\n" for map_text in maps)
 
 
 def rewritten(text, form):
@@ -211,28 +211,28 @@ def judged(program, texts):
 
 
 def good_histories(program, report):
-    """Histories that are linearizable, in each form."""
+    """judge says yes to histories that are linearizable, in each form."""
     rows = [(text, count + number // 2) for maps, count in GOOD for text, number in histories(maps)]
     for (text, count), ran in zip(rows, judged(program, [text for text, _ in rows])):
         report.equal(f"judge: {text[-200:]!r}", (0, f"yes: {count} operations".encode(), b""), (ran.status, ran.out.partition(b",")[0], ran.err))
 
 
 def bad_histories(program, report):
-    """Histories that are not linearizable, in each form."""
+    """judge says no to histories that are not linearizable, in each form."""
     texts = [text for maps in BAD for text, _ in histories(maps)]
     for text, ran in zip(texts, judged(program, texts)):
         report.equal(f"judge: {text[-200:]!r}", (1, b""), (ran.status, ran.err), ran.out)
 
 
 def faulty_histories(program, report):
-    """The fault of a map, by its number and the map's."""
+    """judge names the fault of a history, by its code and the number of its map, in each form."""
     rows = [(text, f"{fault} at map {number + len(maps) - 1}") for fault, maps in FAULTY for text, number in histories(maps)]
     for (text, fault), ran in zip(rows, judged(program, [text for text, _ in rows])):
         report.answers(f"judge: {text[-200:]!r}", ran, f"malformed history: {fault}\n", 2)
 
 
 def broken_texts(program, report):
-    """What is wrong with a text, by its number and the byte at which it is."""
+    """judge names the spelling fault of a text, by its code and its byte, in each form."""
     rows = []
     for fault, broken in BROKEN:
         for text, _ in histories([broken]):
@@ -309,7 +309,7 @@ def certificates():
 
 
 def orders_in_each_form(program, report):
-    """Certificates in each form: the answer of a check, and the place of a fault."""
+    """check gives the same answer with a certificate in each form, and the same place of a fault."""
     history = program.write("straight.writes.edn", WRITES)
     rows = list(certificates())
     ran = at_once(lambda n: program.run("check", history, program.write(f"straight.order.{n}.edn", rows[n][0])), range(len(rows)))
@@ -327,9 +327,9 @@ def usual_histories():
     """Of each kind of object, and in each usual order: a history of some 500 maps, and its certificate."""
     for maps, _ in GOOD[:6]:
         maps = maps * (500 // len(maps))
-        order = " ".join(str(it) for it in range(0, len(maps), 2))
+        order = " ".join(str(number) for number in range(0, len(maps), 2))
         for form in (usual, index_first, with_a_node):
-            yield "".join(f"{form(pairs_of(it))}\n" for it in maps), f"{{:object 0, :order [{order}]}}\n"
+            yield "".join(f"{form(pairs_of(map_text))}\n" for map_text in maps), f"{{:object 0, :order [{order}]}}\n"
 
 
 def long_orders():
@@ -355,12 +355,12 @@ def costs_less(program, report, rows):
 
 
 def cost_of_usual_maps(program, report):
-    """A check of maps in a usual order, also with a key without a meaning at the end, costs less than where a space is after each brace."""
+    """A check of maps in a usual order, also with an unknown key at the end, costs less than one of maps with a space after each brace."""
     return costs_less(program, report, [it for history, order in usual_histories() for it in ((history, order), (history.replace("{", "{ "), order))])
 
 
 def cost_of_usual_orders(program, report):
-    """So does a check with a certificate in the usual form."""
+    """A check with a certificate in the usual form costs less than with one in another form."""
     return costs_less(program, report, [it for history, order in long_orders() for it in ((history, order), (history, order.replace("{", "{ ")))])
 
 

@@ -96,7 +96,7 @@ def lines_of(told):
     """The lines of judge or check as the page has them: of very many the first ones, and of a very long one the beginning."""
     lines = told.out.decode().removesuffix("\n").split("\n")
     more = len(lines) - MOST_LINES
-    shown = [it if len(it.encode()) <= LONGEST_LINE else it[:LONGEST_LINE] + "…" for it in lines[:MOST_LINES]]
+    shown = [line if len(line.encode()) <= LONGEST_LINE else line[:LONGEST_LINE] + "…" for line in lines[:MOST_LINES]]
     return "\n".join(shown + ([f"… {sentences.grouped(more)} more line{'' if more == 1 else 's'}"] if more > 0 else []))
 
 
@@ -123,7 +123,7 @@ def why_heading_false(page, code):
     if not heading.endswith(HEADINGS["C1"] if code == "C1" else HEADINGS.get(page.answer, "")):
         return f"the heading is {heading}"
     wanted = NO_ORDER if code == "C1" else REFUSED
-    is_said = any(it.startswith(wanted) for it in page.said)
+    is_said = any(sentence.startswith(wanted) for sentence in page.said)
     return None if is_said or code in (None, "C2") else f"it does not say {wanted}: {page.said}"
 
 
@@ -190,7 +190,7 @@ def look(program, report, case):
     except Exception as error:  # A page that can't be read is wrong.
         report.holds(f"draw: {case.name}: the page can be read", False, f"{type(error).__name__}: {error} {drawn.out[:300]}")
         return None
-    path = f"{program.room}/{case.stem()}.html"
+    path = f"{program.folder}/{case.stem()}.html"
     with open(path, "wb") as file:
         file.write(drawn.out)
     return wanted_of(case, told, path)
@@ -211,7 +211,7 @@ def in_browser(program, report, wanted):
     """Whether the browser finds nothing wrong with the pages, but with one that has all that a page must not have."""
     if not is_in_browser():
         return
-    broken = f"{program.room}/broken.html"
+    broken = f"{program.folder}/broken.html"
     with open(broken, "w") as file:
         file.write(
             '<body class="yes" style="color:#777;background:#888"><script>1</script><a href="#nowhere">x</a><p id="a">text</p><p id="a">x</p></body>'
@@ -229,7 +229,7 @@ def found_in_browser(program, report, wanted):
     cases = program.write("cases.json", json.dumps(wanted))
     # What was found until the time was over is told.
     line = ["timeout", str(10 * SECONDS), "node", "--experimental-websocket", CHECKS, cases]
-    ran = subprocess.run(line, cwd=program.room, capture_output=True, text=True)
+    ran = subprocess.run(line, cwd=program.folder, capture_output=True, text=True)
     found = [(it["file"], it["bad"]) for it in map(json.loads, ran.stdout.splitlines())]
     missing = {it["file"] for it in wanted} - {file for file, _ in found}
     report.equal("draw: pages at which the browser has not looked", set(), missing, ran.stderr[-2000:])
@@ -249,19 +249,19 @@ def page_without_memory(program, report):
     history, certificates = program.write(HISTORY, worked_rows.OVERLAPPING), program.write(CERTIFICATES, text_writers.order(1, 0, 4))
     _, count, _ = program.counts("check", history, certificates)
     for at in range(1, count + 1):
-        without = f"{program.room}/{program.write('without_memory', WITHOUT_MEMORY.format(at=at, faults=program.faults, program=program.path))}"
+        without = f"{program.folder}/{program.write('without_memory', WITHOUT_MEMORY.format(at=at, faults=program.faults, program=program.path))}"
         os.chmod(without, 0o755)
         ran = program.run("draw", history, certificates, env={"FCBENCH": without})
         if ran.status == 3 and b'<body class="memory">' in ran.out:
             report.equal("draw: the lines of a page without memory", "out of memory", Drawn(ran.out).lines)
             path = program.write("memory.html", ran.out)
-            return {"file": f"{program.room}/{path}", "most": MOST_BYTES, "answer": "memory"}
+            return {"file": f"{program.folder}/{path}", "most": MOST_BYTES, "answer": "memory"}
     report.holds("draw: there is a page without memory", False, count)
     return None
 
 
 def drawn_pages(program, report):
-    """Each situation has the status of judge or check, and a page that is as it must be, in the browser too."""
+    """draw ends with the status of judge or check in each situation, and its page is as it must be, in the browser too."""
     cases = (*situations(program), *options_and_faults(), *hostile(), *extreme(), forty_objects(), many_objects())
     wanted = [*at_once(lambda case: look(program, report, case), cases), page_without_memory(program, report)]
     answers = {it["answer"] for it in wanted if it}
@@ -274,7 +274,7 @@ def drawn_pages(program, report):
 
 
 def drawn_sentences(program, report):
-    """What pages of generated histories say of them is true, with at least OF_EACH of each verdict."""
+    """The sentences on pages of generated histories are true: at least OF_EACH histories of each verdict."""
     counts, said, wrong = collections.Counter(), collections.Counter(), 0
 
     def draw(case):
@@ -293,15 +293,15 @@ def drawn_sentences(program, report):
         wrong += why is not None
     few = {it: counts[it] for it in VERDICTS if counts[it] < OF_EACH}
     report.equal("draw: of these verdicts there are too few generated histories", {}, few)
-    forms = [*sentences.FORMS, "general", *sentences.ENDINGS, *[f"aside {it}" for it in range(len(sentences.ASIDES))]]
+    forms = [*sentences.FORMS, "general", *sentences.ENDINGS, *[f"aside {number}" for number in range(len(sentences.ASIDES))]]
     # A range of first events is said only of histories that are too long for all their beginnings to be tried.
-    rare = {it: said[it] for it in forms if said[it] < OF_EACH_FORM and it != "first_events"}
+    rare = {form: said[form] for form in forms if said[form] < OF_EACH_FORM and form != "first_events"}
     report.equal("draw: these sentences are said too rarely", {}, rare)
-    return f"{sum(counts.values())} pages, {wrong} false, of each sentence at least {min(said[it] for it in forms)}"
+    return f"{sum(counts.values())} pages, {wrong} false, of each sentence at least {min(said[form] for form in forms)}"
 
 
 def drawn_faults(program, report):
-    """Of OF_EACH malformed texts of each sort the page marks the place, and what it says is true."""
+    """Pages of malformed texts mark the place of the fault, and what they say of it is true: OF_EACH texts of each sort."""
     counts = {}
 
     def draw(numbered):
@@ -524,11 +524,11 @@ def finding(case, page, told, orders):
 
 
 def falsified_pages(program, report):
-    """What is made false on a page is found, by the check that is to find it and by no other one."""
+    """The checks of these tests find a page that was made false: the check that is meant to find it, and no other."""
     for case, those in falsified():
         drawn, told, orders = run(program, case)
         report.equal(f"draw: {case.name}: nothing is false", set(), finding(case, drawn.out, told, orders))
-        for names, (old, new) in ((names, it) for names, pairs in those.items() for it in pairs):
+        for names, (old, new) in ((names, pair) for names, pairs in those.items() for pair in pairs):
             page = drawn.out.replace(old.encode(), new.encode(), 1)
             report.holds(f"draw: {case.name} has {old}", page != drawn.out, drawn.out[:3000])
             report.equal(f"draw: {case.name} with {new} in place of {old}: what finds it", set(names.split()), finding(case, page, told, orders))
@@ -550,7 +550,7 @@ FALSIFIED_STYLES = (
 
 
 def falsified_styles(program, report):
-    """What a style makes wrong is found in the browser, and nothing else."""
+    """The checks in the browser find what a wrong style does to a page, and nothing else."""
     if not is_in_browser():
         return
     queue = played(("queue",), 600, 4)
@@ -561,7 +561,7 @@ def falsified_styles(program, report):
     wanted = {}
     for number, (name, style, words) in enumerate(FALSIFIED_STYLES):
         page, told, _ = drawn[name]
-        path = f"{program.room}/{program.write(f'style {number}.html', page.out.replace(b'</style>', style.encode() + b'</style>', 1))}"
+        path = f"{program.folder}/{program.write(f'style {number}.html', page.out.replace(b'</style>', style.encode() + b'</style>', 1))}"
         wanted[path] = (style, words, wanted_of(cases[name], told, path))
     for file, bad in found_in_browser(program, report, [it for _, _, it in wanted.values()]):
         style, words, _ = wanted[file]
@@ -578,9 +578,9 @@ def rounds(processes, maps, on=None):
     while len(made) < maps:
         count = min(processes, (maps - len(made)) // 4)
         begun, values = len(made), range(value, value + count)
-        made += [text_writers.invoke(it, "enqueue", value + it, on) for it in range(count)]
-        made += [text_writers.ok(it, "enqueue", value + it, on) for it in range(count)]
-        made += [text_writers.invoke(it, "dequeue", None, on) for it in range(count)]
+        made += [text_writers.invoke(number, "enqueue", value + number, on) for number in range(count)]
+        made += [text_writers.ok(number, "enqueue", value + number, on) for number in range(count)]
+        made += [text_writers.invoke(number, "dequeue", None, on) for number in range(count)]
         made += [text_writers.ok(it, "dequeue", own, on) for it, own in enumerate(values)]
         order += [*range(begun, begun + count), *range(begun + 2 * count, begun + 3 * count)]
         value += count
@@ -595,7 +595,7 @@ def with_wrong_reply(maps, at):
 
 def with_value_twice(maps, at):
     """The history in which a value that is taken out after a map is the one that was taken out before."""
-    one, other = itertools.islice((it for it in range(at, len(maps)) if ":ok" in maps[it] and ":dequeue" in maps[it]), 2)
+    one, other = itertools.islice((number for number in range(at, len(maps)) if ":ok" in maps[number] and ":dequeue" in maps[number]), 2)
     value = re.search(r":value (\d+)", maps[one])[1]
     return [*maps[:other], re.sub(r":value \d+", f":value {value}", maps[other]), *maps[other + 1 :]]
 
@@ -656,11 +656,11 @@ def rounds_of_a_map(processes, maps):
     made, value = [], 0
     before = dict.fromkeys(range(processes))
     while len(made) < maps:
-        made += [text_writers.invoke(it, "put", (it, value + it)) for it in range(processes)]
-        made += [text_writers.ok(it, "put", before[it]) for it in range(processes)]
-        before = {it: value + it for it in range(processes)}
-        made += [text_writers.invoke(it, "get", it) for it in range(processes)]
-        made += [text_writers.ok(it, "get", before[it]) for it in range(processes)]
+        made += [text_writers.invoke(number, "put", (number, value + number)) for number in range(processes)]
+        made += [text_writers.ok(number, "put", before[number]) for number in range(processes)]
+        before = {number: value + number for number in range(processes)}
+        made += [text_writers.invoke(number, "get", number) for number in range(processes)]
+        made += [text_writers.ok(number, "get", before[number]) for number in range(processes)]
         value += processes
     return made
 

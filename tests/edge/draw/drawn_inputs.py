@@ -104,7 +104,7 @@ def paused_map():
 def orders_of(certificates):
     """The orders in a text of certificates, by their objects."""
     found = re.findall(r"\{:object (\d+), :order \[([^\]]*)\]", certificates.decode() if isinstance(certificates, bytes) else certificates or "")
-    return {int(on): [int(it) for it in order.split()] for on, order in found}
+    return {int(on): [int(number) for number in order.split()] for on, order in found}
 
 
 def found_orders(program, name, history):
@@ -223,9 +223,9 @@ def of_two_values(count, processes, put="enqueue", take="dequeue"):
     rng = random.Random(f"two values {count}")
     values = [rng.randrange(2) for _ in range(count)]
     taken = values[::-1] if take == "pop" else list(values)
-    at = next(it for it in range(count // 2, count) if taken[it] != taken[it + 1])
+    at = next(number for number in range(count // 2, count) if taken[number] != taken[number + 1])
     taken[at], taken[at + 1] = taken[at + 1], taken[at]
-    calls = [(put, it, it) for it in values] + [(take, None, it) for it in taken]
+    calls = [(put, value, value) for value in values] + [(take, None, it) for it in taken]
     return text_writers.lines(*[line for place, call in enumerate(calls) for line in one_call(place % processes, *call)])
 
 
@@ -330,8 +330,8 @@ def options_and_faults():
         "an object without an order and one with",
         WRONG_TURN + text_writers.lines(text_writers.invoke(5, "push", 1, 4), text_writers.ok(5, "push", 1, 4)),
     )
-    for it in worked_rows.MALFORMED:
-        yield Case(it.name, *it.texts[:2])
+    for row in worked_rows.MALFORMED:
+        yield Case(row.name, *row.texts[:2])
 
 
 def hostile():
@@ -385,8 +385,8 @@ def extreme():
         )
         yield Case(f"a {name} with values at the limits, impossible", text_writers.one_process(*wrong))
     for put, take in CONTAINERS:
-        values = [GREATEST - it for it in range(12)] + [LEAST + it for it in range(12)]
-        calls = [(put, it, it) for it in values] + [(take, None, values[5])]
+        values = [GREATEST - number for number in range(12)] + [LEAST + number for number in range(12)]
+        calls = [(put, value, value) for value in values] + [(take, None, values[5])]
         yield Case(f"24 values of 64 bits, {take}", text_writers.one_process(*calls), text_writers.order(*range(0, 50, 2)), says=("c6",))
         yield Case(f"24 values of 64 bits, {take}, judged", text_writers.one_process(*calls))
 
@@ -420,7 +420,7 @@ def mutated(rng, made, code):
         return text_writers.lines(text_writers.certificate(0, *order), text_writers.certificate(3))
     if code == "C3":
         numbers = [-1, len(made.maps) + 5]
-        numbers += [it.at for it in calls.values() if it.at is not None]
+        numbers += [call.at for call in calls.values() if call.at is not None]
         numbers += [number for number, it in calls.items() if it.end == "fail"]
         order.insert(place, rng.choice(numbers))
     if code == "C4":

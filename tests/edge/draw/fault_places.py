@@ -70,13 +70,13 @@ class Pieces:
 
 def outstanding(calls, at):
     """The calls that are outstanding before a map."""
-    return [it for it in calls.values() if it.number < at and (it.at is None or it.at >= at)]
+    return [call for call in calls.values() if call.number < at and (call.at is None or call.at >= at)]
 
 
 def idle(calls, at):
     """A process that has nothing outstanding before a map, and that no :info closed."""
     busy = {it.process for it in calls.values() if it.number < at and (it.at is None or it.at >= at or it.end == "info")}
-    free = sorted({it.process for it in calls.values() if it.number < at} - busy)
+    free = sorted({call.process for call in calls.values() if call.number < at} - busy)
     return int(free[0]) if free else 990
 
 
@@ -299,7 +299,7 @@ def not_in_profile(rng, made):
 
 
 def forms_of(rng, made):
-    return [text_writers.certificate(0, *made.order), *[text_writers.certificate(it) for it in range(1, rng.choice((1, 2, 5)))]]
+    return [text_writers.certificate(0, *made.order), *[text_writers.certificate(number) for number in range(1, rng.choice((1, 2, 5)))]]
 
 
 def of_forms(rng, code, forms, at, faulty, said, earlier=None):
@@ -395,7 +395,7 @@ def is_cut_of(shown, text, most):
     """Whether this is the text, or as much of its beginning as is shown of it, up to a character more, and a sign that there is more."""
     if len(text) <= most:
         return shown == visible(text)
-    return shown.endswith("…") and any(shown[:-1] == visible(text[:it]) for it in range(most, most + 4))
+    return shown.endswith("…") and any(shown[:-1] == visible(text[:number]) for number in range(most, most + 4))
 
 
 class Row:
@@ -434,7 +434,7 @@ def why_mark_wrong(row, text, marked, missing):
     if len(before) <= BESIDE:
         is_before = row.before == visible(before)
     else:
-        is_before = row.before.startswith("…") and row.before[1:] in [visible(before[-BESIDE + it :]) for it in range(4)]
+        is_before = row.before.startswith("…") and row.before[1:] in [visible(before[-BESIDE + number :]) for number in range(4)]
     if not is_before:
         return f"{row.before} is before the mark"
     if shown < end:

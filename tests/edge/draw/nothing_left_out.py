@@ -39,7 +39,7 @@ def why_something_is_left_out(page, history):
 
 
 def nothing_is_left_out(program, report):
-    """Of each page the operations with bars and those of the gaps are all operations of the object."""
+    """The operations with bars on a page, and those that its gaps count, are all operations of the object."""
 
     def draw(seed):
         case = case_of(seed)

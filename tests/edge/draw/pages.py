@@ -65,16 +65,16 @@ class Drawn:
         """The numbers of the operations that have a bar in the figure with this name."""
         element = self.by_id(figure)
         bars = found(element, "g", "op") if element is not None else []
-        return sorted({int(it.get("data-op")) for it in bars if it.get("data-op")})
+        return sorted({int(bar.get("data-op")) for bar in bars if bar.get("data-op")})
 
     def orders(self):
         """The orders in the tables, by their objects, of those that have all entries."""
         tables = [it.get("id") for it in self.body.iter("table") if "order" in classes(it)]
-        whole = [it for it in tables if not any("skip" in name for name, _ in self.rows(it))]
+        whole = [table for table in tables if not any("skip" in name for name, _ in self.rows(table))]
         return {int(it[1:]): [int(re.match(r"⟨(\d+)", cells[1])[1]) for _, cells in self.rows(it)] for it in whole}
 
     def rows(self, table):
         """The rows of a table: its class, and the texts of its cells."""
         element = self.by_id(table)
         rows = element.findall("tbody/tr") if element is not None else []
-        return [(it.get("class", ""), [spelled(cell) for cell in it]) for it in rows]
+        return [(row.get("class", ""), [spelled(cell) for cell in row]) for row in rows]

@@ -132,7 +132,7 @@ class Walked:
         own, found, key = self.entry_of(call), self.found(call), key_of(call)
         reply, left = ON_CELL[call.f](call.argument, found[0] if found else None)
         if left is not ...:
-            self.items = [it for it in self.items if it is not own]
+            self.items = [item for item in self.items if item is not own]
         if left is not ... and left is not None:
             self.items = sorted([*self.items, ((key, left) if self.kind == "map" else left, call.number)])
         return reply
@@ -153,7 +153,7 @@ class Walked:
     def entry_of(self, call):
         """The item of the cell of a call, with its key if it has one, or None."""
         key = key_of(call)
-        return next((it for it in self.items if key is None or (it[0][0] if self.kind == "map" else it[0]) == key), None)
+        return next((item for item in self.items if key is None or (item[0][0] if self.kind == "map" else item[0]) == key), None)
 
     def found(self, call):
         """The item that the call finds, or None."""
@@ -166,10 +166,10 @@ class Walked:
 
     def state(self):
         """What it contains, without the calls that put it there."""
-        return [it[0] for it in self.items], self.holder is None, self.owner, self.number
+        return [item[0] for item in self.items], self.holder is None, self.owner, self.number
 
     def text(self):
-        values = [it[0] for it in self.items]
+        values = [item[0] for item in self.items]
         if self.kind == "counter":
             return str(self.number)
         if self.kind in TOKENS:
@@ -195,7 +195,7 @@ class Said:
         self.orders, self.processes = orders, [it["process"] for it in maps_of(history)]
 
     def on(self, x):
-        return [it for it in self.calls.values() if it.on == x]
+        return [call for call in self.calls.values() if call.on == x]
 
     def walked(self, x, order, k):
         """What the object contains before the k-th entry of the order."""
@@ -323,14 +323,14 @@ class Said:
         call = self.calls[int(n)]
         others = [it for it in self.on(call.on) if it.number < call.at and it.is_live()]
         is_so = (call.returned(), call.reply) == (int(at), int(v)) and v == again and call.f in TAKES
-        return is_so and not any(it.f == f and it.argument == int(v) for it in others)
+        return is_so and not any(other.f == f and other.argument == int(v) for other in others)
 
     def not_empty(self, n, kind, p, at, until, v):
         call, put = self.calls[int(n)], self.calls[int(p)]
         others = [it for it in self.on(call.on) if it.number < int(until) and it.f in TAKES and it.is_live()]
         is_so = call.reply is None and call.end == "ok" and put.returned() == int(at) < call.number
         is_so &= put.argument == int(v) and call.at == int(until)
-        return is_so and not any(it.end != "ok" or it.reply == int(v) for it in others)
+        return is_so and not any(other.end != "ok" or other.reply == int(v) for other in others)
 
     def out_of_date(self, n, verb, v, by, how, at, first, last, again, so):
         later, earlier = self.calls[int(n)], self.calls[int(by)]
@@ -343,10 +343,10 @@ class Said:
         ran = [it for it in self.on(later.on) if it.is_live() and it.number < later.at and (it.returned() is None or it.returned() > earlier.number)]
         others = [it for it in ran if it.number != later.number and key_of(it) == key_of(later)]
         if found is None:
-            return is_so and not any(it.f in ("del", "dissoc", "clear") for it in others)
+            return is_so and not any(other.f in ("del", "dissoc", "clear") for other in others)
         # What replaces a value by the same does not make it that again.
-        keeps = [it for it in others if it.f in ("cas", "replace") and it.argument[-2:] == (found, found)]
-        return is_so and not any(value_put(it) == found and it not in keeps for it in others)
+        keeps = [other for other in others if other.f in ("cas", "replace") and other.argument[-2:] == (found, found)]
+        return is_so and not any(value_put(other) == found and other not in keeps for other in others)
 
     def left_in_words(self, call, left):
         """What a call left in its cell, in the words of a page."""
@@ -366,14 +366,14 @@ class Said:
 
     def wrong_turn(self, a, at, b, v, w, t, again, until, once_more, then):
         one, two, taker = (self.calls[int(it)] for it in (a, b, t))
-        others = [it for it in self.on(one.on) if it.number < int(until) and it.is_live()]
+        others = [call for call in self.on(one.on) if call.number < int(until) and call.is_live()]
         is_so = one.returned() == int(at) < two.number and (one.argument, two.argument) == (int(v), int(w))
         is_so &= (taker.reply, taker.at) == (int(w), int(until)) and (again, once_more) == (w, v)
-        is_so &= sum(it.f == "enqueue" and it.argument == int(w) for it in others) == 1
+        is_so &= sum(other.f == "enqueue" and other.argument == int(w) for other in others) == 1
         if then is not None:
             after = self.calls[int(then)]
             is_so &= (after.f, after.reply, after.on) == ("dequeue", int(v), one.on) and after.number > int(until)
-        return is_so and not any(it.f == "dequeue" and (it.end != "ok" or it.reply == int(v)) for it in others)
+        return is_so and not any(other.f == "dequeue" and (other.end != "ok" or other.reply == int(v)) for other in others)
 
     def lost(self, n, took, count, lesser, place, how, most, values):
         call, found = self.calls[int(n)], None if took is None else int(took)
@@ -388,10 +388,10 @@ class Said:
         taken = [it.reply for it in live if it.f in TAKES and it.end == "ok" and it.at < call.at]
         # What else may have taken one of the values: a removal that returned it late, or one that is pending, if no other took all of it.
         takers = [it for it in live if it.f in TAKES and it.number < call.at]
-        late = sum(it.end == "ok" and it.at > call.at and it.reply in dict(named) for it in takers)
+        late = sum(taker.end == "ok" and taker.at > call.at and taker.reply in dict(named) for taker in takers)
         replies = [it.reply for it in live if it.f in TAKES and it.end == "ok"]
         left = sum(sum(it.f in PUTS and it.argument == v for it in live) - replies.count(v) for v, _ in named)
-        others = late + min(sum(it.end != "ok" for it in takers), left)
+        others = late + min(sum(taker.end != "ok" for taker in takers), left)
         places = {"heap": f"in the heap before {found} was found", "queue": f"enqueued before {found}", "stack": f"pushed on {found}"}
         is_so = (call.end, call.reply) == ("ok", found) and place == (f"in the {kind} before that" if found is None else places[kind])
         is_so &= (lesser is not None) == (found is not None and kind == "heap") and all(not lesser or v < found for v, _ in named)
@@ -406,13 +406,13 @@ class Said:
         by = [self.calls[it] for those in named if those for it in those]
 
         def is_so(x):
-            live = [it for it in self.on(x) if it.is_live()]
-            puts = [it.number for it in live if it.number < int(until) and it.f == f and it.argument == int(v)]
-            takes = [it.number for it in live if it.f in TAKES and (it.reply, it.end) == (int(v), "ok") and it.at <= int(until)]
+            live = [call for call in self.on(x) if call.is_live()]
+            puts = [call.number for call in live if call.number < int(until) and call.f == f and call.argument == int(v)]
+            takes = [call.number for call in live if call.f in TAKES and (call.reply, call.end) == (int(v), "ok") and call.at <= int(until)]
             are_named = all(those == own if those else len(own) > FEW_NAMED for those, own in zip(named, (puts, takes)))
             return are_named and counts == [len(puts), len(takes)] and len(takes) > len(puts)
 
-        return v == again and any(is_so(x) for x in ({it.on for it in by} or {it.on for it in self.calls.values()}))
+        return v == again and any(is_so(x) for x in ({it.on for it in by} or {call.on for call in self.calls.values()}))
 
     def left_open(self, x, why):
         return bool(self.on(int(x))) and why in ("out of steps", "out of memory")
@@ -423,17 +423,17 @@ class Said:
 
     def has_order_until(self, x, until):
         """Whether what was invoked on an object before a number has an order, where what returned later is pending; None if it is much."""
-        calls = [it for it in self.on(x) if it.number < until and it.is_live()]
-        ended = [it.returned() if (it.returned() or until) < until else None for it in calls]
+        calls = [call for call in self.on(x) if call.number < until and call.is_live()]
+        ended = [call.returned() if (call.returned() or until) < until else None for call in calls]
         few = len(calls) <= FEW_NAMED
         return has_order([(it.number, end, it.f, it.argument, it.reply) for it, end in zip(calls, ended)]) if few else None
 
     def first_event(self, n):
-        x = next((it.on for it in self.calls.values() if it.returned() == int(n)), None)
+        x = next((call.on for call in self.calls.values() if call.returned() == int(n)), None)
         return x is not None and self.has_order_until(x, int(n) + 1) in (False, None) and self.has_order_until(x, int(n)) in (True, None)
 
     def first_events(self, least, most):
-        returns = {it.returned(): it.on for it in self.calls.values() if it.returned() is not None}
+        returns = {call.returned(): call.on for call in self.calls.values() if call.returned() is not None}
         are_there = int(least) in returns and int(most) in returns and int(least) < int(most)
         return are_there and self.has_order_until(returns[int(most)], int(most) + 1) in (False, None)
 
@@ -442,7 +442,7 @@ class Said:
         if not has_window:
             return [()]
         kind = KIND_OF[calls[0].f]
-        seen = {it for call in calls for it in integers_of(call)} | {-99}
+        seen = {number for call in calls for number in integers_of(call)} | {-99}
         if kind in ("map", "set"):
             return contents_by_keys(kind, calls)
         if kind == "counter":
@@ -455,7 +455,7 @@ class Said:
 
     def general(self, bars, begin, last, returned):
         """The operations that have bars have no valid order, and where one is named it is among them."""
-        calls = [self.calls[it] for it in bars]
+        calls = [self.calls[bar] for bar in bars]
         if last is not None:
             call = self.calls[int(last)]
             if call not in calls or returned is not None and value(call.reply) != returned:
@@ -465,9 +465,9 @@ class Said:
 
     def has_order_from(self, calls, content, since):
         """Whether some order of the calls is valid after this content. Those that began before the window need not be in it."""
-        free = [it for it in calls if since is not None and it.number < since]
+        free = [call for call in calls if since is not None and call.number < since]
         for left_out in itertools.chain.from_iterable(itertools.combinations(free, size) for size in range(len(free) + 1)):
-            kept = [it for it in calls if it not in left_out and it.is_live()]
+            kept = [call for call in calls if call not in left_out and call.is_live()]
             if is_ordered(kept, content):
                 return True
         return False
@@ -475,23 +475,23 @@ class Said:
 
 def contents_by_keys(kind, calls):
     """What a map or a set may have contained before the calls, of their keys or elements: of each a value that they name, another one, or nothing."""
-    keys = sorted({key_of(it) for it in calls})
+    keys = sorted({key_of(call) for call in calls})
     if kind == "set":
         return [those for size in range(len(keys) + 1) for those in itertools.combinations(keys, size)]
-    values = [{it for call in calls if key_of(call) == key for it in integers_of(call)} | {-99, None} for key in keys]
+    values = [{number for call in calls if key_of(call) == key for number in integers_of(call)} | {-99, None} for key in keys]
     return [tuple((key, it) for key, it in zip(keys, those) if it is not None) for those in itertools.product(*values)]
 
 
 def contents_of_counter(calls):
     """The numbers before the calls of which one may be told: before the first of them that returned some pending ones may have added."""
-    pending = [it.argument for it in calls if it.returned() is None and it.f == "fetch-add"]
+    pending = [call.argument for call in calls if call.returned() is None and call.f == "fetch-add"]
     sums = {sum(those) for size in range(len(pending) + 1) for those in itertools.combinations(pending, size)}
-    return [(it,) for it in {it.reply - amount for it in calls if it.returned() is not None for amount in sums}]
+    return [(it,) for it in {call.reply - amount for call in calls if call.returned() is not None for amount in sums}]
 
 
 def is_ordered(calls, content):
     """Whether some order of the calls is valid after this content."""
-    live = [(it.number, it.returned(), it.f, it.argument, it.reply) for it in calls]
+    live = [(call.number, call.returned(), call.f, call.argument, call.reply) for call in calls]
     if not content:
         return has_order(live)
 
@@ -621,7 +621,7 @@ def form_of(sentence):
 
 def forms_of(page):
     """The forms of the sentences of a page, and the ways in which they go on."""
-    said = [(form_of(it), it) for it in page.said]
+    said = [(form_of(sentence), sentence) for sentence in page.said]
     ways = [way for form, it in said for way, (of, words) in ENDINGS.items() if of == form and re.search(words, it)]
     return [*[form for form, _ in said], *ways]
 
@@ -684,7 +684,7 @@ def why_first_false(page):
     if told is None:
         return None
     wanted = f"{told[1][0].upper()}{told[1][1:]}."
-    return None if any(it.startswith(wanted) for it in page.said) else f"it does not say {wanted}"
+    return None if any(sentence.startswith(wanted) for sentence in page.said) else f"it does not say {wanted}"
 
 
 def why_vague(page):
@@ -693,7 +693,7 @@ def why_vague(page):
     if re.search(SAY_NO_MORE, explained):
         return None
     wanted = f"{explained[0].upper()}{explained[1:]}. "
-    vague = [it for it in page.said if form_of(it) == "general" and not it.startswith(wanted)]
+    vague = [sentence for sentence in page.said if form_of(sentence) == "general" and not sentence.startswith(wanted)]
     return f"it does not say {wanted}: {vague}" if vague else None
 
 
@@ -721,14 +721,14 @@ def why_bars_false(figure, calls):
 
 def counts_of(calls):
     """How many of the calls did not fail, are pending, and failed."""
-    failed = sum(it.end == "fail" for it in calls)
-    return len(calls) - failed, sum(it.end in ("info", "open") for it in calls), failed
+    failed = sum(call.end == "fail" for call in calls)
+    return len(calls) - failed, sum(call.end in ("info", "open") for call in calls), failed
 
 
 def why_counts_false(page, history):
     """What is false of the counts of a page, or None."""
     calls, maps = calls_of(history)
-    objects = sorted({it.on for it in calls.values()})
+    objects = sorted({call.on for call in calls.values()})
     live, pending, failed = counts_of(calls.values())
     ending = [f"{grouped(count)} {word}" for count, word in ((pending, "pending"), (failed, "failed")) if count]
     wanted = [f"{grouped(count)} {word}{'' if count == 1 else 's'}" for count, word in ((maps, "map"), (live, "operation"), (len(objects), "object"))]
@@ -740,22 +740,22 @@ def why_counts_false(page, history):
     if rows and more > 0 and rows.pop() != left_out or rows and len(rows) != min(len(objects), MOST_OBJECTS):
         return f"{len(rows)} objects are told of"
     for _, cells in rows:
-        own = [it for it in calls.values() if f"object {it.on}" == cells[0]]
-        if cells[1] != KIND_OF[own[0].f] or [number_in(it) for it in cells[2:5]] != list(counts_of(own)):
+        own = [call for call in calls.values() if f"object {call.on}" == cells[0]]
+        if cells[1] != KIND_OF[own[0].f] or [number_in(cell) for cell in cells[2:5]] != list(counts_of(own)):
             return f"the row of {cells[0]} is {cells}"
     return None
 
 
 def why_open_false(page, history, told):
     """What is false of a page that says that a history is open, by what judge told, or None."""
-    objects = [OPEN.fullmatch(it) for it in told.splitlines()]
-    x, why = next((int(it[1]), it[2]) for it in objects if it)
+    objects = [OPEN.fullmatch(line) for line in told.splitlines()]
+    x, why = next((int(match[1]), match[2]) for match in objects if match)
     said = f"No order was found for object {x}, and none was excluded: {re.sub(' after .*', '', why)}. So the history is not decided."
     if page.said[0] != said:
         return f"it says {page.said[0]}"
     calls, _ = calls_of(history)
     bars = page.bars(f"fig{x}")
-    if not bars or any(calls[it].on != x for it in bars):
+    if not bars or any(calls[bar].on != x for bar in bars):
         return f"bars of {bars}"
     return why_longest_false(page, calls, x)
 
@@ -763,7 +763,7 @@ def why_open_false(page, history, told):
 def why_longest_false(page, calls, x):
     """What is false of the longest order that a page of an open object has, or None: each entry has its reply, and what
     may come next does not fit."""
-    said = next((re.fullmatch(FORMS["longest"], it) for it in page.said if form_of(it) == "longest"), None)
+    said = next((re.fullmatch(FORMS["longest"], sentence) for sentence in page.said if form_of(sentence) == "longest"), None)
     if not said:
         return "there is no longest order"
     live = {number: it for number, it in calls.items() if it.on == x and it.is_live()}
@@ -807,6 +807,6 @@ def why_order_false(page, history):
                 return f"rank {rank} of object {x}"
         if any(a.returned() is not None and a.returned() < b.number for b, a in itertools.combinations(entries, 2)):
             return f"the order of object {x}"
-        if rows and {it.number for it in said.on(x) if it.end == "ok"} - {it.number for it in entries}:
+        if rows and {it.number for it in said.on(x) if it.end == "ok"} - {entry.number for entry in entries}:
             return f"an operation is left out of object {x}"
     return None

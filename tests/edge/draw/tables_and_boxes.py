@@ -51,11 +51,11 @@ class Shown:
         self.page, self.orders, self.told, self.stretch = page, orders, told, stretch
         self.walked = {}
         self.calls, self.maps = calls_of(history)
-        self.process_at = {at: it.process for it in self.calls.values() for at in (it.number, it.at) if at is not None}
+        self.process_at = {at: call.process for call in self.calls.values() for at in (call.number, call.at) if at is not None}
         self.nemeses = [number for number, it in enumerate(maps_of(history)) if it["process"].startswith(":")]
 
     def on(self, x):
-        return [it for it in self.calls.values() if it.on == x]
+        return [call for call in self.calls.values() if call.on == x]
 
     def kind(self, x):
         return KIND_OF[self.on(x)[0].f]
@@ -163,9 +163,9 @@ def why_points_false(shown, x, figure):
     if points and x not in shown.orders:
         return None if shown.page.answer == "open" else "there are points without an order"
     contents, because = shown.contents(x) if points else [], because_of(shown.page)
-    for it in points:
-        rank, call, is_bad = int(it.get("data-rank")), shown.calls[int(it.get("data-op"))], "bad" in classes(it)
-        title = "".join(it.find("title").itertext())
+    for point in points:
+        rank, call, is_bad = int(point.get("data-rank")), shown.calls[int(point.get("data-op"))], "bad" in classes(point)
+        title = "".join(point.find("title").itertext())
         if shown.orders[x][rank - 1] != call.number or is_bad != (rank == shown.refused(x)):
             return f"the point {rank}"
         said = f"{rank}: {label_of(call)}\n" + ("" if is_bad else f"event {call.number}, process {call.process}\n")
@@ -206,12 +206,12 @@ def why_marks_collide(figure):
         joined = "".join(re.findall("[ML]", found(line, "path", "thread")[0].get("d"))) if found(line, "path", "thread") else ""
         if joined[1:] != "".join("L" if b == a + 1 else "M" for a, b in zip(ranks, ranks[1:])) and joined:
             return f"the thread joins {ranks} as {joined}"
-        for it in points:
-            text = it.find("text")
+        for point in points:
+            text = point.find("text")
             x, y = int(text.get("x")), int(text.get("y")) - 3
             for operation, left, right, top, low in bars_of(line):
-                if left <= x <= right and top <= y < low and operation != it.get("data-op"):
-                    return f"the point {it.get('data-rank')} is on the bar of operation {operation}"
+                if left <= x <= right and top <= y < low and operation != point.get("data-op"):
+                    return f"the point {point.get('data-rank')} is on the bar of operation {operation}"
     return None
 
 
@@ -254,7 +254,7 @@ def boxes_of_list(walk, call, boxes):
     if returned is None:
         wanted.append(("absent", value(call.reply), ("returned",) if call.reply is None else ("returned,", "not in it")))
     # Those that are told of are there.
-    is_whole = place == len(items) and (len(items) > FEW or not any(it[0] == "skip" for it in boxes))
+    is_whole = place == len(items) and (len(items) > FEW or not any(box[0] == "skip" for box in boxes))
     return wanted if is_whole else [*wanted, "all of it"]
 
 
@@ -275,7 +275,7 @@ def boxes_of_entries(walk, call):
     """The boxes of the keys of a map, or of the elements of a set; of many that of the call alone."""
     key, own = key_of(call), walk.entry_of(call)
     text = lambda it: f"{it[0]} {it[1]}" if walk.kind == "map" else str(it)
-    entries = [("gives" if it is own else "", text(it[0]), it) for it in walk.items if it is own or len(walk.items) <= FEW]
+    entries = [("gives" if item is own else "", text(item[0]), item) for item in walk.items if item is own or len(walk.items) <= FEW]
     found_before = [(name, words, (f"put by #{it[1]}",)) for name, words, it in entries]
     given = walk.take(call)
     gives = "gives nil" if given is None else f"gives {value(given)}" if isinstance(given, bool) else "gives"
@@ -384,7 +384,7 @@ def why_tried_false(shown):
 
 def drawn_alone(shown, numbers):
     """Those of the operations of a reason that its figure has: the first ones, and of the processes that begin first."""
-    few = [shown.calls[it] for it in sorted(numbers)[:MOST_ALONE]]
+    few = [shown.calls[number] for number in sorted(numbers)[:MOST_ALONE]]
     begins = {}
     for call in few:
         begins.setdefault(call.process, call.number)
@@ -397,7 +397,7 @@ def outside_note(calls):
     if not calls:
         return []
     more = len(calls) - FEW_NAMED
-    words, named = "they may" if len(calls) > 1 else "it may", ", ".join(said_of(it) for it in calls[:FEW_NAMED])
+    words, named = "they may" if len(calls) > 1 else "it may", ", ".join(said_of(call) for call in calls[:FEW_NAMED])
     ending = f", and {grouped(more)} more" if more > 0 else ""
     return [f"Not wholly within this stretch, so {words} have taken effect outside of it: {named}{ending}."]
 
@@ -410,7 +410,7 @@ def why_reason_false(shown):
     if shown.page.bars("zoom") != alone:
         return f"the reason has {alone}, and the figure {shown.page.bars('zoom')}"
     x = shown.calls[min(calls)].on
-    count, live = len(calls), sum(it.is_live() for it in shown.on(x))
+    count, live = len(calls), sum(call.is_live() for call in shown.on(x))
     caption = f"{grouped(count)} operation{'' if count == 1 else 's'} of {grouped(live)}"
     caption += ": it has no place in any order" if count == 1 else ": these alone have no valid order"
     caption += f", whatever the {shown.kind(x)} contained before event {since}." if since is not None else "."
@@ -428,7 +428,7 @@ def why_reason_false(shown):
     outside = [shown.calls[n] for n, it in sorted(calls.items()) if it and it.end == "open" and shown.calls[n].end == "ok"]
     if since is not None and calls[since] is not None and calls[since].end == "open":
         return "the operation that begins the part is pending"
-    if any("the table says where" in it for it in shown.page.said) and not shown.page.rows("tried"):
+    if any("the table says where" in sentence for sentence in shown.page.said) and not shown.page.rows("tried"):
         return "the table of tried orders is empty"
     wanted = outside_note(outside)
     notes = [spelled(it) for it in found(zoom, "p", "note")]
@@ -442,14 +442,14 @@ def chosen(numbers, focus, stretch):
     """Which of an object's events are drawn, by the numbers of their maps."""
     since, until = stretch
     if since is not None or until is not None:
-        return [it for it in numbers if (since or 0) <= it and (until is None or it < until)][:MOST]
+        return [number for number in numbers if (since or 0) <= number and (until is None or number < until)][:MOST]
     if len(numbers) <= WHOLE:
         return list(numbers)
     if not focus:
         return list(numbers)[:FIRST]
     places = [numbers.index(it) for it in focus]
     for before, after in AROUND:
-        drawn = sorted({it for at in places for it in range(max(0, at - before), min(len(numbers), at + after + 1))})
+        drawn = sorted({number for at in places for number in range(max(0, at - before), min(len(numbers), at + after + 1))})
         if len(drawn) <= MOST:
             break
     for one, other in zip(list(drawn), drawn[1:]):
@@ -460,7 +460,7 @@ def chosen(numbers, focus, stretch):
 
 def starts_of(numbers, drawn):
     """The numbers at which a stretch of drawn events begins."""
-    is_drawn = [it in drawn for it in numbers]
+    is_drawn = [number in drawn for number in numbers]
     return [number for number, was, is_now in zip(numbers, [False, *is_drawn], is_drawn) if is_now and not was]
 
 
@@ -469,22 +469,22 @@ class View:
 
     def __init__(self, shown, x, figure, stretch=None):
         self.calls, focus = shown.on(x), shown.focus
-        events = sorted([it.number for it in self.calls] + [it.at for it in self.calls if it.at is not None] + shown.nemeses)
+        events = sorted([call.number for call in self.calls] + [call.at for call in self.calls if call.at is not None] + shown.nemeses)
         spots = [it for call in self.calls if call.number in focus for it in (call.number, call.at) if it is not None]
         drawn = set(chosen(events, spots, stretch or shown.stretch))
         self.bars = {int(it.get("data-op")) for it in found(figure, "g", "op")}
-        self.lanes = {shown.calls[it].process for it in self.bars}
-        inside = [it for it in self.calls if it.number in drawn or it.at in drawn]
+        self.lanes = {shown.calls[bar].process for bar in self.bars}
+        inside = [call for call in self.calls if call.number in drawn or call.at in drawn]
         # Those without a lane.
         self.gone = [it for it in inside if it.process not in self.lanes]
         self.inside = {it.number for it in inside} - {it.number for it in self.gone}
         own = {None, *self.lanes}
         self.kept = events
-        self.drawn = [it for it in events if it in drawn and (not self.gone or shown.process_at.get(it) in own)]
+        self.drawn = [event for event in events if event in drawn and (not self.gone or shown.process_at.get(event) in own)]
         starts = starts_of(self.kept, set(self.drawn))
         ends = lambda it: float("inf") if it.end in ("open", "info") else it.at
-        others = [it for it in self.calls if it.number not in drawn and it.at not in drawn]
-        self.through = {it.number for it in others if any(it.number < at < ends(it) for at in starts)}
+        others = [call for call in self.calls if call.number not in drawn and call.at not in drawn]
+        self.through = {other.number for other in others if any(other.number < at < ends(other) for at in starts)}
 
     def note(self):
         """The sentence for what is left out."""
@@ -508,7 +508,7 @@ class View:
 
     def words_of(self, gap):
         """The words for a gap: its maps, and the operations that were invoked there and have no bar."""
-        count = sum(it.number in gap and it.number not in self.bars for it in self.calls)
+        count = sum(call.number in gap and call.number not in self.bars for call in self.calls)
         maps = f"{grouped(len(gap))} map{'' if len(gap) == 1 else 's'}"
         return f"{maps} left out, with {grouped(count)} operation{'' if count == 1 else 's'}"
 
@@ -534,8 +534,8 @@ def why_view_false(shown, x, figure, stretch=None):
     titles = ["".join(it.find("title").itertext()) for it in found(figure, "g", "gap")]
     texts = ["".join(it.find("text").itertext()).removeprefix("⋯ ") for it in found(figure, "g", "gap")]
     gaps = view.gaps(shown.maps) if view.drawn else []
-    wanted = [view.words_of(it) for it in gaps]
-    if titles != wanted or texts != [grouped(len(it)) for it in gaps]:
+    wanted = [view.words_of(gap) for gap in gaps]
+    if titles != wanted or texts != [grouped(len(gap)) for gap in gaps]:
         return f"the gaps are {titles}, {texts}, and not {wanted}"
     # No operation is left out without a gap that counts it.
     _, left_out = shown_counts(figure)
@@ -551,7 +551,7 @@ def shown_counts(figure):
     """How many operations have bars in a figure, and how many its gaps count."""
     titles = ["".join(it.find("title").itertext()) for it in found(figure, "g", "gap")]
     bars = {it.get("data-op") for it in found(figure, "g", "op")}
-    return len(bars), sum(number_in(re.search(r"with ([\d ]+) op", it)[1]) for it in titles)
+    return len(bars), sum(number_in(re.search(r"with ([\d ]+) op", title)[1]) for title in titles)
 
 
 def stretches_of(page, x):
@@ -613,7 +613,7 @@ def why_strip_false(shown, x, figure):
         return f"the strip leads to {links}"
     spots = {it for call in view.calls if call.number in shown.focus for it in (call.number, call.at) if it is not None}
     marks = [int(it) // COLUMN for path in found(strips[0], "path", "marked") for it in re.findall(r"M(\d+) ", path.get("d"))]
-    return None if marks == sorted({column(it) for it in spots}) else f"the strip has marks at {marks}"
+    return None if marks == sorted({column(spot) for spot in spots}) else f"the strip has marks at {marks}"
 
 
 # ---- captions
@@ -691,7 +691,7 @@ def signs_of(page):
         " open at an end: it goes on outside of this line": any(is_open(it) for it in bars),
         " what the sentence above speaks of": has("focus"),
         " its rank in the order": bool(points),
-        " the entry that is refused": any("bad" in classes(it) for it in points),
+        " the entry that is refused": any("bad" in classes(point) for point in points),
         " returned before the other was invoked": among("before"),
         " a map of the nemesis": among("nem"),
         " what the nemesis began, until it ended that": among("band"),
@@ -711,7 +711,7 @@ def why_legend_false(page):
 
 def first_of(wrongs):
     """The first of these that is not None, or None."""
-    return next((it for it in wrongs if it), None)
+    return next((wrong for wrong in wrongs if wrong), None)
 
 
 def all_figures(page):

@@ -1,4 +1,4 @@
-"""What decorates a page: times, what a nemesis does, and the names of a history that was imported. No answer depends on them."""
+"""What a page shows in addition: times, what a nemesis does, and the names of an imported history. No answer depends on them."""
 import re
 
 from . import drawn_inputs
@@ -99,7 +99,7 @@ def ticks_of(line):
 
 
 def timed_ticks(program, report):
-    """A number stands above its own time, also where events are close and where the operations of a reason are drawn alone."""
+    """The number of a time stands above that time, also if events are close, and if only the operations of a reason are drawn."""
     puts = [it(process, "enqueue", process) for it in (text_writers.invoke, text_writers.ok) for process in range(8)]
     takings = [text_writers.invoke(process, "dequeue") for process in range(2)]
     for name, taken in (("yes", (7, 6)), ("no", (7, 7))):
@@ -131,8 +131,8 @@ def nemesis_room(program, report):
 
 
 def named_pages(program, report):
-    """With the table of names that import wrote, the page has values, keys, processes and objects in these names, and the lines of judge in them."""
-    names = f"{program.room}/names.edn"
+    """With the table of names that import wrote, the page and the lines of judge on it use these names for values, keys, processes and objects."""
+    names = f"{program.folder}/names.edn"
     text = program.write("named.edn", program.run("import", "--names", names, program.write("store.edn", STORE)).out)
     drawn, told = (program.run(it, "--names", names, text) for it in ("draw", "judge"))
     page = Drawn(drawn.out)
@@ -153,8 +153,8 @@ def named_pages(program, report):
 
 
 def named_events(program, report):
-    """Events of a history with an initial value have their own numbers, also in the sentence on the first one, and in --from and --to."""
-    names = f"{program.room}/names.edn"
+    """Events of a history with an initial value keep their own numbers, also in the sentence on the first one, and in --from and --to."""
+    names = f"{program.folder}/names.edn"
     made = program.run("import", "--initial", "0", "--names", names, program.write("initial.edn", INITIAL))
     text = program.write("named.edn", made.out)
     page = Drawn(program.run("draw", "--names", names, text).out)
@@ -165,8 +165,8 @@ def named_events(program, report):
 
 
 def named_keys(program, report):
-    """A sentence on a key of a map has its name, and objects have theirs in sentences and tables."""
-    names = f"{program.room}/names.edn"
+    """A sentence on a key of a map uses the name of the key, and sentences and tables use the names of objects."""
+    names = f"{program.folder}/names.edn"
     text = program.write("named.edn", program.run("import", "--names", names, program.write("keyed.edn", KEYED)).out)
     page = Drawn(program.run("draw", "--names", names, text).out)
     said = " ".join(page.said)
@@ -202,7 +202,7 @@ def named_first_events(program, report):
 
 
 def accessible_bars(program, report):
-    """A screen reader is told the operation first, of bars in the order in which they began, and of points, and each leads to a place of the page."""
+    """A screen reader reads the operations of bars, in the order of their beginnings, and of points first. Each leads to a place of the page."""
     several = Drawn(program.run("draw", program.write("overlapping.edn", OVERLAPPING)).out)
     report.equal(
         "draw: bars in the order of their beginnings",

@@ -210,7 +210,7 @@ def numbers(pattern, text):
 
 
 def bars_and_points(program, report):
-    """There is one line, with its size, bars and points. A point is the middle of its mark, seven from the corner."""
+    """A page has one drawing of the expected size, with its bars and points. A point is the middle of its mark, seven from the corner."""
     for number, (history, its_order, size, bars, points) in enumerate(FIGURES):
         page = drawn(program, history, its_order).out.decode()
         report.equal(f"draw: line {number}: it is the only one", 1, page.count('<svg class="sys"'))

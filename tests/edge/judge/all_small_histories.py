@@ -85,7 +85,7 @@ def f_of(events, process):
 
 
 def searched_by_force(program, report):
-    """A search in either order of trying answers on all histories of at most four operations as a search by brute force does."""
+    """Compares `search`, with either `--first`, with brute force on all histories of at most four operations."""
     counts = []
     for name, calls in SEARCHED.items():
         histories = brute_force.Sorted()
@@ -100,7 +100,7 @@ def searched_by_force(program, report):
         counts.append(histories.counts())
         report.holds(f"search: {name}: there are histories with an order and without", 1000 < counts[-1][1] < counts[-1][0], counts)
         search_both_sorts(program, report, f"search: all small histories of a {name}", histories)
-    return f"{sum(it[0] for it in counts)} histories"
+    return f"{sum(count[0] for count in counts)} histories"
 
 
 def search_both_sorts(program, report, name, histories):
@@ -177,7 +177,7 @@ def are_turns(turns):
 
 
 def found_by_force(program, report):
-    """All histories of at most three operations, and some of four and five that are drawn: find finds an order where there is one."""
+    """find finds an order, if there is one, of each history of at most three operations, and of random ones of four and five."""
     counts = []
     for kind, calls in FOUND.items():
         histories, chance = brute_force.Sorted(), None
@@ -195,7 +195,7 @@ def found_by_force(program, report):
         counts.append(histories.counts())
         report.holds(f"find: {kind}: there are small histories with an order and without", 0 < counts[-1][1] < counts[-1][0], counts)
         find_both_sorts(program, report, f"find: small histories of a {kind}", histories)
-    return f"{sum(it[0] for it in counts)} histories"
+    return f"{sum(count[0] for count in counts)} histories"
 
 
 def find_both_sorts(program, report, name, histories, more="", maps_of_more=0):
@@ -327,7 +327,7 @@ class Every:
             if call:
                 others = (None, waiting[1]) if process == 0 else (waiting[0], None)
                 f, argument, replies = call
-                for kind, value in (*[("ok", it) for it in replies], ("fail", argument)):
+                for kind, value in (*[("ok", reply) for reply in replies], ("fail", argument)):
                     self.step(text, maps, left, others, state, is_named, (process, kind, f, value))
             elif left and (process == 0 or maps):
                 for it in self.calls:
@@ -346,7 +346,7 @@ def judge_both_sorts(program, report, name, histories):
 
     def impossible(history, _, count):
         ran = program.run(*words, history)
-        said = b"".join(it for it in ran.out.splitlines(True) if it.startswith(b"; object "))
+        said = b"".join(line for line in ran.out.splitlines(True) if line.startswith(b"; object "))
         differs = brute_force.difference(brute_force.all_say(count, "impossible"), said)
         reasons = ran.out.count(b"\n; {:object "), len(WHOLE.findall(ran.out))
         return [(f"{name}, without an order", (1, b"", None, (count, 0)), (ran.status, ran.err, differs, reasons))]
@@ -356,7 +356,7 @@ def judge_both_sorts(program, report, name, histories):
 
 
 def judged_by_force(program, report):
-    """All histories of some calls. A reason is found for each that has no valid order, and for no other."""
+    """judge finds a reason for each small history that has no valid order, and for no other."""
     for kind, calls, operations, of_two, *counts in ALL:
         name = f"judge: all small histories of a {kind} of at most {operations} operations"
         made = Every(JUDGED[kind][:calls], operations, of_two, lambda it: judge_both_sorts(program, report, name, it))
@@ -375,9 +375,9 @@ def search_and_judge_both_sorts(program, report, name, histories):
 
     def impossible(history, _, count):
         ran = program.run("judge", history)
-        said = b"".join(it for it in ran.out.splitlines(True) if it.startswith(b"; object "))
+        said = b"".join(line for line in ran.out.splitlines(True) if line.startswith(b"; object "))
         differs = brute_force.difference(brute_force.all_say(count, "impossible"), said)
-        reasons = b"".join(it[2:] for it in ran.out.splitlines(True) if it.startswith(b"; {:object "))
+        reasons = b"".join(line[2:] for line in ran.out.splitlines(True) if line.startswith(b"; {:object "))
         refuted = program.run("refute", history, program.write(f"{history}.reasons", reasons))
         shown = refuted.out.count(b"not linearizable: object ")
         return [(f"judge: {name}, without an order", (1, b"", None, (1, count)), (ran.status, ran.err, differs, (refuted.status, shown)))]
@@ -387,7 +387,7 @@ def search_and_judge_both_sorts(program, report, name, histories):
 
 
 def later_by_force(program, report):
-    """All histories of some calls of the kinds and functions that came later."""
+    """Searches and judges all small histories of the kinds and functions that were added later."""
     judged = 0
     for kind, calls, operations in LATER:
         name = f"all small histories of a {kind} of at most {operations} operations"
@@ -400,7 +400,7 @@ def later_by_force(program, report):
 
 
 def later_at_random(program, report):
-    """Histories of up to six operations of these kinds, some of which fail or are pending."""
+    """Searches and judges random histories of these kinds, of up to six operations, some of which fail or are pending."""
     for kind, calls in SEARCHED_FOR.items():
         histories = drawn_histories(report, f"drawn histories of a {kind}", calls, 2000, 6)
         search_and_judge_both_sorts(program, report, f"drawn histories of a {kind}", histories)
@@ -438,7 +438,7 @@ def drawn_histories(report, name, calls, count, operations):
 
 
 def judged_at_random(program, report):
-    """Of a thousand histories of a kind that are drawn, a reason is found for each that has no valid order."""
+    """judge finds a reason for each random small history that has no valid order: it tries a thousand of each kind."""
     for kind, calls in JUDGED.items():
         histories = drawn_histories(report, f"judge: drawn histories of a {kind}", calls, 1000, 4)
         judge_both_sorts(program, report, f"judge: drawn histories of a {kind}", histories)

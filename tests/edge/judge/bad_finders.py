@@ -1,4 +1,4 @@
-"""Finders that are wrong, or that die: judge never says what does not hold.
+"""Finders that are wrong, or that die: judge never gives a wrong yes or no.
 
 The tools start the finder that the environment variable FCBENCH_FINDER names, and hand its output to the proved program. Here it is a
 script that is bad in some way. The right evidence of each history is worked out by hand."""
@@ -136,8 +136,8 @@ def scripts_of_wrong_evidence(program):
 
 def finder(program, name, script, evidence):
     """Writes a finder: a script, for which $evidence is a file with this evidence."""
-    file = f"{program.room}/{program.write(f'finder.{name}.edn', evidence)}"
-    path = f"{program.room}/{program.write(f'finder.{name}', lines('#!/bin/sh', f'evidence={file}', script))}"
+    file = f"{program.folder}/{program.write(f'finder.{name}.edn', evidence)}"
+    path = f"{program.folder}/{program.write(f'finder.{name}', lines('#!/bin/sh', f'evidence={file}', script))}"
     os.chmod(path, 0o755)
     return path
 
@@ -216,7 +216,7 @@ def look(program, report, name, shows, it, ran, says=b""):
 
 
 def wrong_evidence(program, report):
-    """Judgements by finders that end by themselves, and whose evidence is wrong."""
+    """Judgements with finders that print wrong evidence and then end."""
     program.write("finder.0.edn", "")
     cases = list(scripts_of_wrong_evidence(program))
     found = at_once(lambda case: judged(program, case[1], case[3]), cases)
@@ -228,7 +228,7 @@ def wrong_evidence(program, report):
 
 
 def dying_finders(program, report):
-    """Judgements by finders that are killed, or end before their time."""
+    """Judgements with finders that are killed, or end too early."""
     program.write("finder.0.edn", "")
     cases = [(name, *of, it, finder(program, f"dying.{number}.{at}", of[0], it.evidence))
              for number, (name, of) in enumerate(DYING.items()) for at, it in enumerate(HISTORIES)]
@@ -252,7 +252,7 @@ FEW = tuple(
 
 
 def endless_finders(program, report):
-    """Judgements by finders that do not end. They are ended when the answer is there."""
+    """Judgements with finders that do not end. judge ends them as soon as it has the answer."""
     slowest = 0
     for (number, (name, (script, shows))), (at, it) in itertools.product(enumerate(ENDLESS.items()), enumerate(FEW)):
         path = finder(program, f"endless.{number}.{at}", 'echo $$ > "$evidence.pid"\n' + script, it.evidence)
@@ -269,15 +269,15 @@ def endless_finders(program, report):
 
 
 def finders_that_cannot_start(program, report):
-    """A finder that is not there, may not be run, or is no finder: there is no evidence, and standard error says why."""
+    """If the finder is missing, may not be run, or is another program, there is no evidence, and standard error says why."""
     program.write("finder.0.edn", "")
     program.write("finder.text", "{:object 0, :order [1 0 4]}")
-    os.makedirs(f"{program.room}/finder.folder", exist_ok=True)
+    os.makedirs(f"{program.folder}/finder.folder", exist_ok=True)
     missing = b"the finder cannot be started, so there is no evidence"
     finders = {
         "a finder that is not there": ("/not/there", missing),
-        "a finder that may not be run": (f"{program.room}/finder.text", missing),
-        "a folder for a finder": (f"{program.room}/finder.folder", missing),
+        "a finder that may not be run": (f"{program.folder}/finder.text", missing),
+        "a folder for a finder": (f"{program.folder}/finder.folder", missing),
         "the proved program for a finder": (program.path, b"the finder failed"),
         "a finder that says nothing": ("/bin/true", b""),
     }

@@ -110,24 +110,23 @@ IMPORTED = (
 
 def said_of(program, path):
     """What judge prints of a malformed history, as it is, with what the tests of other things leave out."""
-    ran = subprocess.run(program.line(("judge", path)), capture_output=True, cwd=program.room, check=False)
+    ran = subprocess.run(program.line(("judge", path)), capture_output=True, cwd=program.folder, check=False)
     return ran, ran.stdout.decode().splitlines()
 
 
 def explained_codes(program, report):
-    """A text of each fault that is printed is explained by a line that says where and what it is."""
+    """judge explains each code of a malformed history by a line that says where the fault is and what it is."""
     for code, text, wanted in OF_CODES:
         path = program.write("explained.edn", text or "")
         if text is None:
-            os.truncate(f"{program.room}/{path}", 268_435_457)
+            os.truncate(f"{program.folder}/{path}", 268_435_457)
         ran, lines = said_of(program, path)
         is_well = ran.returncode == 2 and lines[0] == f"malformed history: {code}" and lines[1].startswith(wanted)
         report.holds(f"judge: {code}: {wanted}", is_well, lines[:4])
 
 
 def import_is_advised(program, report):
-    """If import can make a history of a malformed text, judge says with which line of a shell, and that line judges it;
-    otherwise it does not say so."""
+    """If import can make a history of a malformed text, judge prints a line of shell that imports and judges it; otherwise it prints none."""
     for text, options in IMPORTED:
         path = program.write("ad vised.edn", text)
         ran, lines = said_of(program, path)
@@ -135,12 +134,12 @@ def import_is_advised(program, report):
         advice = [] if options is None else [f"; it can be imported: {line}"]
         report.equal(f"judge: import is advised: {text}", (2, advice), (ran.returncode, [it for it in lines if "import" in it]))
         if options is not None:
-            judged = subprocess.run(["sh", "-c", line.replace("fcbench ", f"{program.tools} ")], capture_output=True, cwd=program.room, check=False)
+            judged = subprocess.run(["sh", "-c", line.replace("fcbench ", f"{program.tools} ")], capture_output=True, cwd=program.folder, check=False)
             report.holds(f"judge: what is imported as advised: {text}", judged.returncode == 0 and judged.stdout.startswith(b"yes: "), judged)
 
 
 def explained_faults(program, report):
-    """Each of these texts is malformed, and a line after that says what is wrong; check says the line of the verifier alone."""
+    """judge says that each text is malformed, and in a second line what is wrong. check prints the first line alone."""
     events = [(f"{{:process 0, :type :invoke, {keys}}}", f"; event 0, line 1: {said}") for keys, said in OF_EVENTS]
     for text, wanted in (*events, *OF_TEXTS):
         path = program.write("explained.edn", text)
@@ -206,25 +205,25 @@ SUMMARIES = (
 
 
 def summaries(program, report):
-    """A yes of a sequential history warns, and so do puts whose replies tell nothing where it is no yes; --summary
-    prints the figures, and find tells them too."""
+    """judge warns of a sequential history to which it says yes, and of puts whose replies tell nothing if it does not say yes. With --summary
+    judge and find print the figures."""
     for text, status, figures, warned in SUMMARIES:
         path = program.write("summarized.edn", text)
-        ran = subprocess.run(program.line(("judge", path)), capture_output=True, cwd=program.room, check=False)
+        ran = subprocess.run(program.line(("judge", path)), capture_output=True, cwd=program.folder, check=False)
         lines = ran.stderr.splitlines()
         is_warned = len(lines) == len(warned) and all(line.startswith(begin) for line, begin in zip(lines, warned))
         report.holds(f"judge: warnings: {text[:60]}", ran.returncode == status and figures not in ran.stdout and is_warned, ran)
-        ran = subprocess.run(program.line(("judge", "--summary", path)), capture_output=True, cwd=program.room, check=False)
+        ran = subprocess.run(program.line(("judge", "--summary", path)), capture_output=True, cwd=program.folder, check=False)
         report.holds(f"judge: --summary: {text[:60]}", (ran.returncode, ran.stderr) == (status, b"") and figures in ran.stdout, ran)
-        ran = subprocess.run(program.line(("find", "--summary", path)), capture_output=True, cwd=program.room, check=False)
+        ran = subprocess.run(program.line(("find", "--summary", path)), capture_output=True, cwd=program.folder, check=False)
         report.holds(f"find: --summary: {text[:60]}", ran.stderr.startswith(figures), ran)
 
 
 def out_of_steps(program, report):
-    """Where the steps of a search did not suffice, a line on standard error says what to do."""
+    """If a search ran out of steps, a line on standard error says what to do."""
     path = program.write("long.edn", worked_rows.FIRST_WRITE_LAST)
     for steps, wanted in (("7", 1), ("1000000", 0)):
-        ran = subprocess.run(program.line(("judge", "--steps", steps, path)), capture_output=True, cwd=program.room, check=False)
+        ran = subprocess.run(program.line(("judge", "--steps", steps, path)), capture_output=True, cwd=program.folder, check=False)
         said = [
             it
             for it in ran.stderr.decode().splitlines()

@@ -80,9 +80,9 @@ REFUSED = (
 
 def imports(program, report):
     """A store of tuples, keywords and strings, and lines of JSON, are imported and judged in their words."""
-    room = program.room
+    folder = program.folder
     store = program.write("store.edn", STORE)
-    names = f"{room}/names.edn"
+    names = f"{folder}/names.edn"
     made = program.run("import", "--names", names, store)
     report.equal("import: the text of a store", Ran(0, TEXT, b""), made)
     with open(names, encoding="utf-8") as file:
@@ -101,8 +101,8 @@ def imports(program, report):
 
 
 def failed_operations(program, report):
-    """A failed removal that says that the queue was empty is left out with a warning, so the history is a yes; or, if the user says so, it is
-    a reply of nil, and the history is a no."""
+    """A failed removal from an empty queue is left out with a warning, and the history is a yes. With an option it is a reply of nil, and the
+    history is a no."""
     for error, option, warns in EMPTIES:
         path = program.write("empty.edn", WRONGLY_EMPTY.format(error))
         left_out, reply = program.run("import", path), program.run("import", option, path)
@@ -113,7 +113,7 @@ def failed_operations(program, report):
 
 
 def failed_swaps(program, report):
-    """Failed swaps are left out with a warning. With the option a store that refuses a swap that it should make gets a no."""
+    """Failed swaps are left out with a warning. With an option they are replies, and a store that wrongly refuses a swap gets a no."""
     for error, option in SWAPS:
         path = program.write("refusing.edn", WRONGLY_REFUSED.format(error))
         left_out, reply = program.run("import", path), program.run("import", option, path)
@@ -125,7 +125,7 @@ def failed_swaps(program, report):
 
 def standard_input(program, report):
     """import - reads standard input; gzip is named; an initial value of no register is warned of."""
-    ran = subprocess.run(program.line(("import", "-")), input=STORE.encode(), capture_output=True, cwd=program.room, check=False)
+    ran = subprocess.run(program.line(("import", "-")), input=STORE.encode(), capture_output=True, cwd=program.folder, check=False)
     report.equal("import -: standard input", (0, TEXT, b""), (ran.returncode, ran.stdout, ran.stderr))
     path = program.write("store.edn.gz", gzip.compress(STORE.encode()))
     report.answers("import: gzip", program.run("import", path), "", 4, f"fcbench: cannot read {path}: the file is compressed: decompress it with zcat first\n")
@@ -144,7 +144,7 @@ def imports_are_refused(program, report):
         path = program.write("refused.edn", text)
         ran = program.run("import", path)
         report.holds(f"import: {why}", (ran.status, ran.out) == (2, b"") and ran.err.decode().startswith(f"fcbench: {path}, {why}"), ran)
-    store, missing = program.write("store.edn", STORE), f"{program.room}/not_there/names.edn"
+    store, missing = program.write("store.edn", STORE), f"{program.folder}/not_there/names.edn"
     for words, says in ((("import", missing), f"cannot read {missing}"), (("import", "--names", missing, store), f"cannot write {missing}")):
         ran = program.run(*words)
         report.holds(f"import: {says}", (ran.status, ran.out) == (4, b"") and ran.err.decode().startswith(f"fcbench: {says}"), ran)
@@ -221,7 +221,7 @@ def judged_in_words(program, seed):
     """What is wrong with the import of a generated file and its judgement in the words of the file, or None."""
     file, events, key, old, place, process = drawn(seed)
     stem = f"generated.{seed}"
-    store, names = program.write(f"{stem}.edn", file), f"{program.room}/{stem}.names.edn"
+    store, names = program.write(f"{stem}.edn", file), f"{program.folder}/{stem}.names.edn"
     made = program.run("import", "--independent", "--names", names, store)
     with open(names, encoding="utf-8") as lines:
         entries = [re.fullmatch(r"{:(\w+) (-?\d+), :is (.*)}\n", line).groups() for line in lines]
@@ -238,8 +238,8 @@ def judged_in_words(program, seed):
 
 
 def generated_files(program, report):
-    """Files of tuples, keywords and strings: each operation of the text has the words of the file, by a table that is one to one, and so has
-    the operation that judge names as impossible."""
+    """Imports files of tuples, keywords and strings: the table of names, which is one to one, gives each operation the words of the file, also
+    that which judge names as impossible."""
     for seed, wrong in enumerate(at_once(lambda seed: judged_in_words(program, seed), range(FILES))):
         report.equal(f"import: generated file {seed}", None, wrong)
     return f"{FILES} files"

@@ -1,4 +1,4 @@
-"""Judgements that are stopped, by --seconds or by SIGTERM: judge answers what was found by then, and never what does not hold."""
+"""Judgements that are stopped, by --seconds or by SIGTERM: judge answers by what was found until then, and never gives a wrong yes or no."""
 import itertools
 import os
 import re
@@ -46,7 +46,7 @@ def started(program, *words, env=None):
     """Starts a command, of a group of processes of its own."""
     own = {name: value for name, value in os.environ.items() if name not in ("FCBENCH", "FCBENCH_FINDER")}
     return subprocess.Popen(program.line(words), stdin=subprocess.DEVNULL, stdout=subprocess.PIPE, stderr=subprocess.PIPE,
-                            env={**own, **(env or {})}, cwd=program.room, start_new_session=True)
+                            env={**own, **(env or {})}, cwd=program.folder, start_new_session=True)
 
 
 def ended(child):
@@ -96,7 +96,7 @@ def done_in(ran):
 
 
 def stopped_searches(program, report):
-    """A long search is stopped: the objects that were reached are decided, and the others are open."""
+    """If a long search is stopped, the objects that it reached are decided, and the others are open."""
     most = 0
     for (number, it), (name, stop) in itertools.product(enumerate(LONG), STOPS.items()):
         path = program.write(f"stopped.{number}.edn", it.text)

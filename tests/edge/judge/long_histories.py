@@ -172,7 +172,7 @@ def two_values(kind, pending):
 
 
 def drawn_are_found(program, report):
-    """Where a short history that is drawn has an order, find finds it."""
+    """find finds an order of each random short history that has one."""
     chance = brute_force.Chance(2026)
     for kind in KINDS:
         histories = sorted_of(each_value_once(kind, chance))
@@ -185,7 +185,7 @@ def drawn_are_found(program, report):
 
 
 def found_after_idle_calls(program, report):
-    """The same after more calls than a search takes, and where values repeat."""
+    """find finds the orders also after more calls than a search takes, and if values repeat."""
     sorts = [(it, "", each_value_once(it, brute_force.Chance(2026)), 40, 150) for it in KINDS]
     sorts += [(it, ", where values repeat", repeated_values(it), 40, 150) for it in ("register", "map")]
     sorts += [(it, " over two values", of_two_values(it, False), 25, 100) for it in NAMES]
@@ -202,7 +202,7 @@ def found_after_idle_calls(program, report):
 
 
 def long_ones_are_found(program, report):
-    """An order is found of five thousand calls."""
+    """find finds an order of five thousand calls."""
     chance = brute_force.Chance(2026)
     long = [(kind, history_of(chance, calls_in_order(chance, kind, 5000))) for kind in KINDS]
     chance = brute_force.Chance(37)

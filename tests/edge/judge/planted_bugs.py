@@ -333,7 +333,7 @@ ROUNDS = range(1, 10_001)
 LONG_QUEUE = lines(
     invoke(0, "enqueue", 0),
     ok(0, "enqueue", 0),
-    *[of for it in ROUNDS for of in (invoke(0, "enqueue", it), invoke(1, "dequeue"), ok(0, "enqueue", it), ok(1, "dequeue", it - 1))],
+    *[of for number in ROUNDS for of in (invoke(0, "enqueue", number), invoke(1, "dequeue"), ok(0, "enqueue", number), ok(1, "dequeue", number - 1))],
     invoke(0, "enqueue", -2),
     ok(0, "enqueue", -2),
     invoke(0, "dequeue"),
@@ -343,7 +343,7 @@ LONG_QUEUE = lines(
 LONG_STACK = lines(
     invoke(0, "push", 0),
     ok(0, "push", 0),
-    *[of for it in ROUNDS for of in (invoke(0, "push", it), invoke(1, "pop"), ok(0, "push", it), ok(1, "pop", it - 1))],
+    *[of for number in ROUNDS for of in (invoke(0, "push", number), invoke(1, "pop"), ok(0, "push", number), ok(1, "pop", number - 1))],
     invoke(0, "push", -2),
     ok(0, "push", -2),
     invoke(0, "pop"),
@@ -353,7 +353,7 @@ LONG_STACK = lines(
 LONG_HEAP = lines(
     invoke(0, "insert", 0),
     ok(0, "insert", 0),
-    *[of for it in ROUNDS for of in (invoke(0, "insert", it), invoke(1, "extract-min"), ok(0, "insert", it), ok(1, "extract-min", it - 1))],
+    *[of for n in ROUNDS for of in (invoke(0, "insert", n), invoke(1, "extract-min"), ok(0, "insert", n), ok(1, "extract-min", n - 1))],
     invoke(0, "insert", 20000),
     ok(0, "insert", 20000),
     invoke(0, "extract-min"),
@@ -363,7 +363,7 @@ LONG_HEAP = lines(
 LONG_REGISTER = lines(
     invoke(0, "write", 0),
     ok(0, "write", 0),
-    *[of for it in ROUNDS for of in (invoke(0, "write", it), invoke(1, "read"), ok(0, "write", it), ok(1, "read", it - 1))],
+    *[of for number in ROUNDS for of in (invoke(0, "write", number), invoke(1, "read"), ok(0, "write", number), ok(1, "read", number - 1))],
     invoke(0, "read"),
     ok(0, "read", 7),
 )
@@ -371,7 +371,7 @@ LONG_REGISTER = lines(
 LONG_MAP = lines(
     invoke(0, "put", (5, 0)),
     ok(0, "put"),
-    *[of for it in ROUNDS for of in (invoke(0, "put", (5, it)), invoke(1, "get", 5), ok(0, "put", it - 1), ok(1, "get", it - 1))],
+    *[of for number in ROUNDS for of in (invoke(0, "put", (5, number)), invoke(1, "get", 5), ok(0, "put", number - 1), ok(1, "get", number - 1))],
     invoke(0, "get", 5),
     ok(0, "get", 7),
 )
@@ -390,7 +390,7 @@ LONG_READS = lines(
 )
 
 LONG_MUTEX = lines(
-    *[of for it in ROUNDS for of in (invoke(0, "acquire"), ok(0, "acquire"), invoke(1, "release"), ok(1, "release"))],
+    *[of for number in ROUNDS for of in (invoke(0, "acquire"), ok(0, "acquire"), invoke(1, "release"), ok(1, "release"))],
     invoke(0, "acquire"),
     ok(0, "acquire"),
     invoke(1, "acquire"),
@@ -527,7 +527,7 @@ LINEARIZABLE = ((PENDING_TAKING, "yes: 4 operations, 1 objects"), (PASSED_ON, "y
 
 
 def planted_bugs(program, report):
-    """What is wrong with each history is told by its sentence and a few operations, which have no valid order."""
+    """judge says in a sentence what is wrong with each history, and lists a few operations, which have no valid order."""
     rows = [(history, sentence, size, size) for history, sentence, size in SMALL]
     rows += [(history, sentence, 1, most) for history, sentence, most in LONG]
     rows += [(history, sentence, 1, 1000) for history, sentence in SENTENCES]

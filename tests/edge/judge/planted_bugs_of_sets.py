@@ -84,7 +84,7 @@ def text_of(events):
 
 
 def bugs_of_sets(program, report):
-    """Nearly each bug is shown by few operations, and every reason holds."""
+    """judge shows nearly each bug by a few operations, and every reason is valid."""
     for bug in BUGS:
         shown, counted = 0, 0
         made = [history_of(bug, seed) for seed in range(OF_EACH)]

@@ -390,7 +390,7 @@ def is_valid(history):
 
 
 def repeated_values(program, report):
-    """Each row is searched, and find finds an order where there is one."""
+    """search answers each row as expected, and find finds an order if there is one."""
     rows = [(kind, True, why, history) for kind, why, history in VALUES]
     rows += [(kind, valid, f"row {number}", history) for number, (kind, valid, history) in enumerate(CELLS)]
     for kind, valid, why, history in rows:
@@ -443,7 +443,7 @@ MOST_SECONDS = 1
 
 def generated(program, kind, words):
     """Makes a history and returns its name, and the answer for it."""
-    folder = f"{program.room}/generated"
+    folder = f"{program.folder}/generated"
     os.makedirs(folder, exist_ok=True)
     words = ["--kind", kind, "--fail", "0.05", *words.split()]
     subprocess.run([sys.executable, f"{ROOT}/bench/gen.py", "history", folder, *words], check=True, stdout=subprocess.DEVNULL)
@@ -452,7 +452,7 @@ def generated(program, kind, words):
 
 
 def pending_calls(program, report):
-    """Of each generated history an order is found, in at most a second of processor time."""
+    """find finds an order of each generated history, in at most a second of processor time."""
     slowest = 0
     for kind, words in GENERATED:
         name, expected = generated(program, kind, words)

@@ -76,8 +76,8 @@ def done(report, name, words, says=None, seconds=SECONDS, **env):
 
 
 def built(program, report, compiler, source, name):
-    """Builds a caller with the library into the room, and returns its path."""
-    path = f"{program.room}/{name}"
+    """Builds a caller with the library in the folder of the program, and returns its path."""
+    path = f"{program.folder}/{name}"
     done(report, f"{name} is built", [*compiler, source, LIBRARY, "-lpthread", "-o", path])
     return path
 
@@ -91,7 +91,7 @@ def names_of(path, letters, *words):
 def state_of(path):
     """The names of data that can be written in a library, and its parts that hold some, with their sizes. What is written once, as it is
     loaded, is no state."""
-    names = {re.sub(r"[.]\d+$", "", it) for it in names_of(path, "bBcCdDgGsSuvV")}
+    names = {re.sub(r"[.]\d+$", "", name) for name in names_of(path, "bBcCdDgGsSuvV")}
     said = subprocess.run(["readelf", "--sections", "--wide", path], capture_output=True, text=True, check=True).stdout
     parts = re.findall(r"\] (\S+) +\S+ +[0-9a-f]+ [0-9a-f]+ ([0-9a-f]+) [0-9a-f]+ +W", said)
     return names, {part: int(size, 16) for part, size in parts if int(size, 16) and not part.startswith(".data.rel.ro")}
@@ -105,23 +105,24 @@ def uses_of(part, path):
 
 
 def library(program, report):
-    """The library is built where it is missing, needs no kit then, and has five functions in two halves. The proved half calls only what allocates
-    and copies, and has no state; of its functions, a program that uses these alone takes no other code."""
+    """The library is built if it is missing, needs no kit then, and has five functions in two halves. The proved half calls only what allocates
+    and copies, and has no state. A program that uses only its functions is linked with no other code."""
     done(report, "the library is built", [f"{SOURCES}/build"], seconds=SECONDS_TO_PROVE)
     ran = subprocess.run([sys.executable, f"{SOURCES}/build"], env={**os.environ, "PATH": BARE}, capture_output=True, text=True)
     report.equal("embedding: a library that is built, without the kit", (0, ""), (ran.returncode, ran.stderr))
     defined = "ABCDGRSTVWuvw"
-    subprocess.run(["ar", "x", LIBRARY], cwd=program.room, check=True)
+    subprocess.run(["ar", "x", LIBRARY], cwd=program.folder, check=True)
     for name, exports in HALVES.items():
-        report.equal(f"embedding: what {name} of libfcbench.a exports", exports, names_of(f"{program.room}/{name}", defined, "-g", "--defined-only"))
+        exported = names_of(f"{program.folder}/{name}", defined, "-g", "--defined-only")
+        report.equal(f"embedding: what {name} of libfcbench.a exports", exports, exported)
     report.equal("embedding: what libfcbench.so exports", EXPORTS, names_of(SHARED, defined, "-D", "--defined-only"))
-    proved = f"{program.room}/proved.o"
+    proved = f"{program.folder}/proved.o"
     name = "embedding: what the proved half calls besides malloc, realloc, free and copies: no thread, lock or file"
     report.equal(name, set(), set(names_of(proved, "U", "-g")) - CALLS)
     report.equal("embedding: what of the proved half can be written", OF_THE_KIT, state_of(proved))
     report.equal("embedding: of that only the address is taken", (["lea", "lea"], 2), uses_of(".bss", proved))
     if not missing("gcc"):
-        path = f"{program.room}/{program.write('with_state.c', WITH_STATE)}"
+        path = f"{program.folder}/{program.write('with_state.c', WITH_STATE)}"
         done(report, "a library with a state is built", ["gcc", "-O2", "-c", path, "-o", f"{path}.o"])
         found = {"valued", "zero", "of_a_thread", "hidden"}, {".data": 4, ".bss": 8, ".tbss": 4}
         report.equal("embedding: a state of each kind is found", found, state_of(f"{path}.o"))
@@ -137,8 +138,8 @@ int main(void) { size_t needed; return (int)fcbench_check(NULL, 0, NULL, 0, NULL
 
 def proved_alone(program, report):
     """A program that calls proved functions alone is linked with the proved half alone."""
-    path = f"{program.room}/checks"
-    done(report, "a caller of a proved function is built", [*C, f"{program.room}/{program.write('checks.c', CHECKS)}", LIBRARY, "-o", path])
+    path = f"{program.folder}/checks"
+    done(report, "a caller of a proved function is built", [*C, f"{program.folder}/{program.write('checks.c', CHECKS)}", LIBRARY, "-o", path])
     done(report, "and runs", [path])
     said = subprocess.run(["nm", path], capture_output=True, text=True, check=True).stdout
     report.equal("embedding: functions of the library in it", HALVES["proved.o"], sorted(re.findall(r" T (fcbench_\w+)", said)))
@@ -164,7 +165,7 @@ def cases():
 
 
 def answering(program, report):
-    return Program(built(program, report, C, f"{ROOT}/tests/edge/library/answer.c", "answer"), program.room, program.faults)
+    return Program(built(program, report, C, f"{ROOT}/tests/edge/library/answer.c", "answer"), program.folder, program.faults)
 
 
 def of_the_program(program, words):
@@ -174,7 +175,7 @@ def of_the_program(program, words):
 
 
 def as_the_program(program, report):
-    """The library answers each example as the program does; and where the buffer is too small, a beginning of it."""
+    """The library answers each example as the program does. If the buffer is too small, it gets the beginning of the answer."""
     if missing("gcc"):
         return missing("gcc")
     answer, every = answering(program, report), list(cases())
@@ -207,7 +208,7 @@ ANSWERS = (
 
 
 def answers_of_each_export(program, report):
-    """Each function of the library: its status and lines, and what of them is in a buffer of 3 bytes and of none."""
+    """Each function of the library gives the expected status and lines, and fills a buffer of 3 bytes, and of none, with their beginning."""
     if missing("gcc"):
         return missing("gcc")
     answer = answering(program, report)
@@ -238,11 +239,11 @@ def is_without_memory(command, whole, ran):
 
 
 def refused_memory_of_calls(program, report):
-    """Each allocation of a call is refused in turn."""
+    """Each allocation of a call fails in turn."""
     if missing("gcc"):
         return missing("gcc")
     answer, count = answering(program, report), 0
-    for words in (it for it in cases() if re.search("/(queue|lost_put|overlapping|larger_first|two_for_one)[.]", it[1])):
+    for words in (case for case in cases() if re.search("/(queue|lost_put|overlapping|larger_first|two_for_one)[.]", case[1])):
         whole, allocations, _ = answer.counts(*words)
         runs = at_once(lambda at: answer.run(*words, faults={"REFUSE_AT": at}), range(1, allocations + 1))
         bad = [ran for ran in runs if not is_without_memory(words[0], whole, ran)]
@@ -252,7 +253,7 @@ def refused_memory_of_calls(program, report):
 
 
 def c_callers(program, report):
-    """The caller and the recorder in C, and both without a leak or a wrong access."""
+    """The caller and the recorder in C pass their tests, without a leak or a wrong access."""
     if missing("gcc"):
         return missing("gcc")
     judge = built(program, report, C, f"{SOURCES}/c/test_judge.c", "c_judge")
@@ -268,7 +269,7 @@ def c_callers(program, report):
 
 
 def cpp_callers(program, report):
-    """The same in C++."""
+    """The caller and the recorder in C++ pass their tests, without a leak or a wrong access."""
     if missing("g++"):
         return missing("g++")
     judge = built(program, report, CPP, f"{SOURCES}/cpp/test_judge.cpp", "cpp_judge")
@@ -294,29 +295,30 @@ OF_NO_REPLY = "a reply is an integer, a std::optional of one, or fcbench::Value,
 
 def without_the_library(program, report):
     """The recorder alone: it writes a history to a file, and the compiler says what a reply is."""
-    room = f"{program.room}/to_file"
-    os.mkdir(room)
-    done(report, "C++: a recorder without the library is built", [*CPP, f"{SOURCES}/cpp/test_to_file.cpp", "-pthread", "-o", f"{room}/to_file"])
-    done(report, "C++: it writes a history", [f"{room}/to_file"], FOLDER=room)
-    done(report, "C++: and the program judges it", [dispatcher(program), "judge", f"{room}/register.history.edn"], "yes: 403 operations, 1 objects\n")
+    folder = f"{program.folder}/to_file"
+    os.mkdir(folder)
+    done(report, "C++: a recorder without the library is built", [*CPP, f"{SOURCES}/cpp/test_to_file.cpp", "-pthread", "-o", f"{folder}/to_file"])
+    done(report, "C++: it writes a history", [f"{folder}/to_file"], FOLDER=folder)
+    judge = [dispatcher(program), "judge", f"{folder}/register.history.edn"]
+    done(report, "C++: and the program judges it", judge, "yes: 403 operations, 1 objects\n")
     for reply, status in (("static_cast<int *>(nullptr)", 1), ("true", 1), ("7", 0)):
         source = program.write("no_reply.cpp", NO_REPLY.replace("REPLY", reply))
-        ran = subprocess.run([*CPP, f"-I{SOURCES}/cpp", "-fsyntax-only", f"{program.room}/{source}"], capture_output=True, text=True)
+        ran = subprocess.run([*CPP, f"-I{SOURCES}/cpp", "-fsyntax-only", f"{program.folder}/{source}"], capture_output=True, text=True)
         is_well = ran.returncode == status and (OF_NO_REPLY in ran.stderr) == (status == 1)
         report.holds(f"embedding: C++: what the compiler says about the reply {reply}", is_well, ran.stderr[-2000:])
 
 
 def rust_callers(program, report):
-    """The same in Rust: a package without dependencies."""
+    """The caller and the recorder in Rust, a package without dependencies, pass their tests."""
     if missing("cargo"):
         return missing("cargo")
     package = ["--quiet", "--offline", "--manifest-path", f"{SOURCES}/rust/Cargo.toml"]
-    words, elsewhere = ["cargo", "test", *package], {**os.environ, "CARGO_TARGET_DIR": f"{program.room}/cargo", "FCBENCH_LIB": EXAMPLES}
+    words, elsewhere = ["cargo", "test", *package], {**os.environ, "CARGO_TARGET_DIR": f"{program.folder}/cargo", "FCBENCH_LIB": EXAMPLES}
     said = done(
         report,
         "Rust: the tests of the package",
         words,
-        CARGO_TARGET_DIR=f"{program.room}/cargo",
+        CARGO_TARGET_DIR=f"{program.folder}/cargo",
         FCBENCH_LIB=OUT,
         FCBENCH_RUNS=str(RUNS),
         RUSTFLAGS="-D warnings",
@@ -329,7 +331,7 @@ def rust_callers(program, report):
 
 
 def python_callers(program, report):
-    """The same in Python, by ctypes."""
+    """The caller and the recorder in Python, by ctypes, pass their tests."""
     said = ""
     for name in ("judge", "recorder"):
         said += done(
@@ -345,13 +347,13 @@ def python_callers(program, report):
 
 
 def go_callers(program, report):
-    """The same in Go, by cgo."""
+    """The caller and the recorder in Go, by cgo, pass their tests."""
     if missing("go", "gcc"):
         return missing("go", "gcc")
     env = {
         "CGO_CFLAGS": f"-O2 -I{ROOT}/include",
         "CGO_LDFLAGS": LIBRARY,
-        "GOCACHE": f"{program.room}/go",
+        "GOCACHE": f"{program.folder}/go",
         "GOFLAGS": "-mod=mod",
         "FCBENCH_RUNS": str(RUNS),
     }
@@ -361,24 +363,24 @@ def go_callers(program, report):
 
 
 def java_recorder(program, report):
-    """The recorder in Java, on a queue of the JDK and on one with a race."""
+    """The recorder in Java passes its tests, on a queue of the JDK and on one with a race."""
     if missing("javac"):
         return missing("javac")
-    room = f"{program.room}/java"
-    os.mkdir(room)
+    folder = f"{program.folder}/java"
+    os.mkdir(folder)
     sources = [f"{SOURCES}/java/{name}.java" for name in ("Recorder", "RecorderTest")]
-    done(report, "Java: the recorder is compiled without a warning", ["javac", "-Xlint:all", "-Werror", "-d", room, *sources])
+    done(report, "Java: the recorder is compiled without a warning", ["javac", "-Xlint:all", "-Werror", "-d", folder, *sources])
     with open(f"{ROOT}/docs/embedding.md") as page, open(sources[1]) as test:
         lines = [line for snippet in re.findall(r"^```java\n(.*?)^```$", page.read(), re.M | re.S) for line in snippet.splitlines()]
         report.holds("embedding: Java: the lines of docs/embedding.md are in the test", lines and {*lines} <= {line.strip() for line in test}, lines)
-    words = ["java", "-cp", room, "RecorderTest", dispatcher(program), str(RUNS), room]
+    words = ["java", "-cp", folder, "RecorderTest", dispatcher(program), str(RUNS), folder]
     done(report, "Java: queues are recorded and judged", words, f"passed, {RUNS} runs")
     return None
 
 
 def dispatcher(program):
     """A program that has all commands, as ./fcbench and the installed one have them."""
-    path = f"{program.room}/dispatcher"
+    path = f"{program.folder}/dispatcher"
     with open(path, "w") as file:
         file.write(f"#!/bin/sh\nFCBENCH={program.path} FCBENCH_TOOLS={program.tools} exec {ROOT}/tools/fcbench.sh \"$@\"\n")
     os.chmod(path, 0o755)
@@ -386,7 +388,7 @@ def dispatcher(program):
 
 
 def clojure_checker(program, report):
-    """The checker for Jepsen: on histories as a store of Jepsen has them, without Jepsen."""
+    """The checker for Jepsen passes its tests, without Jepsen, on histories as a store of Jepsen has them."""
     if missing("clojure"):
         return missing("clojure")
     words = ["clojure", "-cp", f"{SOURCES}/clojure", f"{SOURCES}/clojure/fcbench_test.clj", dispatcher(program)]
@@ -423,11 +425,11 @@ def until_a_no(run, *lines):
 def tutorial(program, report):
     """The commands of docs/tutorial.md on a queue of one's own do what it says: the bug is found in the file and in
     place, the reason is accepted, and the queue without the bug is a yes."""
-    room = f"{program.room}/tutorial"
-    os.mkdir(room)
+    folder = f"{program.folder}/tutorial"
+    os.mkdir(folder)
     for name, path in (("docs", f"{ROOT}/docs"), ("callers", SOURCES), ("fcbench", dispatcher(program))):
-        os.symlink(path, f"{room}/{name}")
-    how = {"cwd": room, "env": {**os.environ, "PYTHONDONTWRITEBYTECODE": "1"}, "capture_output": True, "text": True, "timeout": SECONDS}
+        os.symlink(path, f"{folder}/{name}")
+    how = {"cwd": folder, "env": {**os.environ, "PYTHONDONTWRITEBYTECODE": "1"}, "capture_output": True, "text": True, "timeout": SECONDS}
     run = lambda line: subprocess.run(["bash", "-c", line], **how)  # noqa: E731
     with open(f"{ROOT}/docs/tutorial.md") as file:
         text = file.read().partition("\n## With a queue of your own\n")[2]
@@ -440,7 +442,7 @@ def tutorial(program, report):
         if status == 1 and begins:
             operations = len(re.findall("^(?:; )?events? ", ran.stdout, re.M))
             report.holds(f"tutorial: {line}: the reason is small", 0 < operations <= MOST_OPERATIONS, ran.stdout)
-    with open(f"{room}/page.html") as file:
+    with open(f"{folder}/page.html") as file:
         report.holds("tutorial: the page says that it is impossible", "Not linearizable" in file.read())
 
 

@@ -61,8 +61,8 @@ def times_in(folder):
 
 
 def installed(program, report):
-    """What ./install puts under its prefix: it says each, and a caller is built from it alone."""
-    prefix = f"{program.room}/prefix"
+    """./install prints each file that it puts under its prefix, and a caller can be built from these files alone."""
+    prefix = f"{program.folder}/prefix"
     said = done(report, "./install", [f"{ROOT}/install", prefix], seconds=SECONDS_TO_PROVE)
     report.equal("installed: the files", INSTALLED, put_in(prefix))
     report.equal("installed: what ./install says", [f"{prefix}/{it}" for it in INSTALLED], sorted(said.split()))
@@ -77,18 +77,18 @@ def installed(program, report):
             named,
         )
     if not missing("gcc"):
-        path = f"{program.room}/installed_judge"
+        path = f"{program.folder}/installed_judge"
         words = ["gcc", f"-I{prefix}/include", f"{SOURCES}/c/test_judge.c", f"-L{prefix}/lib", "-l:libfcbench.a", "-lpthread", "-o", path]
         done(report, "a caller of what is installed is built", words)
         done(report, "and runs", [path], "passed")
     manual(f"{prefix}/share/man/man1/fcbench.1", report)
     nothing_elsewhere(program, report)
-    return completions(prefix, program.room, report)
+    return completions(prefix, program.folder, report)
 
 
 def nothing_elsewhere(program, report):
     """./install writes below its prefix alone: nothing at home, where temporary files go, where it is called, or in the repository."""
-    folders = {it: f"{program.room}/{it}" for it in ("home", "temporary", "here", "elsewhere")}
+    folders = {it: f"{program.folder}/{it}" for it in ("home", "temporary", "here", "elsewhere")}
     for folder in folders.values():
         os.mkdir(folder)
     env = {"PATH": os.environ["PATH"], "HOME": folders["home"], "TMPDIR": folders["temporary"]}
@@ -100,7 +100,7 @@ def nothing_elsewhere(program, report):
     report.equal("installed: nothing in the repository", [], sorted({it for it, _ in before.items() ^ times_in(ROOT).items()}))
 
 
-def completions(prefix, room, report):
+def completions(prefix, folder, report):
     """Each shell reads its file, and completes a command, an option, a value and a file."""
     typed, header = f"{prefix}/include/fcb", [f"{prefix}/include/fcbench.h"]
     words = (*TYPED, ("a file", ("fcbench", "judge", typed), header), ("a file of an option", ("fcbench", "judge", "--names", typed), header))
@@ -110,32 +110,32 @@ def completions(prefix, room, report):
         ran = subprocess.run([shell, "-n", f"{prefix}/{COMPLETIONS[shell]}"], capture_output=True, text=True)
         report.equal(f"installed: {shell} reads its completions", (0, "", ""), (ran.returncode, ran.stdout, ran.stderr))
         for what, typed, wanted in words:
-            report.equal(f"installed: {shell} completes {what}", wanted, completes(prefix, room, *typed))
-        lacks = set(COMMANDS) - set(completes(prefix, room, "fcbench", ""))
+            report.equal(f"installed: {shell} completes {what}", wanted, completes(prefix, folder, *typed))
+        lacks = set(COMMANDS) - set(completes(prefix, folder, "fcbench", ""))
         report.equal(f"installed: commands that {shell} does not offer", set(), lacks)
     return missing(*COMPLETIONS)
 
 
-def bash_completes(prefix, room, *words):
+def bash_completes(prefix, folder, *words):
     """What bash completes of the last of these words. Its package bash-completion, where it is installed, finds the file itself."""
     load = f". {BASH_COMPLETION}; _completion_loader fcbench" if os.path.exists(BASH_COMPLETION) else f". '{prefix}/{COMPLETIONS['bash']}'"
     line = f'{load}; COMP_WORDS=({" ".join(map(repr, words))}); COMP_CWORD={len(words) - 1}; _fcbench; echo "${{COMPREPLY[*]}}"'
-    env = {"PATH": os.environ["PATH"], "HOME": f"{room}/bash", "XDG_DATA_DIRS": f"{prefix}/share"}
+    env = {"PATH": os.environ["PATH"], "HOME": f"{folder}/bash", "XDG_DATA_DIRS": f"{prefix}/share"}
     return subprocess.run(["bash", "-c", line], env=env, capture_output=True, text=True).stdout.split()
 
 
-def fish_completes(prefix, room, *words):
+def fish_completes(prefix, folder, *words):
     """The same in fish, which finds the file itself where PREFIX/share is among the folders of data."""
-    env = {"PATH": f"{prefix}/bin:{os.environ['PATH']}", "HOME": f"{room}/fish", "XDG_DATA_DIRS": f"{prefix}/share:/usr/local/share:/usr/share"}
+    env = {"PATH": f"{prefix}/bin:{os.environ['PATH']}", "HOME": f"{folder}/fish", "XDG_DATA_DIRS": f"{prefix}/share:/usr/local/share:/usr/share"}
     ran = subprocess.run(["fish", "--private", "-c", f"complete -C '{' '.join(words)}'"], env=env, capture_output=True, text=True)
     return [line.partition("\t")[0] for line in ran.stdout.splitlines()]
 
 
-def zsh_completes(prefix, room, *words):
+def zsh_completes(prefix, folder, *words):
     """The same in zsh, which finds the file where its folder is in fpath. It completes on a terminal alone: these words
     and a tab are typed there, and a function with the name of the program says the words with which it is called."""
     own, its = os.openpty()
-    env = {"PATH": os.environ["PATH"], "HOME": f"{room}/zsh", "TERM": "dumb"}
+    env = {"PATH": os.environ["PATH"], "HOME": f"{folder}/zsh", "TERM": "dumb"}
     shell = subprocess.Popen(["zsh", "-f", "-i"], stdin=its, stdout=its, stderr=its, env=env, start_new_session=True)
     os.close(its)
     begin = f"fpath=('{prefix}/share/zsh/site-functions' $fpath); autoload -Uz compinit; compinit -D -u"

@@ -20,11 +20,11 @@ OUT = b"Error: Kind(OutOfMemory)\n"
 
 
 def refused_reserve(program, report):
-    """Each allocation of the example is refused in a run of its own."""
+    """Each allocation of the desk's example fails in a run of its own."""
     if not os.path.exists(DESK):
         report.holds("desk: the example is built", False, f"{DESK} is missing: rt run in crates/desk_example builds it")
         return None
-    desk = alone(DESK, program.room)
+    desk = alone(DESK, program.folder)
     whole, count, _ = desk.counts()
     report.answers("desk: with ample memory", whole, SERVED + ANSWERED, 0)
     numbers = range(1, count + 1)
@@ -53,11 +53,11 @@ REFUSED_PASSES = {
 
 
 def refused_passes(program, report):
-    """Each allocation of these tests is refused in a run of its own."""
+    """Each allocation of two tests of the combiner fails in a run of its own."""
     if not os.path.exists(TESTS):
         report.holds("desk: the tests of the combiner are built", False, f"{TESTS} is missing: rt test in crates/combiner_tests builds it")
         return None
-    tests, tried = alone(TESTS, program.room), 0
+    tests, tried = alone(TESTS, program.folder), 0
     for name, line in REFUSED_PASSES.items():
         whole, count, _ = tests.counts(name)
         report.holds(f"desk: {name}: with ample memory", whole.status == 0 and line not in whole.out, whole)

@@ -11,11 +11,11 @@ FEW, MANY = "heaps::hands_out_the_least", "heaps::uses_freed_nodes_again"
 
 
 def refused_heaps(program, report):
-    """Each allocation of these tests is refused in a run of its own; and two thousand inserts take no more of them than a few do."""
+    """Each allocation of two tests of the pairing heap fails in a run of its own; and two thousand inserts make no more allocations than a few."""
     if not os.path.exists(TESTS):
         report.holds("heap: the tests of objects are built", False, f"{TESTS} is missing: rt test in crates/object_tests builds it")
         return None
-    tests, tried = alone(TESTS, program.room), 0
+    tests, tried = alone(TESTS, program.folder), 0
     for name in (COMPARES, LEAVES):
         whole, count, _ = tests.counts(name)
         report.holds(f"heap: {name}: with ample memory", whole.status == 0, whole)

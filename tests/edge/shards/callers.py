@@ -38,13 +38,13 @@ def whole(seed, wrong=False):
 
 def installed(program, before_find=""):
     """A folder with a script fcbench, as an installed one, that may do something before each find."""
-    os.makedirs(f"{program.room}/bin", exist_ok=True)
-    script = f"{program.room}/bin/fcbench"
+    os.makedirs(f"{program.folder}/bin", exist_ok=True)
+    script = f"{program.folder}/bin/fcbench"
     with open(script, "w", encoding="utf-8") as file:
         file.write(f'#!/bin/sh\n[ "$1" != find ] || {{ {before_find or ":"}; }}\n')
         file.write(f"FCBENCH='{program.path}' FCBENCH_TOOLS='{program.tools}' exec '{DISPATCH}' \"$@\"\n")
     os.chmod(script, 0o755)
-    return f"{program.room}/bin"
+    return f"{program.folder}/bin"
 
 
 def in_shell(program, line, cwd):
@@ -97,11 +97,11 @@ class Cluster:
     """A scheduler and its workers in processes of their own."""
 
     def __init__(self, python, program):
-        script = f"{program.room}/{program.write('cluster.py', CLUSTER)}"
+        script = f"{program.folder}/{program.write('cluster.py', CLUSTER)}"
         pipes = {"stdin": subprocess.PIPE, "stdout": subprocess.PIPE, "stderr": subprocess.DEVNULL, "text": True}
-        self.process = subprocess.Popen([python, script], cwd=program.room, **pipes)
+        self.process = subprocess.Popen([python, script], cwd=program.folder, **pipes)
         self.address, *workers = self.process.stdout.readline().split()
-        self.workers = [int(it) for it in workers]
+        self.workers = [int(worker) for worker in workers]
 
     def __enter__(self):
         return self
@@ -112,7 +112,7 @@ class Cluster:
 
 
 def client_line(python, program, folder, *options):
-    return [python, CLIENT, folder.path(), "--program", f"{program.room}/bin/fcbench", *options]
+    return [python, CLIENT, folder.path(), "--program", f"{program.folder}/bin/fcbench", *options]
 
 
 def by_dask(python, program, folder, *options):
@@ -139,7 +139,7 @@ def is_running(number):
 
 
 def evidence_in(folder):
-    return [it for it in folder.names() if it.endswith(".evidence")]
+    return [name for name in folder.names() if name.endswith(".evidence")]
 
 
 def by_workers_of_one_machine(python, program, report):
@@ -159,10 +159,10 @@ def by_workers_of_one_machine(python, program, report):
 
 def with_its_finder_killed(python, program, report):
     """If a process that runs a finder is killed, the finder ends too."""
-    installed(program, f'echo $$ >"{program.room}/finder"; exec sleep 60')
-    look = f"import sys; sys.path.insert(0, {os.path.dirname(CLIENT)!r}); import fcbench_dask; fcbench_dask.find({program.room + '/bin/fcbench'!r}, 'x', [])"
+    installed(program, f'echo $$ >"{program.folder}/finder"; exec sleep 60')
+    look = f"import sys; sys.path.insert(0, {os.path.dirname(CLIENT)!r}); import fcbench_dask; fcbench_dask.find({program.folder + '/bin/fcbench'!r}, 'x', [])"
     worker = subprocess.Popen([python, "-B", "-c", look])
-    finder = f"{program.room}/finder"
+    finder = f"{program.folder}/finder"
     is_so_soon(lambda: os.path.exists(finder) and os.path.getsize(finder) > 0)
     with open(finder, encoding="ascii") as file:
         number = int(file.read())
@@ -204,7 +204,7 @@ def with_a_finder_that_fails(python, program, report):
 
 
 def shards_by_dask(program, report):
-    """The client for Dask, on workers of one machine, and where a worker is killed by its process id."""
+    """The client for Dask gets the evidence from workers on one machine, also if one of them is killed."""
     python = python_with_dask()
     if not python:
         return "SKIPPED: missing, apt-get update; apt-get install -y python3-distributed"

@@ -71,7 +71,7 @@ class Folder:
     shards: int
 
     def path(self, file=""):
-        return f"{self.program.room}/{self.name}/{file}"
+        return f"{self.program.folder}/{self.name}/{file}"
 
     def split(self, history, **how):
         """Runs split on a history, which is the name of a file."""

@@ -26,7 +26,7 @@ def is_named(ran, name):
 
 
 def folders_that_are_there(program, report):
-    """A folder is made, or is empty; one that has shards is refused, and its files stay as they are."""
+    """split makes the folder, or takes an empty one. It refuses one that has shards, and leaves its files as they are."""
     whole = program.write("whole.edn", TWO_QUEUES)
     made = Folder(program, "made", 2)
     report.answers("split: a folder that is missing", made.split(whole), TWO_SHARDS, 0)
@@ -47,7 +47,7 @@ def folders_that_are_there(program, report):
 
 
 def files_that_are_there(program, report):
-    """A folder that has one of the files is refused: that file stays as it is, and no other one is left."""
+    """split refuses a folder that has one of the files: this file stays as it is, and there is no other one."""
     whole = program.write("whole.edn", TWO_QUEUES)
     for name in ("0.edn", "0.places", "5.edn", "5.places", "shards"):
         folder = Folder(program, f"with.{name}", 8)
@@ -62,8 +62,8 @@ def folders_that_cannot_be_written(program, report):
     """A folder that cannot be made or written is named, and so is a history that cannot be read."""
     whole = program.write("whole.edn", TWO_QUEUES)
     program.write("file", "")
-    os.makedirs(f"{program.room}/locked")
-    os.chmod(f"{program.room}/locked", 0o555)
+    os.makedirs(f"{program.folder}/locked")
+    os.chmod(f"{program.folder}/locked", 0o555)
     how = AS_NOBODY if os.geteuid() == 0 else {}
     for name, more in (("file", {}), ("locked", how), ("locked/shards", how)):
         ran = program.run("split", whole, name, **more)
@@ -103,7 +103,7 @@ def wholes_through_pipes(program, report):
 
 
 def shards_through_pipes(program, report):
-    """Any file of a shard may be a pipe, since each is read once: also the evidence and the status, which may be missing."""
+    """Any file of a shard may be a pipe, since each is read once: also the evidence and the status, which need not be there."""
     merged_with(program, "piped", {})
     for file in ("0.edn", "1.places", "2.evidence"):
         folder = Folder(program, "piped", 3)
@@ -119,7 +119,7 @@ def shards_through_pipes(program, report):
 
 
 def failing_reads_of_shards(program, report):
-    """Where any one read fails, split and merge end with 4 and print nothing, and split leaves no files."""
+    """If one read fails, whichever, split and merge end with 4 and print nothing, and split leaves no files."""
     for name, whole in (("narrow", TWO_QUEUES), ("wide", WIDE_QUEUES)):
         program.write("whole.edn", whole)
         _, _, reads = program.counts("split", "whole.edn", f"counted.{name}", "--shards", "2")
@@ -136,7 +136,7 @@ def failing_reads_of_shards(program, report):
 
 
 def failing_writes_of_shards(program, report):
-    """Where any one write to a file fails, split ends with 4, names the folder, and leaves no files."""
+    """If one write to a file fails, whichever, split ends with 4, names the folder, and leaves no files."""
     for name, whole in (("narrow", TWO_QUEUES), ("wide", WIDE_QUEUES)):
         program.write("whole.edn", whole)
         writes = program.file_writes("split", "whole.edn", f"counted.{name}", "--shards", "2")
@@ -151,7 +151,7 @@ def failing_writes_of_shards(program, report):
 
 
 def refused_memory_of_shards(program, report):
-    """Where any one allocation fails, split and merge say so, or give their answer."""
+    """If one allocation fails, whichever, split and merge say so, or give their answer."""
     for name, whole in (("narrow", TWO_QUEUES), ("wide", WIDE_QUEUES)):
         program.write("whole.edn", whole)
         for at in range(1, allocations_of(program, report, "split", "whole.edn", f"counted.{name}", "--shards", "2") + 1):
@@ -178,7 +178,7 @@ def allocations_of(program, report, *words):
 
 
 def refused_memory_of_what_does_not_fit(program, report):
-    """Where an allocation fails, split names the object that does not fit, or those that are too large, or says that it is out of memory."""
+    """If an allocation fails, split says that it is out of memory, or still names the object that does not fit, or those that are too large."""
     program.write("wide.edn", TOO_WIDE)
     for at in range(1, allocations_of(program, report, "split", "wide.edn", "counted", "--shards", "2") + 1):
         folder = Folder(program, f"refused.{at}", 2)
@@ -229,7 +229,7 @@ def merged_with(program, name, changes):
 
 
 def shards_that_were_changed(program, report):
-    """Where a file of a shard is missing, cut or another one, merge never says yes."""
+    """If a file of a shard is missing, cut short, or of another shard, merge never says yes."""
     report.answers("merge: shards as they were", merged_with(program, "as_they_were", {}), MERGED_YES, 0)
     for number, (name, changes) in enumerate(CHANGED.items()):
         ran = merged_with(program, f"changed.{number}", changes)

@@ -30,7 +30,7 @@ def texts():
 
 
 def long_wholes(program, report):
-    """However the maps are written, each is in its shard as it is written, from a file and from a pipe."""
+    """Maps in any spelling are in their shards as they are written, if split reads a file and if it reads a pipe."""
     for number, (name, text) in enumerate(texts()):
         folder = Folder(program, f"long.{number}", SHARDS)
         ran = folder.split(program.write("long.edn", text))
@@ -59,7 +59,7 @@ def late_faults(program, report):
 
 
 def too_many_maps(program, report):
-    """A shard may have a million maps. One that has more is named by split, and by merge, which says nothing of it."""
+    """A shard may have a million maps. split names one that has more, and merge says only that it is too large."""
     one_object = calls(MOST_MAPS // 2)
     text = re.sub(r":object \d+", ":object 1", lines(*one_object)) + lines(invoke(8, "push", 1, 2), ok(8, "push", 1, 2))
     folder = Folder(program, "most", 2)
@@ -85,8 +85,8 @@ def maps_of(on, count, process):
 
 
 def large_objects(program, report):
-    """Split names each object that has more than a million maps, after the shards that have. Those that have as many as that it does not name."""
-    with open(f"{program.room}/large.edn", "w", encoding="ascii") as file:
+    """split names the shards with more than a million maps, then the objects with more than a million, and none with exactly a million."""
+    with open(f"{program.folder}/large.edn", "w", encoding="ascii") as file:
         for process, (on, count) in enumerate(LARGE.items()):
             file.write(maps_of(on, count, process))
     folder = Folder(program, "large", 4)

@@ -1,4 +1,4 @@
-"""Evidence of workers that lie, or that did not come: merge says nothing by it that does not hold."""
+"""Evidence of workers that lie, and missing evidence: merge never gives a wrong yes or no."""
 import random
 import re
 
@@ -133,17 +133,17 @@ def lying(program, report, is_wide):
 
 
 def lying_workers(program, report):
-    """Whatever evidence workers send, a whole that is linearizable is never refuted, and one that is not is never a yes."""
+    """Whatever evidence workers send, merge never says no to a linearizable whole, and never yes to another."""
     return lying(program, report, False)
 
 
 def lying_workers_of_wide_wholes(program, report):
-    """The same of wholes whose objects pass 65,535, so that some in two shards have the same name."""
+    """Whatever evidence workers send, merge never gives a wrong yes or no to wholes in which objects of two shards have the same name."""
     return lying(program, report, True)
 
 
 def lies_by_hand(program, report):
-    """One lie about objects whose only valid order is known: they are open, and the others are not."""
+    """One lie about objects with one valid order, which is known, leaves these objects open, and no others."""
     folder = Folder(program, "lies", 2)
     folder.make(MERGED)
     even = ORDERS[0] + ORDERS[2]
@@ -172,7 +172,7 @@ def lies_by_hand(program, report):
 
 
 def missing_evidence(program, report):
-    """Without the evidence of a shard its objects are open, and a shard that has none by itself needs none."""
+    """If the evidence of a shard is missing, its objects are open. A shard without objects needs no evidence."""
     folder = Folder(program, "missing", 4)
     folder.make(MERGED)
     for shard, text in ORDERS.items():

@@ -26,8 +26,8 @@ def faults_of_split(folder, history, expected, ran):
         return f"split: {ran}"
     files["shards"] = b"%d\n" % folder.shards
     came = folder.files()
-    others = sorted(it for it in {*came, *files} if came.get(it) != files.get(it))
-    return f"split: other files: {[(it, came.get(it)) for it in others]}" if others else None
+    others = sorted(file for file in {*came, *files} if came.get(file) != files.get(file))
+    return f"split: other files: {[(file, came.get(file)) for file in others]}" if others else None
 
 
 def faults_of_answer(folder, evidence, expected):
@@ -63,12 +63,12 @@ def on_all(report, name, look_at):
 
 
 def small_wholes(program, report):
-    """Of a thousand small histories merge says by three shards, line for line, what verify says of the whole, and split names its first fault."""
+    """merge says of the shards of a thousand small histories, line for line, what verify says of the whole. split names the first fault."""
     return on_all(report, "shards of whole", lambda it: look(program, it))
 
 
 def evidence_of_shards(program, report):
-    """What find prints of the shards, with their places, is what it prints of the whole: of each object the same line."""
+    """find, on the shards with their places, prints the same line for each object as on the whole."""
 
     def look_at(number):
         history = lines(*wholes.made(number))

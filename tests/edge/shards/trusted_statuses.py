@@ -30,7 +30,7 @@ NO_STATUS = (
 
 def trusted(texts):
     """What is to be said of shards with these texts of their statuses, and the status."""
-    words = [WORDS.get(it, "no status") if it is not None else "no status" for it in texts]
+    words = [WORDS.get(text, "no status") if text is not None else "no status" for text in texts]
     those = [f"; shard {shard}: {word}\n" for shard, word in enumerate(words) if word]
     status = next((status for status, of in RANKS if of & {*words}), 0)
     yes = "" if those else f"yes by statuses: {len(texts)} shards\n"
@@ -52,11 +52,11 @@ def all_say_so(program, report, rows):
     """The answer of merge on a folder for each row of texts."""
     runs = at_once(lambda at: with_statuses(program, f"{len(rows)}.{at}", rows[at]).merge(TRUST), range(len(rows)))
     for texts, ran in zip(rows, runs):
-        report.answers(f"merge {TRUST}: {[it if it is None else it[:20] for it in texts[:20]]}", ran, *trusted(texts))
+        report.answers(f"merge {TRUST}: {[text if text is None else text[:20] for text in texts[:20]]}", ran, *trusted(texts))
 
 
 def statuses_of_shards(program, report):
-    """Each status of up to three shards, and texts that are no status: malformed comes before no, no before undecided, and undecided before yes."""
+    """Tries all statuses of up to three shards, and texts that are no status: malformed outranks no, no undecided, and undecided yes."""
     two = with_statuses(program, "two", [b"0\n"] * 2)
     report.answers(f"merge {TRUST}: two shards, by hand", two.merge(TRUST), f"{BELIEVED % 2}yes by statuses: 2 shards\n", 0)
     out = "; shard 1: no\n; shard 2: malformed\n; shard 3: undecided\n; shard 4: no status\n"
@@ -67,7 +67,7 @@ def statuses_of_shards(program, report):
 
 
 def statuses_of_many_shards(program, report):
-    """As many shards as there may be, of which a few are not yes."""
+    """Tries the greatest number of shards, of which a few are not yes."""
     rows = [[b"0\n"] * 64, [b"0\n"] * 10_000]
     for text in (b"1\n", b"2\n", b"3\n", None):
         row = [b"0\n"] * 1_000
@@ -78,7 +78,7 @@ def statuses_of_many_shards(program, report):
 
 
 def nothing_else_is_read(program, report):
-    """The answer is by the statuses, whatever the other files say; and without the option nothing is by the statuses."""
+    """With the option only the statuses decide, whatever the other files say; without it they decide nothing."""
     folder = Folder(program, "merged", 3)
     folder.make(MERGED)
     for shard, text in ORDERS.items():
@@ -125,7 +125,7 @@ def folders_without_shards(program, report):
 
 
 def statuses_that_cannot_be_read(program, report):
-    """A status that is there and cannot be read is named. One that leads nowhere is not there."""
+    """A status file that cannot be read is named. A link that leads nowhere counts as missing."""
     folder = with_statuses(program, "unread", [b"0\n", b"0\n", b"1\n"])
     os.chmod(folder.path("1.status"), 0)
     how = AS_NOBODY if os.geteuid() == 0 else {}
@@ -139,7 +139,7 @@ def statuses_that_cannot_be_read(program, report):
 
 
 def refused_memory_of_statuses(program, report):
-    """Where any one allocation or read fails, it says so."""
+    """If one allocation or read fails, whichever, merge says so."""
     for number, texts in enumerate(([b"0\n"] * 3, [b"0\n", b"1\n", None], [b"3\n", b"64\n"])):
         folder = with_statuses(program, f"refused.{number}", texts)
         whole_run, allocations, reads = program.counts("merge", folder.name, TRUST)
@@ -178,7 +178,7 @@ def look(program, number):
 
 
 def workers_that_judge(program, report):
-    """Workers judge the shards of wide wholes alone, and have the statuses that these deserve; by them merge ends as verify does on the whole."""
+    """Workers judge the shards of wide wholes, each alone, and end with the right statuses. With these merge ends as verify does on the whole."""
     for number, (small, came, expected, ran) in enumerate(at_once(lambda it: look(program, it), range(WHOLES))):
         if ran:
             report.equal(f"judge: the shards of whole {number}", expected, came)

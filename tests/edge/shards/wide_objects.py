@@ -163,7 +163,7 @@ TOO_FEW = (
 
 
 def objects_by_their_names(program, report):
-    """Each object is in its shard, by its name there, and all other bytes of its maps are those of the whole."""
+    """Each object is in its shard under its name there, and all other bytes of its maps are those of the whole."""
     for number, row in enumerate(DIVIDED):
         is_divided(program, report, f"row.{number}", row)
     for number, (name, whole, own) in enumerate(WRITTEN):
@@ -171,12 +171,12 @@ def objects_by_their_names(program, report):
 
 
 def faults_of_wide_wholes(program, report):
-    """The first fault of the whole is named, of objects with the same name too."""
+    """The first fault of the whole is named, also of objects that have the same name in different shards."""
     are_refused(program, report, FAULTS)
 
 
 def too_few_shards(program, report):
-    """The first object that does not fit is named with the number of shards that it needs, and nothing is left of the split."""
+    """split names the first object that does not fit, with the number of shards that it needs, and leaves no files."""
     for number, (name, whole, shards, on, needed) in enumerate(TOO_FEW):
         folder, ran = split(program, f"few.{number}", whole, shards)
         report.answers(f"split: {name}", ran, f"object {on}: {needed} shards or more are needed\n", 3)
@@ -191,7 +191,7 @@ def entries(rng, process, on):
     """The keys of a map and their values, in any order, and where that of the object is among them."""
     others = rng.sample((":note", ":a", ":objects", ":object-", ":time"), rng.randrange(4))
     values = ("70000", '":object 5"', "{:object 70000}", "[:object 70000]", ":object", "nil", '"\\""', "{:a {:object 0}}", "+70000")
-    those = [(it, rng.choice(values)) for it in others]
+    those = [(key, rng.choice(values)) for key in others]
     those += [(":process", str(process)), (":type", ":invoke"), (":f", ":read"), (":object", rng.choice(("", "+")) + str(on))]
     rng.shuffle(those)
     return those
@@ -213,7 +213,7 @@ def written_at_random(rng, process, on):
 
 
 def maps_as_they_are_written(program, report):
-    """A thousand maps, written in any way, on objects up to the last: each is in its shard as it is written, except for its object."""
+    """A thousand maps in any spelling, on objects up to the last, are in their shards as they are written, except for the object."""
     for shards in (1, 2, 7, 64):
         rng, parts = random.Random(f"written {shards}"), []
         files = {f"{shard}.{ending}": "" for shard in range(shards) for ending in ("edn", "places")}
@@ -244,7 +244,7 @@ def merged(program, name):
 
 
 def wide_shards_merged_by_hand(program, report):
-    """Evidence names the objects of a shard by their names there, and merge those of the whole, in their order."""
+    """Evidence uses the names that objects have in a shard. merge prints those of the whole, in their order."""
     folder = Folder(program, "without", 3)
     folder.make(MERGED)
     report.answers("merge: no evidence", folder.merge(), "; object 0: open\n; object 65536: open\n; object 131072: open\n", 3)
@@ -261,7 +261,7 @@ def wide_shards_merged_by_hand(program, report):
 
 
 def in_the_order_of_the_whole(program, report):
-    """Lines on objects are in the order of the numbers of the whole, whatever shards and names say."""
+    """Lines on objects are in the order of their numbers in the whole, whatever their shards and names there."""
     of_one = Folder(program, "of_one", 3)
     of_one.make(lines(read(0, 10), read(1, 65_536)))
     report.answers("merge: two objects of one shard, the later by the lesser name", of_one.merge(), "; object 10: open\n; object 65536: open\n", 3)

@@ -52,7 +52,7 @@ def other_numbers(rng, objects, shards, least):
 def widened(history, rng, shards):
     """A small history with other numbers for its objects. Where a map of a client has no `:object`, object 0 keeps its number."""
     history = history.encode()
-    named = [it for it in OBJECT.finditer(history) if names_an_object(it, history)]
+    named = [match for match in OBJECT.finditer(history) if names_an_object(match, history)]
     keeps_0 = any(object_of(it) is not None and not OBJECT.search(it) for it in MAP.findall(history))
     objects = sorted({int(it[1]) for it in named})
     numbers = {**other_numbers(rng, objects, shards, 1 if keeps_0 else 0), **({0: 0} if keeps_0 else {})}
@@ -81,7 +81,7 @@ def look(program, number):
 
 
 def wide_wholes(program, report):
-    """Of a thousand small histories whose objects get numbers past 65,535, merge says line for line what verify says of the small one."""
+    """Gives the objects of a thousand small histories numbers past 65,535: merge says of each, line for line, what verify says of the small one."""
     return on_all(report, "shards of wide whole", lambda it: look(program, it))
 
 
@@ -97,7 +97,7 @@ def calls_on(key):
 
 
 def imported_wholes(program, report):
-    """A store of 70,000 keys is imported with a warning, and divided; merge names the one object that is wrong, and the event that shows it."""
+    """Imports a store of 70,000 keys with a warning, and divides it: merge names the one object that is wrong, and the event that shows it."""
     store = program.write("store.edn", lines(*(text for key in range(KEYS) for text in calls_on(key))))
     ran = program.run("import", store)
     said = b"fcbench: warning: there are %d objects, more than judge takes: use split\n" % KEYS

@@ -107,7 +107,7 @@ def split(program, name, whole, shards):
 def same_files(report, name, expected, came):
     """Compares the files of a folder with those that are expected, and says which differ."""
     others = sorted(it for it in {*expected, *came} if expected.get(it) != came.get(it))
-    report.equal(f"{name}: files that differ", {}, {it: (expected.get(it), came.get(it)) for it in others})
+    report.equal(f"{name}: files that differ", {}, {file: (expected.get(file), came.get(file)) for file in others})
 
 
 def is_divided(program, report, name, row):
@@ -128,13 +128,13 @@ def are_refused(program, report, rows):
 
 
 def divided_by_hand(program, report):
-    """The files of the shards are the maps as they are written, with their places, and each map of a client is in one of them."""
+    """The files of the shards have the maps as they are written, with their places, and each map of a client is in one of them."""
     for number, row in enumerate(DIVIDED):
         is_divided(program, report, f"row.{number}", row)
 
 
 def faults_of_the_whole(program, report):
-    """The first fault of the whole is named, also where each shard alone is a history."""
+    """The first fault of the whole is named, also if each shard alone is well-formed."""
     rows = (*FAULTS, *OTHER_FAULTS)
     for (name, whole, fault), folder in zip(rows, are_refused(program, report, rows)):
         checked = program.run("verify", program.write("faulty.edn", whole), program.write("nothing.edn", ""))
@@ -200,7 +200,7 @@ def refuted_no(on):
 
 
 def refuted_by_hand(program, report):
-    """A reason of one shard is a no of the whole, told in the numbers of the whole. Objects without evidence do not change it."""
+    """A reason for one shard makes merge say no, in the numbers of the whole. Objects without evidence do not change that."""
     folder = Folder(program, "refuted", 2)
     folder.make(refuted_on(3, 4))
     folder.write("0.evidence", b"{:object 4, :order [1]}\n")

@@ -1,4 +1,4 @@
-"""Evidence of every sort: any bytes, evidence that was spoilt, and what find prints. No evidence leads verify to an answer that does not hold."""
+"""Evidence of every sort: any bytes, evidence that was damaged, and what find prints. No evidence leads verify to a wrong yes or no."""
 import os
 import random
 import re
@@ -34,7 +34,7 @@ WORDS = (
 
 def has_order(text):
     """Whether the history of one object has a valid order, by trying all."""
-    return brute_force.has_order([(it["process"], it["type"][1:], it["f"][1:], value_of(it.get("value"))) for it in maps_of(text)])
+    return brute_force.has_order([(event["process"], event["type"][1:], event["f"][1:], value_of(event.get("value"))) for event in maps_of(text)])
 
 
 def why_wrong(program, history, valid, ran):
@@ -62,7 +62,7 @@ def short_histories():
             made = histories.made(kind, f"evidence {seed}", calls=3 + seed % 4, processes=2, values=2)
             maps = made.maps if seed % 3 == 0 or kind in FREED else exchanged(made.maps, seed)
             if kind in FREED and seed % 3:
-                maps = [*maps, *[it for _ in range(2) for it in (invoke(99, *FREED[kind], 0), ok(99, FREED[kind][0], None, 0))]]
+                maps = [*maps, *[call for _ in range(2) for call in (invoke(99, *FREED[kind], 0), ok(99, FREED[kind][0], None, 0))]]
             text = lines(*maps)
             yield text, has_order(text)
 
@@ -70,9 +70,9 @@ def short_histories():
 def exchanged(maps, seed):
     """The maps with another value in the last completion that has one."""
     rng = random.Random(f"exchanged {seed}")
-    found = [(it, replies) for it, text in enumerate(maps) for pattern, replies in REPLIES if ":type :ok" in text and pattern.search(text)]
-    for it, replies in found[-1:]:
-        maps = [*maps[:it], re.sub(r":value [^,]+,", f":value {rng.choice(replies)},", maps[it]), *maps[it + 1 :]]
+    found = [(at, replies) for at, text in enumerate(maps) for pattern, replies in REPLIES if ":type :ok" in text and pattern.search(text)]
+    for at, replies in found[-1:]:
+        maps = [*maps[:at], re.sub(r":value [^,]+,", f":value {rng.choice(replies)},", maps[at]), *maps[at + 1 :]]
     return maps
 
 
@@ -93,8 +93,8 @@ def spoilt(rng, evidence, other):
             text[at:at] = other[begin : begin + rng.choice((5, 20, 200))]
         else:
             numbers = list(re.finditer(rb"\d+", text))
-            for it in rng.sample(numbers, min(1, len(numbers))):
-                text[it.start() : it.end()] = str(rng.randrange(14)).encode()
+            for match in rng.sample(numbers, min(1, len(numbers))):
+                text[match.start() : match.end()] = str(rng.randrange(14)).encode()
     return bytes(text)
 
 
@@ -111,29 +111,29 @@ def cases_of_spoilt_evidence(program):
 
 
 def spoilt_evidence(program, report):
-    """What find prints decides each short history, and where it is spoilt verify says nothing that does not hold."""
+    """What find prints decides each short history. If it is damaged, verify never gives a wrong yes or no."""
     cases = list(cases_of_spoilt_evidence(program))
-    runs = at_once(lambda it: verified(program, it[0], it[2]), cases)
+    runs = at_once(lambda case: verified(program, case[0], case[2]), cases)
     came = {}
     for (history, valid, evidence, is_whole), ran in zip(cases, runs):
         report.equal(f"verify: {evidence!r} of {history!r}", None, why_wrong(program, history, valid, ran))
         if is_whole:
             report.equal(f"verify: what find prints of {history!r}", 0 if valid else 1, ran.status, ran)
         came[is_whole, ran.status] = came.get((is_whole, ran.status), 0) + 1
-    few = {it: came.get(it, 0) for it in ((True, 0), (True, 1), (False, 0), (False, 1), (False, 3)) if came.get(it, 0) < 20}
+    few = {pair: came.get(pair, 0) for pair in ((True, 0), (True, 1), (False, 0), (False, 1), (False, 3)) if came.get(pair, 0) < 20}
     report.equal("verify: of these answers there are too few", {}, few)
     return f"{len(cases)} verifications"
 
 
 def any_bytes(program, report):
-    """Random bytes, and random words of evidence, lead to no answer that does not hold."""
+    """Random bytes, and random words of evidence, never lead to a wrong yes or no."""
     rng = random.Random("any bytes")
     texts = [rng.randbytes(rng.choice((1, 3, 10, 100, 10_000))) for _ in range(RANDOM)]
     texts += [" ".join(rng.choice(WORDS) for _ in range(rng.choice((2, 5, 20, 200)))).encode() for _ in range(RANDOM)]
     texts += [f"{{:object 0 {' '.join(rng.choice(WORDS) for _ in range(rng.choice((2, 4, 6))))}}}".encode() for _ in range(RANDOM)]
     of = ((worked_rows.OVERLAPPING, True), (worked_rows.OUT_OF_ORDER, False))
     cases = [(history, valid, text) for text in texts for history, valid in of]
-    for (history, valid, text), ran in zip(cases, at_once(lambda it: verified(program, it[0], it[2]), cases)):
+    for (history, valid, text), ran in zip(cases, at_once(lambda case: verified(program, case[0], case[2]), cases)):
         report.equal(f"verify: {text[:200]!r} of {history!r}", None, why_wrong(program, history, valid, ran))
     return f"{len(cases)} verifications"
 
@@ -142,7 +142,7 @@ def any_bytes(program, report):
 
 
 def as_check(program, report):
-    """By the certificates of each row of check verify answers yes where check does. Where check refuses an order, verify leaves its object open."""
+    """Gives verify the certificates of each row of check: it says yes if check does. If check refuses an order, verify leaves its object open."""
     for row in (*worked_rows.YES, *worked_rows.NO, *orders_to_find.ROWS):
         if row.words[0] != "check":
             continue
@@ -161,12 +161,12 @@ def as_check(program, report):
 
 
 def as_refute(program, report):
-    """By the reasons of each row of refute verify says no where refute does."""
+    """Gives verify the reasons of each row of refute: it says no if refute does."""
     for row in worked_rows.REFUTATIONS:
         if "malformed reasons" in row.out or row.words[0] != "refute":
             continue
         files = program.write(HISTORY, row.texts[0]), program.write(EVIDENCE, row.texts[1])
-        ran = program.run("verify", *[it for it in row.words[1:] if it not in (HISTORY, REASONS)], *files)
+        ran = program.run("verify", *[word for word in row.words[1:] if word not in (HISTORY, REASONS)], *files)
         name = f"verify: the texts of {row.name}"
         if row.status == 1:
             report.equal(name, (1, None), (ran.status, why_not_explained(program, row.texts[0], ran)))
@@ -182,7 +182,7 @@ def as_refute(program, report):
 
 
 def found_evidence(program, report):
-    """What judge says is what verify says by what find prints, of each history that is not linearizable and of each example."""
+    """judge says what verify says with the evidence that find prints, for each example and each history that is not linearizable."""
     texts = [(name, history, options) for name, history, *options in worked_rows.NOT_LINEARIZABLE]
     for name in sorted(os.listdir(EXAMPLES)):
         if name.endswith(".history.edn"):
@@ -197,7 +197,7 @@ def found_evidence(program, report):
         report.equal(f"find: {name}: its status", status, found.status, found)
         report.equal(f"find: {name}: standard error", judged.status == 2, found.err != b"", found)
         if judged.status != 2:
-            objects = [int(it) for it in re.findall(rb"^\{:object (\d+), ", found.out, re.M)]
+            objects = [int(number) for number in re.findall(rb"^\{:object (\d+), ", found.out, re.M)]
             report.holds(
                 f"find: {name}: a line for each object, in rising number",
                 objects == sorted(set(objects)) and len(objects) == found.out.count(b"\n"),
@@ -210,7 +210,7 @@ def found_evidence(program, report):
 
 def many_claims(program, report):
     """Evidence of many claims, and of many objects, is checked claim by claim."""
-    wrong = lines(*[certificate(0, it) for it in range(20_000)])
+    wrong = lines(*[certificate(0, number) for number in range(20_000)])
     ran = verified(program, worked_rows.OVERLAPPING, wrong + worked_rows.order(1, 0, 4))
     report.answers("verify: a valid order after 20,000 wrong ones", ran, worked_rows.THREE_YES, 0)
     ran = verified(program, worked_rows.THREE_VALUES, wrong)
@@ -257,7 +257,7 @@ FORGED = (
 
 
 def forged_sentences(program, report):
-    """A sentence of the evidence is printed as it is, unless it could be taken for a line that is proved: then there is none."""
+    """verify prints the sentence of a reason, unless a reader could take it for a proved line: then it prints none."""
     history = program.write("forged.history.edn", OF_TWO)
 
     def answer(note):

@@ -715,7 +715,7 @@ def is_answered(program, report, name, history, text, steps, wanted, on=0):
 
 
 def parts_of_histories(program, report):
-    """Each part, with what is known of it."""
+    """refute answers each part of a history as expected."""
     for table in (PENDING_CALLS, PROJECTIONS, REGISTERS, ENTRIES, WINDOWS, SETS_COUNTERS_LOCKS, CHANGES, VALUES_THAT_ARE_ABSENT):
         for number, (history, cuts, wanted) in enumerate(table):
             is_answered(program, report, f"refute: row {number}: {cuts}", history, reason(cuts), 1000, wanted)
@@ -740,7 +740,7 @@ def parts_of_histories(program, report):
 
 
 def several_reasons(program, report):
-    """Each reason is answered in its turn, on the object with its number."""
+    """refute answers several reasons in their order, each for the object that it names."""
     text = lines(*[reason(window(start, end), None, on) for on, start, end in ((0, 4, 7), (1, 4, 8), (0, 4, 8), (0, 5, 8))])
     row = refute(
         "four reasons",

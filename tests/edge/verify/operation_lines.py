@@ -209,7 +209,7 @@ OTHER_KEYS = '{:by "hand", :object 3, :cuts [{:why [1], :until 5}], :count {:val
 
 
 def lines_of_operations(program, report):
-    """Each part, with the lines of its operations; as comments, they are the same."""
+    """refute prints the expected lines for the operations of each part; as comments, judge prints the same."""
     for row in ROWS:
         in_files(program, report, row)
     ran = program.run("judge", program.write(HISTORY, TWO_OBJECTS))
@@ -222,7 +222,7 @@ def lines_of_operations(program, report):
 
 
 def texts_of_reasons(program, report):
-    """Texts that are no reasons, and keys that have no meaning."""
+    """refute refuses texts that are no reasons, and ignores keys that have no meaning."""
     for text, form in REFUSED:
         in_files(program, report, refute(text, HEAP, text, f"malformed reasons: N1 at form {form}\n", 2))
     operations = (

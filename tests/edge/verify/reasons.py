@@ -205,18 +205,18 @@ def is_settled(f, found, start, puts):
 
 def is_blocked(count, calls):
     """Whether more values definitely were ahead of what a removal found than others can have taken out before it."""
-    puts, removals = [it for it in calls if it[2] in PUTS], [it for it in calls if it[2] in REMOVALS]
-    own = next((it for it in removals if it[0] == count["ahead"] and it[1] is not None), None)
+    puts, removals = [call for call in calls if call[2] in PUTS], [call for call in calls if call[2] in REMOVALS]
+    own = next((removal for removal in removals if removal[0] == count["ahead"] and removal[1] is not None), None)
     start = count.get("from", 0)
     if own is None or not is_settled(own[2], own[4], start, puts):
         return False
     number, returned, f, _, found = own
     before = number
     if f == "dequeue" and found is not None:
-        before = min(number, next((it[0] for it in puts if it[3] == found), 0))
+        before = min(number, next((put[0] for put in puts if put[3] == found), 0))
     can_be_ahead = lambda value: f != "extract-min" or found is None or value < found
-    ahead = [it for it in puts if can_be_ahead(it[3]) and it[1] is not None and it[1] < before and it[0] >= start]
-    others = [it for it in removals if it[0] != number and it[0] <= returned]
+    ahead = [put for put in puts if can_be_ahead(put[3]) and put[1] is not None and put[1] < before and put[0] >= start]
+    others = [removal for removal in removals if removal[0] != number and removal[0] <= returned]
     return len(ahead) > sum(at is None or reply is not None and can_be_ahead(reply) for _, at, _, _, reply in others)
 
 
@@ -234,7 +234,7 @@ def count_in(reason):
 def has_failed(maps, number):
     """Whether the next map of the process that invoked the operation at this map says that it failed."""
     process = maps[number]["process"]
-    return next((it["type"] == ":fail" for it in maps[number + 1 :] if it["process"] == process), False)
+    return next((entry["type"] == ":fail" for entry in maps[number + 1 :] if entry["process"] == process), False)
 
 
 def is_of_history(maps, told, on):
@@ -314,7 +314,7 @@ def refuted(history, on, operations):
 def why_not_explained(program, history, ran):
     """What is wrong with a judgement that ends with 1, or None. Each of its reasons is also handed to refute."""
     found, others = explained_in(ran.out)
-    if ran.status != 1 or not found or any(not OPEN.fullmatch(it) for it in others):
+    if ran.status != 1 or not found or any(not OPEN.fullmatch(other) for other in others):
         return f"no judgement: {ran}"
     stem = f"explained.{os.getpid()}.{threading.get_ident()}"
     name = program.write(f"{stem}.history.edn", history)
@@ -329,7 +329,7 @@ def why_not_explained(program, history, ran):
 
 
 def explanations(program, report):
-    """Where judge says that an object is impossible, the operations that it tells are of the history and have no valid order."""
+    """If judge says that an object is impossible, the operations that it lists are in the history and have no valid order."""
     cases = [(name, history, options) for name, history, *options in worked_rows.NOT_LINEARIZABLE]
     for name in sorted(os.listdir(EXAMPLES)):
         stem, _, kind = name.partition(".")
