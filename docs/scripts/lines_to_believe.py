@@ -22,7 +22,7 @@ from arguments import arguments_or_exit  # noqa: E402
 
 WORD = re.compile(r"[^\s(){}\[\],;.λ]+")
 # What a yes says of a history in memory, and what judge says of a text.
-CLAUSES = {"history": ("model.Linearizable.IsLinearizable", "events.Events.denoted", "events.Events.kind_at", "model.Orders.events"),
+CLAUSES = {"history": ("model.Linearizable.IsLinearizable", "events.Events.denoted", "events.Events.kind_of_object", "model.Orders.events"),
            "judge": ("judging.Texts.IsLinearizableText",),
            # What the lines of verify say of an object that is impossible.
            "reason": ("verifying.Decisions.IsShownReason",)}

@@ -15,8 +15,8 @@ use Rattle.edn_reader.specs.View.{view, views}
 use Rattle.edn_reader.specs.declared.form.Form.{Form}
 use Rattle.edn_fields.specs.Fields.{value_at, natural_in, object_in}
 use Rattle.certificate.specs.Denotes.{Reading, order_in, reading_with, certificate_of, reading_of, AreDistinct, Denotes}
-use Rattle.certificate.specs.Faults.{certificate_fault_number, IsCertificateFault, HasNoCertificateFault, IsFirstFault}
-use Rattle.certificate.specs.Faults.{IsCertificateSoundAt}
+use Rattle.certificate.specs.Faults.{cert_fault_number, IsCertFault, HasNoCertFault, IsFirstFault}
+use Rattle.certificate.specs.Faults.{IsCertSoundAt}
 use Rattle.certificate.specs.Inside.{IsFaultAmong, AreCertificatesRead}
 use Rattle.certificate.specs.declared.Certificate.{Certificate}
 use Rattle.certificate.specs.declared.fault.CertFault.{CertFault}
@@ -174,7 +174,7 @@ same_objects a b r s p q e =
     let q' : b ≡ s = cc in
     ap (λ (x : Reading). x.object) p' ∙ e ∙ sym (ap (λ (x : Reading). x.object) q')
 
-pub no_fault : (ds : List Datum) (cs : List Certificate) → Denotes ds cs → HasNoCertificateFault ds
+pub no_fault : (ds : List Datum) (cs : List Certificate) → Denotes ds cs → HasNoCertFault ds
 no_fault ds cs h earlier later d NotACertificate split fault =
     let r = read_at earlier later d cs (ap (map certificate_of) (sym split) ∙ h.each) in
     let own : certificate_of d ≡ Some (reading_of r.own) = r.is_own in
@@ -189,7 +189,7 @@ no_fault ds cs h earlier later d TwoForOneObject split fault =
 no_fault ds cs h earlier later d NoMemory split fault = fault
 
 pub fault_here : (ds : List Datum) (cs : List Certificate) (among : ℕ → Bool) (d : Datum) (kind : CertFaultKind)
-    → AreCertificatesRead ds cs among → IsFaultAmong among d kind → kind ≢ NoMemory → IsCertificateFault ds d kind
+    → AreCertificatesRead ds cs among → IsFaultAmong among d kind → kind ≢ NoMemory → IsCertFault ds d kind
 fault_here ds cs among d NotACertificate h fault other = fault
 fault_here ds cs among d TwoForOneObject h (r, own, stands) other =
     let some = list_any-some (λ c. c.object == r.object) cs (sym (h.objects r.object) ∙ stands) in
@@ -206,8 +206,8 @@ fault_here ds cs among d TwoForOneObject h (r, own, stands) other =
 fault_here ds cs among d NoMemory h fault other = absurd (other refl)
 
 -- a form has one fault at most
-pub only_fault : (earlier : List Datum) (d : Datum) (kind other : CertFaultKind) → IsCertificateFault earlier d kind
-    → IsCertificateFault earlier d other → certificate_fault_number kind ≤ certificate_fault_number other
+pub only_fault : (earlier : List Datum) (d : Datum) (kind other : CertFaultKind) → IsCertFault earlier d kind
+    → IsCertFault earlier d other → cert_fault_number kind ≤ cert_fault_number other
 only_fault earlier d NotACertificate NotACertificate h k = omega arith
 only_fault earlier d NotACertificate TwoForOneObject h k = omega arith
 only_fault earlier d NotACertificate NoMemory h k = omega arith
@@ -245,7 +245,7 @@ first_fault fs i f cs among kind lt is h fault other = record {
 -- a certificate of an object that no earlier form has
 pub nothing_here : (ds : List Datum) (cs : List Certificate) (among : ℕ → Bool) (d : Datum) (r : Reading)
     → AreCertificatesRead ds cs among
-    → certificate_of d ≡ Some r → among r.object ≡ false → (kind : CertFaultKind) → IsCertificateFault ds d kind → ⊥
+    → certificate_of d ≡ Some r → among r.object ≡ false → (kind : CertFaultKind) → IsCertFault ds d kind → ⊥
 nothing_here ds cs among d r h own new NotACertificate fault = cc
 nothing_here ds cs among d r h own new TwoForOneObject fault =
     let f = read_from ds cs fault.first fault.stands.0 h.denoted.each fault.stands.1 fault.stands.2 in
@@ -260,7 +260,7 @@ nothing_here ds cs among d r h own new NoMemory fault = fault
 pub sound_at : (fs : List Form) (i : ℕ) (f : Form) (cs : List Certificate) (among : ℕ → Bool) (r : Reading)
     → i < length fs → f ≡ get_or fs i f
     → AreCertificatesRead (views (take i fs)) cs among → certificate_of (view f) ≡ Some r → among r.object ≡ false
-    → IsCertificateSoundAt (views fs) i
+    → IsCertSoundAt (views fs) i
 sound_at fs i f cs among r lt is h own new = record {
   earlier = views (take i fs);
   form = view f;

@@ -11,14 +11,14 @@ use Rattle.certificate.specs.declared.fault.CertFault.{CertFault}
 use Rattle.certificate.specs.declared.fault.CertFaultKind.{CertFaultKind}
 use Rattle.certificate.specs.declared.text_reader.Reading.{Reading}
 use Rattle.certificate.specs.Denotes.{certificate_of, reading_of, Denotes}
-use Rattle.certificate.specs.Faults.{IsCertificateSoundAt}
+use Rattle.certificate.specs.Faults.{IsCertSoundAt}
 use Rattle.certificate.specs.Inside.{IsFaultAmong, AreCertificatesRead, has}
-use Rattle.certificate.specs.Texts.{IsCertificateFaultIn, AreCertificatesReadOrFaulty, IsCertificateReading}
+use Rattle.certificate.specs.Texts.{IsCertFaultIn, AreCertificatesReadOrFaulty, IsCertificateReading}
 use Rattle.certificate.proofs.Reading.{no_fault, fault_here, only_fault, nothing_here}
 use Rattle.edn_fields.proofs.FirstFaults.{first_more}
 
 -- more forms after those that were looked at
-sound_more : (ds : List Datum) (d : Datum) (n : ℕ) → IsCertificateSoundAt ds n → IsCertificateSoundAt (ds ++ d ∷ []) n
+sound_more : (ds : List Datum) (d : Datum) (n : ℕ) → IsCertSoundAt ds n → IsCertSoundAt (ds ++ d ∷ []) n
 sound_more ds d n h = record {
   earlier = h.earlier;
   form = h.form;
@@ -32,7 +32,7 @@ sound_more ds d n h = record {
 faulty_more : (r : Reading) (f : CertFault) (ds : List Datum) (d : Datum) → r.fault ≡ Some f → IsCertificateReading r ds
     → IsCertificateReading r (ds ++ d ∷ [])
 faulty_more r f ds d e h =
-    let a : IsCertificateFaultIn ds f =
+    let a : IsCertFaultIn ds f =
     subst (λ (o : Option CertFault). AreCertificatesReadOrFaulty o ds r.certificates.items (has r.objects)) e h in
     subst (λ (o : Option CertFault). AreCertificatesReadOrFaulty o (ds ++ d ∷ []) r.certificates.items (has r.objects))
     (sym e)
@@ -57,7 +57,7 @@ one_each ds cs h = sym (length-map ds certificate_of) ∙ ap length h.each ∙ l
 -- what is wrong with the form after those that were read, or that an allocation failed for it
 pub found : (ds : List Datum) (cs : List Certificate) (among : ℕ → Bool) (d : Datum) (kind : CertFaultKind)
     → AreCertificatesRead ds cs among
-    → IsFaultAmong among d kind → IsCertificateFaultIn (ds ++ d ∷ []) (record { kind = kind; form = length cs })
+    → IsFaultAmong among d kind → IsCertFaultIn (ds ++ d ∷ []) (record { kind = kind; form = length cs })
 found ds cs among d kind h fault = (
   λ n. record {
     earlier = ds;

@@ -9,10 +9,10 @@ use Rattle.certificate.specs.declared.fault.CertFaultKind.TheVariants.{TwoForOne
 use Rattle.certificate.specs.declared.fault.CertFault.{CertFault}
 
 -- the number that is printed after the letter K
-abbrev pub certificate_fault_number : CertFaultKind → ℕ
-certificate_fault_number NotACertificate = 1
-certificate_fault_number TwoForOneObject = 2
-certificate_fault_number NoMemory = 3
+abbrev pub cert_fault_number : CertFaultKind → ℕ
+cert_fault_number NotACertificate = 1
+cert_fault_number TwoForOneObject = 2
+cert_fault_number NoMemory = 3
 
 -- one of the earlier forms is a certificate of the same object
 pub record IsSecond (earlier : List Datum) (d : Datum) : Type 0 where
@@ -25,26 +25,25 @@ pub record IsSecond (earlier : List Datum) (d : Datum) : Type 0 where
   pub same_object : first_own.object ≡ own.object
 
 -- what is wrong with a form, judged from it and the forms before it
-abbrev pub IsCertificateFault : List Datum → Datum → CertFaultKind → Type 0
-IsCertificateFault earlier d NotACertificate = certificate_of d ≡ None
-IsCertificateFault earlier d TwoForOneObject = IsSecond earlier d
-IsCertificateFault earlier d NoMemory = ⊥
+abbrev pub IsCertFault : List Datum → Datum → CertFaultKind → Type 0
+IsCertFault earlier d NotACertificate = certificate_of d ≡ None
+IsCertFault earlier d TwoForOneObject = IsSecond earlier d
+IsCertFault earlier d NoMemory = ⊥
 
 -- no form is faulty
-abbrev pub HasNoCertificateFault : List Datum → Type 0
-HasNoCertificateFault ds = AreFaultless IsCertificateFault ds
+abbrev pub HasNoCertFault : List Datum → Type 0
+HasNoCertFault ds = AreFaultless IsCertFault ds
 
 -- the first fault: that of the first faulty form. A form has one fault at most.
 abbrev pub IsFirstFault : List Datum → CertFault → Type 0
-IsFirstFault ds fault = IsFirstFaultBy IsCertificateFault certificate_fault_number ds fault.form
-    fault.kind
+IsFirstFault ds fault = IsFirstFaultBy IsCertFault cert_fault_number ds fault.form fault.kind
 
 -- nothing is wrong up to the form at this place, nor with it
-pub record IsCertificateSoundAt (ds : List Datum) (place : ℕ) : Type 0 where
+pub record IsCertSoundAt (ds : List Datum) (place : ℕ) : Type 0 where
   pub earlier : List Datum
   pub form : Datum
   pub later : List Datum
   pub split : ds ≡ earlier ++ form ∷ later
   pub stands_at : length earlier ≡ place
-  pub least : HasNoCertificateFault earlier
-  pub none : (kind : CertFaultKind) → IsCertificateFault earlier form kind → ⊥
+  pub least : HasNoCertFault earlier
+  pub none : (kind : CertFaultKind) → IsCertFault earlier form kind → ⊥

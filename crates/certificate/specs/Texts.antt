@@ -11,23 +11,23 @@ use Rattle.certificate.specs.declared.fault.CertFaultKind.TheVariants.{NoMemory}
 use Rattle.certificate.specs.declared.fault.CertTextFault.{CertTextFault}
 use Rattle.certificate.specs.declared.fault.CertTextFault.TheVariants.{Text, Forms}
 use Rattle.certificate.specs.declared.text_reader.Reading.{Reading}
-use Rattle.certificate.specs.Faults.{IsFirstFault, IsCertificateSoundAt}
+use Rattle.certificate.specs.Faults.{IsFirstFault, IsCertSoundAt}
 use Rattle.certificate.specs.Inside.{AreCertificatesRead, has}
 
 -- The first fault of the forms; or an allocation failed for one of them, and up to it and with it
 -- there is none.
-abbrev pub IsCertificateFaultIn : List Datum → CertFault → Type 0
-IsCertificateFaultIn ds f = (f.kind ≢ NoMemory → IsFirstFault ds f)
-    × (f.kind ≡ NoMemory → IsCertificateSoundAt ds f.form)
+abbrev pub IsCertFaultIn : List Datum → CertFault → Type 0
+IsCertFaultIn ds f = (f.kind ≢ NoMemory → IsFirstFault ds f)
+    × (f.kind ≡ NoMemory → IsCertSoundAt ds f.form)
 
 -- The text is unreadable, or an allocation failed for a token; or it is short and spells forms in
 -- which this was found.
-abbrev pub IsCertificateTextFault : List ℕ → CertTextFault → Type 0
-IsCertificateTextFault text (Text e) =
+abbrev pub IsCertTextFault : List ℕ → CertTextFault → Type 0
+IsCertTextFault text (Text e) =
     (e.kind ≢ edn_kind.NoMemory → IsUnreadable text e)
     × (e.kind ≡ edn_kind.NoMemory → IsShort text × edn_sound.IsSoundAt e.place text)
-IsCertificateTextFault text (Forms f) = IsShort text × (ds : List Datum) × Spells ds text
-    × IsCertificateFaultIn ds f
+IsCertTextFault text (Forms f) = IsShort text × (ds : List Datum) × Spells ds text
+    × IsCertFaultIn ds f
 
 -- ---- the elements so far
 
@@ -35,7 +35,7 @@ IsCertificateTextFault text (Forms f) = IsShort text × (ds : List Datum) × Spe
 abbrev pub AreCertificatesReadOrFaulty : Option CertFault → List Datum → List Certificate
     → (ℕ → Bool) → Type 0
 AreCertificatesReadOrFaulty None ds cs among = AreCertificatesRead ds cs among
-AreCertificatesReadOrFaulty (Some f) ds cs among = IsCertificateFaultIn ds f
+AreCertificatesReadOrFaulty (Some f) ds cs among = IsCertFaultIn ds f
 
 abbrev pub IsCertificateReading : Reading → List Datum → Type 0
 IsCertificateReading r ds = AreCertificatesReadOrFaulty r.fault ds r.certificates.items

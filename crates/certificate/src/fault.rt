@@ -16,11 +16,11 @@ pub enum CertFaultKind {
 }
 
 impl CertFaultKind {
-    ghost use Rattle.certificate.specs.Faults.{certificate_fault_number};
+    ghost use Rattle.certificate.specs.Faults.{cert_fault_number};
 
     /// The number after the letter K.
     pub fn number(self) -> u8
-        ensures { result ≡ certificate_fault_number self }
+        ensures { result ≡ cert_fault_number self }
     {
         match self {
             CertFaultKind::NotACertificate => 1,

@@ -10,7 +10,7 @@ ghost use Rattle.edn_reader.specs.View.{view, views};
 ghost use Rattle.certificate.specs.declared.Certificate.{Certificate};
 ghost use Rattle.certificate.specs.Denotes as spec;
 ghost use Rattle.certificate.specs.Denotes.{Denotes, AreDistinct};
-ghost use Rattle.certificate.specs.Faults.{IsFirstFault, IsCertificateSoundAt};
+ghost use Rattle.certificate.specs.Faults.{IsFirstFault, IsCertSoundAt};
 ghost use Rattle.certificate.specs.Inside.{IsFaultAmong};
 
 use crate::Certificate;
@@ -135,7 +135,7 @@ pub fn read_certificates(alloc: Global, forms: Vec<Form>) -> Result<Vec<Certific
         IsFirstFault (views forms.items) e) }
     // An allocation failed, and nothing was wrong up to and including this form.
     ensures memory { IfErr result (λ e. e.kind ≡ CertFaultKind.NoMemory →
-        IsCertificateSoundAt (views forms.items) e.form) }
+        IsCertSoundAt (views forms.items) e.form) }
     // Such a fault means that the forms denote no certificates.
     ensures refused { IfErr result (λ e. e.kind ≢ CertFaultKind.NoMemory → (cs : List Certificate) →
         Denotes (views forms.items) cs → ⊥) }

@@ -12,7 +12,7 @@ ghost use Rattle.certificate.specs.Denotes as spec;
 ghost use Rattle.certificate.specs.Denotes.{Denotes, AreDistinct};
 ghost use Rattle.certificate.specs.Inside.{IsFaultAmong, has, Says};
 ghost use Rattle.certificate.specs.TokenBuffers.{IsBufferKept, numbers_of, object_in_map};
-ghost use Rattle.certificate.specs.Texts.{IsCertificateFaultIn, IsCertificateTextFault};
+ghost use Rattle.certificate.specs.Texts.{IsCertFaultIn, IsCertTextFault};
 
 use crate::Certificate;
 use crate::fault::{CertFault, CertFaultKind, CertTextFault};
@@ -124,7 +124,7 @@ impl Reading {
     /// The certificates, or what is wrong with an element.
     fn finish(self) -> Result<Vec<Certificate>, CertFault>
         ensures { (ds : List Datum) → IsCertificateReading self ds →
-            MatchResult result (λ v. Denotes ds v.items) (IsCertificateFaultIn ds) }
+            MatchResult result (λ v. Denotes ds v.items) (IsCertFaultIn ds) }
     {
         let Reading {
             certificates,
@@ -147,7 +147,7 @@ pub fn read_certificates_text(alloc: Global, text: &[u8]) -> Result<Vec<Certific
         (ds : List Datum) × Spells ds text.now × Denotes ds v.items) }
     ensures distinct { IfOk result (λ v. AreDistinct v.items) }
     ensures short { OnOk result (IsShort text.now) }
-    ensures fault { IfErr result (IsCertificateTextFault text.now) }
+    ensures fault { IfErr result (IsCertTextFault text.now) }
 {
     let mut elements = match Elements::with_integer_vector(alloc, text, b"order") {
         Ok(elements) => elements,

@@ -1,5 +1,5 @@
--- What is kept of an element's tokens, one by one, are the tokens of what is kept of it (`kept_tokens`). By induction on
--- the element: a nested value is passed over, an item is kept while there is room, and then the rest is dropped.
+-- What is kept of an element's tokens, one by one, are the tokens of what is kept of it (`kept_tokens`). By induction
+-- on the element: a nested value is passed over, an item is kept while there is room, and then the rest is dropped.
 use Rattle.std.proofs.Common.{◌≡◌, ℕ, zero, suc, ◌+◌, ◌-◌, Bool, true, false, List, [], ◌∷◌, ◌++◌, refl, sym, ap}
 use Rattle.std.proofs.Common.{◌∙◌, append_assoc, add-one, arith}
 use Rattle.std.specs.Prelude.{◌==◌, if◌then◌else◌}
@@ -138,7 +138,12 @@ entries_kept : (es : Entries) (us ts : List Token)
 entries_kept no_entries us ts = rw append-nil refl
 entries_kept (entry k d es) us ts =
     let own = ts ++ leaf (atom (keyword k)) ∷ [] in
-    rw (append_assoc, value_kept d (entries_tokens es ++ us) own, entries_kept es us (own ++ tokens_of (truncated_value d)))
+    rw (
+      append_assoc,
+      value_kept d (entries_tokens es ++ us) own,
+      entries_kept es us
+          (own ++ tokens_of (truncated_value d)),
+    )
     (simp append_assoc)
 
 -- ---- an element

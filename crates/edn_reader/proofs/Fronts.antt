@@ -22,12 +22,20 @@ use Rattle.edn_reader.proofs.Strings.{some_is}
 
 pub begin_within : (ts : List Token) (text rest : List ℕ) → BeginWith ts text rest → length rest ≤ length text
 begin_within [] text rest b = omega (arith, ap length b)
-begin_within (t ∷ ts) text rest (mid, n, b) = omega (arith, next_shorter text t mid (next_from text t mid n), begin_within ts mid rest b)
+begin_within (t ∷ ts) text rest (mid, n, b) = omega (
+  arith,
+  next_shorter text t mid (next_from text t mid n),
+  begin_within ts mid rest b,
+)
 
 pub begin_shorter : (ts : List Token) (text rest : List ℕ) → ([] ≡ ts → ⊥) → BeginWith ts text rest
     → length rest < length text
 begin_shorter [] text rest h b = absurd (h refl)
-begin_shorter (t ∷ ts) text rest h (mid, n, b) = omega (arith, next_shorter text t mid (next_from text t mid n), begin_within ts mid rest b)
+begin_shorter (t ∷ ts) text rest h (mid, n, b) = omega (
+  arith,
+  next_shorter text t mid (next_from text t mid n),
+  begin_within ts mid rest b,
+)
 
 pub rest_shorter : (text rest : List ℕ) → PassesElement text rest → length rest < length text
 rest_shorter text rest p = begin_shorter (tokens_of p.element ++ []) text rest (not_nothing p.element []) p.front.begins

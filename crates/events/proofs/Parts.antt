@@ -14,7 +14,7 @@ use Rattle.events.specs.declared.event.Event.{Event}
 use Rattle.events.specs.declared.operations.End.{End}
 use Rattle.events.specs.declared.operations.End.TheVariants.{Returned, Pending, Failed}
 use Rattle.events.specs.declared.operations.Invocation.{Invocation}
-use Rattle.events.specs.Events.{next_event, Follows, IsProper, kind_in_action, kind_of_object, IsNamed}
+use Rattle.events.specs.Events.{next_event, Follows, IsProper, kind_by, kind_of_object, IsNamed}
 use Rattle.events.specs.Operations.{end_by, end_at, begun, operations_on, EndsAfter, ObjectCalls, IsObjectHistory}
 
 -- the event of an operation
@@ -211,7 +211,7 @@ kind_here x (e ∷ es) o h i =
   where
     own : (a : Action) → (e.object ≡ x) → e.action ≡ a → ((e.action ≡ Invoke o.op) ⊎ In o (operations_on x es))
         → (In o (operations_on x es) → kind_of o.op ≡ kind_of_object es x) → kind_of o.op
-        ≡ kind_in_action a (kind_of_object es x)
+        ≡ kind_by a (kind_of_object es x)
     own (Invoke op) s q (inl t) f =
         ap kind_of (let r : Invoke op ≡ Invoke o.op = sym q ∙ t in let u : o.op ≡ op = cc in u)
     own (Invoke op) s q (inr j) f =
@@ -226,7 +226,7 @@ kind_here x (e ∷ es) o h i =
     go : (b : Bool) → (e.object == x) ≡ b
         → In o (cond (e.object == x) (begun e.number e.action (end_at (next_event e.process es))) [])
         ⊎ In o (operations_on x es) → (In o (operations_on x es) → kind_of o.op ≡ kind_of_object es x)
-        → kind_of o.op ≡ cond b (kind_in_action e.action (kind_of_object es x)) (kind_of_object es x)
+        → kind_of o.op ≡ cond b (kind_by e.action (kind_of_object es x)) (kind_of_object es x)
     go true q (inl j) f = own e.action (eqb-true e.object x q) refl
         (inl (begun_here x e (end_at (next_event e.process es)) o j).2) f
     go true q (inr j) f = own e.action (eqb-true e.object x q) refl (inr j) f

@@ -104,15 +104,14 @@ pub record IsNamed (es : List Event) (x : ℕ) : Type 0 where
   pub on_object : event.object ≡ x
   pub invokes : event.action ≡ Invoke op
 
-abbrev pub kind_in_action : Action → Kind → Kind
-kind_in_action (Invoke op) other = kind_of op
-kind_in_action (Ok r) other = other
-kind_in_action Fail other = other
-kind_in_action Info other = other
+abbrev pub kind_by : Action → Kind → Kind
+kind_by (Invoke op) other = kind_of op
+kind_by (Ok r) other = other
+kind_by Fail other = other
+kind_by Info other = other
 
 -- the kind of an object: that of the first invocation that names it
 abbrev pub kind_of_object : List Event → ℕ → Kind
 kind_of_object [] x = some_kind
 kind_of_object (e ∷ later) x =
-    if e.object == x then kind_in_action e.action (kind_of_object later x) else kind_of_object
-    later x
+    if e.object == x then kind_by e.action (kind_of_object later x) else kind_of_object later x

@@ -33,7 +33,8 @@ one_impossible (a ∷ rest) e = go a.1.found refl e (one_impossible rest)
     later : Any (λ a. a.1.found ≡ Impossible) rest → Any (λ a. a.1.found ≡ Impossible) (a ∷ rest)
     later r = (suc r.0, r.1, omega (arith, r.2), r.3, r.4)
 
-    go : (f : CertificateOutcome) → a.1.found ≡ f → (finds_impossible f || list_any (λ a. finds_impossible a.1.found) rest)
+    go : (f : CertificateOutcome) → a.1.found ≡ f → (finds_impossible f || list_any
+        (λ a. finds_impossible a.1.found) rest)
         ≡ true
         → (list_any (λ a. finds_impossible a.1.found) rest ≡ true → Any (λ a. a.1.found ≡ Impossible) rest)
         → Any (λ a. a.1.found ≡ Impossible) (a ∷ rest)

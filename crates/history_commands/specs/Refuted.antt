@@ -13,10 +13,12 @@ use Rattle.events.specs.Events.{kind_of_object, denoted}
 use Rattle.events.specs.Operations.{ObjectCalls, calls_of}
 use Rattle.refutation.specs.declared.reason.Reason.{Reason}
 use Rattle.refutation.specs.declared.refuting.WhyNotShown.{WhyNotShown}
-use Rattle.refutation.specs.declared.refuting.WhyNotShown.TheVariants.{Possible, NotExceeded, OutOfSteps}
+use Rattle.refutation.specs.declared.refuting.WhyNotShown.TheVariants.{Possible, NotExceeded}
+use Rattle.refutation.specs.declared.refuting.WhyNotShown.TheVariants.{OutOfSteps}
 use Rattle.refutation.specs.declared.refuting.WhyNotShown.TheVariants as why_not
 use Rattle.refutation.specs.declared.refuting.ReasonAnswer.{ReasonAnswer}
-use Rattle.refutation.specs.declared.refuting.ReasonAnswer.TheVariants.{Impossible, NotShown, NoPart}
+use Rattle.refutation.specs.declared.refuting.ReasonAnswer.TheVariants.{Impossible, NotShown}
+use Rattle.refutation.specs.declared.refuting.ReasonAnswer.TheVariants.{NoPart}
 use Rattle.refutation.specs.declared.refuting.ReasonAnswer.TheVariants.{OtherObject}
 use Rattle.refutation.specs.Refutations.{IsReasonAnswer, shows_impossible, steps_of}
 use Rattle.reason_report.specs.Operations.{operations_text}

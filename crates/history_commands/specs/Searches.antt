@@ -13,7 +13,8 @@ use Rattle.checker.specs.Refusals.{AreValid}
 use Rattle.search.specs.declared.found.Search.{Search}
 use Rattle.search.specs.declared.found.CertificateOutcome.{CertificateOutcome}
 use Rattle.search.specs.declared.found.CertificateOutcome.TheVariants as found
-use Rattle.search.specs.declared.found.CertificateOutcome.TheVariants.{Impossible, OutOfSteps, TooLarge}
+use Rattle.search.specs.declared.found.CertificateOutcome.TheVariants.{Impossible, OutOfSteps}
+use Rattle.search.specs.declared.found.CertificateOutcome.TheVariants.{TooLarge}
 use Rattle.search.specs.declared.found.CertificateOutcome.TheVariants.{NoMemory}
 use Rattle.search.specs.Answers.{IsSearchAnswerOn}
 use Rattle.report.specs.declared.verdict.Verdict.{Verdict}

@@ -46,7 +46,7 @@ stops_for_memory h (Faulty (CertificateForms g)) es f d short = absurd f
 
 -- the same of a text of certificates
 pub stopped_forms : (c : List ℕ) (f : CertFault) (s : TextFailure)
-    → certificate_texts.IsCertificateTextFault c (Forms f)
+    → certificate_texts.IsCertTextFault c (Forms f)
     → IsTextFailureOf (CertificateForms f) s → IsCertificatesFault c s
 stopped_forms c f (Faulty g) (short, ds, spells, found) k = subst (λ (x : Fault). IsCertificatesFault c (Faulty x))
     (sym k.0) (short, ds, spells, found.0 k.1)

@@ -84,8 +84,7 @@ abbrev pub AreCertificatesSound : List ℕ → Type 0
 AreCertificatesSound c =
     IsShort c
     × (((place : ℕ) × IsSoundAt place c)
-    ⊎ ((ds : List Datum) × Spells ds c × (form : ℕ)
-    × certificate_fault.IsCertificateSoundAt ds form))
+    ⊎ ((ds : List Datum) × Spells ds c × (form : ℕ) × certificate_fault.IsCertSoundAt ds form))
 
 -- what stops the reading of a history's text, or of a certificates' text
 abbrev pub IsHistoryFault : List ℕ → TextFailure → Type 0

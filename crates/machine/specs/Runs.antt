@@ -8,8 +8,7 @@ use Rattle.desk_model.specs.Transitions.{Step, Transition}
 -- and no object is held.
 abbrev pub start_world : ℕ → World
 start_world clients = record initial_world {
-  stage = λ c. if nat_lt c clients then idle else
-      absent;
+  stage = λ c. if nat_lt c clients then idle else absent;
 }
 
 module _ (kinds : List Kind) (quota : ℕ) where

@@ -15,7 +15,8 @@ use Rattle.refutation.specs.declared.reason.Basis.{Basis}
 use Rattle.refutation.specs.declared.reason.Basis.TheVariants.{Search, Counting, Ahead}
 use Rattle.refutation.specs.declared.reason.Reason.{Reason}
 use Rattle.refutation.specs.declared.refuting.WhyNotShown.{WhyNotShown}
-use Rattle.refutation.specs.declared.refuting.WhyNotShown.TheVariants.{Possible, NotExceeded, OutOfSteps}
+use Rattle.refutation.specs.declared.refuting.WhyNotShown.TheVariants.{Possible, NotExceeded}
+use Rattle.refutation.specs.declared.refuting.WhyNotShown.TheVariants.{OutOfSteps}
 use Rattle.refutation.specs.declared.refuting.WhyNotShown.TheVariants.{NoMemory}
 use Rattle.refutation.specs.declared.refuting.ReasonAnswer.{ReasonAnswer}
 use Rattle.refutation.specs.declared.refuting.ReasonAnswer.TheVariants as refutation

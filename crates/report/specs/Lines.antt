@@ -113,7 +113,7 @@ fault_line (CertificateText e) =
     ++ (text_of_kind e.kind ++ (codes " at byte " ++ (decimal e.place ++ codes "\n")))
 fault_line (CertificateForms k) =
     codes "malformed certificates: K"
-    ++ (decimal (certificate.certificate_fault_number k.kind)
+    ++ (decimal (certificate.cert_fault_number k.kind)
     ++ (codes " at form " ++ (decimal k.form ++ codes "\n")))
 
 -- ---- all

@@ -14,7 +14,8 @@ use Rattle.search.specs.declared.finding.OrderOutcome.{OrderOutcome}
 use Rattle.search.specs.declared.finding.OrderOutcome.TheVariants as outcome
 use Rattle.search.specs.declared.found.Search.{Search}
 use Rattle.search.specs.declared.found.CertificateOutcome.{CertificateOutcome}
-use Rattle.search.specs.declared.found.CertificateOutcome.TheVariants.{Impossible, OutOfSteps, TooLarge}
+use Rattle.search.specs.declared.found.CertificateOutcome.TheVariants.{Impossible, OutOfSteps}
+use Rattle.search.specs.declared.found.CertificateOutcome.TheVariants.{TooLarge}
 use Rattle.search.specs.declared.found.CertificateOutcome.TheVariants.{NoMemory}
 use Rattle.search.specs.declared.found.CertificateOutcome.TheVariants as found
 

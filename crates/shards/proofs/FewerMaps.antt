@@ -7,7 +7,7 @@ use Rattle.std.proofs.lemmas.List.{append-nil, reverse-append}
 use Rattle.std.proofs.lemmas.List.Elements.{filter-append}
 use Rattle.model.proofs.Lists.{in_filter, in_filter_passes, in_from_contains, contains_from_in}
 use Rattle.history.specs.Maps.{ClientMap, MapType, invoke}
-use Rattle.history.specs.Faults.{last_map, HasOutstanding, IsProcessClosed, CompletionDiffers, ClientFault}
+use Rattle.history.specs.Faults.{last_map, HasOngoing, IsProcessClosed, CompletionDiffers, ClientFault}
 use Rattle.history.specs.declared.fault.HistoryFaultKind.{HistoryFaultKind}
 use Rattle.history.specs.declared.fault.HistoryFaultKind.TheVariants.{NotAnOperation, UnknownF, BadValue, MixedKinds}
 use Rattle.history.specs.declared.fault.HistoryFaultKind.TheVariants.{Busy, Stray, Mismatch, AfterInfo, TooMany}
@@ -33,7 +33,7 @@ AreFine earlier (m ∷ ms) = IsFine earlier m × AreFine (earlier ++ m ∷ []) m
 -- What is outstanding among the maps on some objects is outstanding among all.
 abbrev IsOutstandingAmongAll : (ℕ → Bool) → List ClientMap → Type 0
 IsOutstandingAmongAll has earlier =
-    (p : ℕ) (o : ClientMap) → HasOutstanding (on has earlier) p o → HasOutstanding earlier p o
+    (p : ℕ) (o : ClientMap) → HasOngoing (on has earlier) p o → HasOngoing earlier p o
 
 on_push : (has : ℕ → Bool) (earlier : List ClientMap) (m : ClientMap)
     → on has (earlier ++ m ∷ []) ≡ on has earlier ++ cond (has m.object) (m ∷ []) []
@@ -50,7 +50,7 @@ one_object : (o m : ClientMap) → (CompletionDiffers o m → ⊥) → o.object 
 one_object o m same = elim (cases_eq o.object m.object) [ inl e ↦ e | inr ne ↦ absurd (same (inr ne)) ]
 
 -- of a process with an outstanding operation, the next map completes it
-next_object : (earlier : List ClientMap) (m o : ClientMap) → IsFine earlier m → HasOutstanding earlier m.process o
+next_object : (earlier : List ClientMap) (m o : ClientMap) → IsFine earlier m → HasOngoing earlier m.process o
     → o.object ≡ m.object
 next_object earlier m o fine out = go m.type refl
   where
@@ -69,7 +69,7 @@ outstanding_push has earlier m fine h p o out = go (has m.object) refl (m.proces
     last b q = subst (λ c. last_map p (on has earlier ++ cond c (m ∷ []) []) ≡ Some o) q
         (subst (λ ms. last_map p ms ≡ Some o) (on_push has earlier m) out.last)
 
-    among : last_map p earlier ≡ Some o → (m.process == p) ≡ false → HasOutstanding (earlier ++ m ∷ []) p o
+    among : last_map p earlier ≡ Some o → (m.process == p) ≡ false → HasOngoing (earlier ++ m ∷ []) p o
     among was q = record {
       last = last_push p earlier m ∙ (ap (λ b. cond b (Some m) (last_map p earlier)) q ∙ was);
       invoked = out.invoked;
@@ -78,7 +78,7 @@ outstanding_push has earlier m fine h p o out = go (has m.object) refl (m.proces
     before : last_map p (on has earlier) ≡ Some o → last_map p earlier ≡ Some o
     before was = (h p o (record { last = was; invoked = out.invoked })).last
 
-    go : (b : Bool) → has m.object ≡ b → (c : Bool) → (m.process == p) ≡ c → HasOutstanding (earlier ++ m ∷ []) p o
+    go : (b : Bool) → has m.object ≡ b → (c : Bool) → (m.process == p) ≡ c → HasOngoing (earlier ++ m ∷ []) p o
     go true q true r =
         let was = last true q in
         record {
@@ -96,7 +96,7 @@ outstanding_push has earlier m fine h p o out = go (has m.object) refl (m.proces
         let own : m.process ≡ p = eqb-true m.process p r in
         let whole = h p o (record { last = was; invoked = out.invoked }) in
         let same : o.object ≡ m.object =
-        next_object earlier m o fine (subst (λ n. HasOutstanding earlier n o) (sym own) whole) in
+        next_object earlier m o fine (subst (λ n. HasOngoing earlier n o) (sym own) whole) in
         let kept : has o.object ≡ true = kept_object has earlier p o was in
         absurd (let t : true ≡ false = sym kept ∙ (ap has same ∙ q) in cc t)
     go false q false r =
@@ -118,8 +118,8 @@ reverse_on has (m ∷ ms) =
     let own = reverse-append (m ∷ []) (on has ms) in
     grind arith
 
-outstanding_on : (has : ℕ → Bool) (earlier : List ClientMap) (p : ℕ) (o : ClientMap) → HasOutstanding earlier p o
-    → has o.object ≡ true → HasOutstanding (on has earlier) p o
+outstanding_on : (has : ℕ → Bool) (earlier : List ClientMap) (p : ℕ) (o : ClientMap) → HasOngoing earlier p o
+    → has o.object ≡ true → HasOngoing (on has earlier) p o
 outstanding_on has earlier p o out k = record {
   last = ap (find (λ m. m.process == p)) (reverse_on has earlier) ∙ last_kept has p (reverse earlier) o out.last k;
   invoked = out.invoked;

@@ -9,7 +9,7 @@ use Rattle.seq_objects.specs.Values.{op_with, reply_with}
 use Rattle.events.specs.declared.event.Action.TheVariants.{Invoke, Ok}
 use Rattle.history.specs.Maps.{ClientMap, MapType, invoke, ok, fail, info, op_in, plain_value, reply_in}
 use Rattle.history.specs.Denotes.{action_of}
-use Rattle.history.specs.Faults.{last_map, CompletionDiffers, IsProcessClosed, HasOutstanding, ClientFault, HasBadValue}
+use Rattle.history.specs.Faults.{last_map, CompletionDiffers, IsProcessClosed, HasOngoing, ClientFault, HasBadValue}
 use Rattle.history.specs.declared.fault.HistoryFaultKind.{HistoryFaultKind}
 use Rattle.history.specs.declared.fault.HistoryFaultKind.TheVariants.{NotAnOperation, UnknownF, BadValue, MixedKinds}
 use Rattle.history.specs.declared.fault.HistoryFaultKind.TheVariants.{Busy, Stray, Mismatch, AfterInfo, TooMany}
@@ -91,8 +91,8 @@ module _ (name : ℕ → ℕ) where
   last_after m (Some n) h = (n, refl, h)
 
   module _ (ms ns : List ClientMap) (h : AreRenamedMaps name ms ns) where
-    outstanding_before : (p q : ℕ) (o : ClientMap) → q ≡ p → HasOutstanding ns q o
-        → (m : ClientMap) × HasOutstanding ms p m × IsRenamed name m o
+    outstanding_before : (p q : ℕ) (o : ClientMap) → q ≡ p → HasOngoing ns q o
+        → (m : ClientMap) × HasOngoing ms p m × IsRenamed name m o
     outstanding_before p q o same out =
         let last = last_before (last_map p ms) o
         (subst (AreBoth name (last_map p ms)) (ap (λ k. last_map k ns) (sym same) ∙ out.last)
@@ -102,8 +102,8 @@ module _ (name : ℕ → ℕ) where
           last.2,
         )
 
-    outstanding_after : (p q : ℕ) (o : ClientMap) → q ≡ p → HasOutstanding ms p o
-        → (n : ClientMap) × HasOutstanding ns q n
+    outstanding_after : (p q : ℕ) (o : ClientMap) → q ≡ p → HasOngoing ms p o
+        → (n : ClientMap) × HasOngoing ns q n
     outstanding_after p q o same out =
         let last = last_after o (last_map q ns)
         (subst (λ x. AreBoth name x (last_map q ns)) (ap (λ k. last_map k ms) same ∙ out.last) (both_last q ms ns h)) in

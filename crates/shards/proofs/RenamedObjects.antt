@@ -15,7 +15,7 @@ use Rattle.locality.proofs.OneKind.{named_kinds, orders_of_kinds}
 use Rattle.events.specs.declared.event.Action.{Action}
 use Rattle.events.specs.declared.event.Action.TheVariants.{Invoke, Ok, Fail, Info}
 use Rattle.events.specs.declared.event.Event.{Event}
-use Rattle.events.specs.Events.{denoted, kind_in_action, kind_of_object, next_event, IsNamed, IsProper}
+use Rattle.events.specs.Events.{denoted, kind_by, kind_of_object, next_event, IsNamed, IsProper}
 use Rattle.events.specs.Operations.{begun, calls_of, end_at, operations_on}
 use Rattle.events.proofs.ProcessRuns.{State, idle, busy, closed, state_by, MayDo, Runs, runs_from_start}
 use Rattle.events.proofs.Calls.{proper_calls}
@@ -110,9 +110,9 @@ kind_same : (name : ℕ → ℕ) (x : ℕ) (es : List Event) → IsApart name x 
     → kind_of_object (renamed name es) (name x) ≡ kind_of_object es x
 kind_same name x [] apart = refl
 kind_same name x (e ∷ es) apart =
-    ap (λ k. cond (name e.object == name x) (kind_in_action e.action k) k)
+    ap (λ k. cond (name e.object == name x) (kind_by e.action k) k)
     (kind_same name x es (λ d i. apart d (inr i)))
-    ∙ ap (λ b. cond b (kind_in_action e.action (kind_of_object es x)) (kind_of_object es x))
+    ∙ ap (λ b. cond b (kind_by e.action (kind_of_object es x)) (kind_of_object es x))
     (same_test name e.object x (apart e (inl refl)))
 
 -- ---- renamed events are proper

@@ -12,7 +12,7 @@ use Rattle.model.specs.Orders.{Numbered, events}
 use Rattle.model.proofs.Lists.{In}
 use Rattle.events.specs.declared.event.Action.{Action}
 use Rattle.events.specs.declared.event.Event.{Event}
-use Rattle.events.specs.Events.{next_event, is_fail, fails, denoted_by, denoted, kind_in_action, kind_of_object}
+use Rattle.events.specs.Events.{next_event, is_fail, fails, denoted_by, denoted, kind_by, kind_of_object}
 use Rattle.events.specs.Events.{IsProper}
 use Rattle.events.proofs.ProcessRuns.{State, idle, state_by, MayDo, Runs, runs_from_start}
 use Rattle.shards.specs.Shards.{said, AreRenumbered, DenoteLinearizable}
@@ -65,8 +65,8 @@ proper_renumbered es others proper renumbered =
 pub kinds_same : (x : ℕ) (es fs : List Event) → AreSame es fs → kind_of_object es x ≡ kind_of_object fs x
 kinds_same x [] [] same = refl
 kinds_same x (e ∷ es) (f ∷ fs) same =
-    ap (λ k. cond (e.object == x) (kind_in_action e.action k) k) (kinds_same x es fs same.1)
-    ∙ ap (λ t. cond (t.1 == x) (kind_in_action t.2 (kind_of_object fs x)) (kind_of_object fs x)) same.0
+    ap (λ k. cond (e.object == x) (kind_by e.action k) k) (kinds_same x es fs same.1)
+    ∙ ap (λ t. cond (t.1 == x) (kind_by t.2 (kind_of_object fs x)) (kind_of_object fs x)) same.0
 kinds_same x es fs same = absurd same
 
 -- each operation that is outstanding fails in both or in neither

@@ -8,7 +8,7 @@ use Rattle.model.proofs.Lists.{In, in_filter_from, in_map_from, all_from_in}
 use Rattle.locality.specs.Locality.{HasValidOrder}
 use Rattle.locality.proofs.OneKind.{locality_of_kinds, named_kinds, orders_of_kinds}
 use Rattle.events.specs.declared.event.Event.{Event}
-use Rattle.events.specs.Events.{denoted, kind_in_action, kind_of_object, IsProper}
+use Rattle.events.specs.Events.{denoted, kind_by, kind_of_object, IsProper}
 use Rattle.events.specs.Operations.{calls_of}
 use Rattle.events.proofs.ProcessRuns.{idle, runs_from_start}
 use Rattle.events.proofs.Calls.{proper_calls}
@@ -37,11 +37,11 @@ kind_kept has x (e ∷ es) own = go (has e.object) refl (kind_kept has x es own)
   where
     go : (b : Bool) → has e.object ≡ b → kind_of_object (events_on has es) x ≡ kind_of_object es x
         → kind_of_object (cond b (e ∷ events_on has es) (events_on has es)) x ≡ kind_of_object (e ∷ es) x
-    go true q later = ap (λ k. cond (e.object == x) (kind_in_action e.action k) k) later
+    go true q later = ap (λ k. cond (e.object == x) (kind_by e.action k) k) later
     go false q later =
         let own_object : e.object ≡ x → has e.object ≡ true = λ s. ap has s ∙ own in
         let ne : (e.object == x) ≡ false = ne_eqb e.object x (λ s. let t = own_object s in absurd (cc (q, t))) in
-        later ∙ sym (ap (λ b. cond b (kind_in_action e.action (kind_of_object es x)) (kind_of_object es x)) ne)
+        later ∙ sym (ap (λ b. cond b (kind_by e.action (kind_of_object es x)) (kind_of_object es x)) ne)
 
 -- so it has a valid order among them where it has one among all
 order_kept : (has : ℕ → Bool) (x : ℕ) (es : List Event) → has x ≡ true → IsProper es → OrderedAt es x

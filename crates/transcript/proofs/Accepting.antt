@@ -17,7 +17,7 @@ use Rattle.desk_model.specs.Records.{order_of, IsSoundRecord}
 use Rattle.events.specs.declared.event.Action.{Action}
 use Rattle.events.specs.declared.event.Action.TheVariants.{Invoke, Ok, Fail, Info}
 use Rattle.events.specs.declared.event.Event.{Event}
-use Rattle.events.specs.Events.{IsProper, IsNamed, kind_of_object, kind_in_action, denoted}
+use Rattle.events.specs.Events.{IsProper, IsNamed, kind_of_object, kind_by, denoted}
 use Rattle.events.proofs.WellFormed.{denoted_is_history}
 use Rattle.recorder.specs.Histories.{AreEventsOf}
 use Rattle.recorder.proofs.Same.{same_by_parts}
@@ -44,7 +44,7 @@ kind_named kinds (e ∷ es) of_kind x f o i on is =
     ]
 
     go : (b : Bool) → (e.object == x) ≡ b → (a : Action) → e.action ≡ a → (In f es → kind_of_object es x ≡ kinds x)
-        → cond b (kind_in_action a (kind_of_object es x)) (kind_of_object es x) ≡ kinds x
+        → cond b (kind_by a (kind_of_object es x)) (kind_of_object es x) ≡ kinds x
     go true q (Invoke op) s later = of_kind e op (inl refl) s ∙ ap kinds (eqb-true e.object x q)
     go true q (Ok r) s later = later (at_head (Ok r) s (λ op t. absurd (cc (t))))
     go true q Fail s later = later (at_head Fail s (λ op t. absurd (cc (t))))

@@ -28,7 +28,7 @@ use Rattle.history.specs.declared.fault.HistoryFaultKind.TheVariants.{Busy, Stra
 use Rattle.history.specs.declared.fault.HistoryFaultKind.TheVariants.{NoMemory}
 use Rattle.history.specs.Maps.{ClientMap, invoke, info, client_of, clients}
 use Rattle.history.specs.Faults.{last_map, HasBadValue, ClientFault, HasNoHistoryFault, IsFaultlessAtAnyLength}
-use Rattle.history.specs.Faults.{HasOutstanding}
+use Rattle.history.specs.Faults.{HasOngoing}
 use Rattle.history.specs.Faults.{IsProcessClosed}
 use Rattle.history.specs.Denotes.{action_of, event_of_map, event_of, events_of_forms}
 use Rattle.history.proofs.MapLimit.{IsSmall, faultless_within}
@@ -132,7 +132,7 @@ record IsFine (before : List Line) (l : Line) : Type 0 where
   none_unknown : (k : Line) → In k before → k.event.action ≢ Info
 
 -- the line that is outstanding, where some map is
-outstanding : (before : List Line) (p : ℕ) (o : ClientMap) → HasOutstanding (map map_of before) p o
+outstanding : (before : List Line) (p : ℕ) (o : ClientMap) → HasOngoing (map map_of before) p o
     → (k : Line) × (last_line p before ≡ Some k)
     × (o ≡ map_of k) × (op : AnyOp) × (k.event.action ≡ Invoke op)
 outstanding before p o h = go (last_line p before) refl (sym (last_is p before) ∙ h.last)
@@ -154,7 +154,7 @@ no_bad m a is h = grind arith
 
 module _ (before : List Line) (l : Line) (fine : IsFine before l) where
   busy : (a : Action) → l.event.action ≡ a → type_map a ≡ invoke → (o : ClientMap)
-      → HasOutstanding (map map_of before) l.event.process o → ⊥
+      → HasOngoing (map map_of before) l.event.process o → ⊥
   busy (Invoke op) is t o h =
       let k = outstanding before l.event.process o h in
       let f = rw is at fine.follows in f.1 k.0 k.3 k.1 k.4

@@ -16,7 +16,8 @@ use Rattle.projection.specs.Cuts.{NamesPart}
 use Rattle.search.specs.Answers.{IsCertificateOf}
 use Rattle.refutation.specs.declared.reason.Reason.{Reason}
 use Rattle.refutation.specs.declared.refuting.WhyNotShown.TheVariants.{Possible, NotExceeded}
-use Rattle.refutation.specs.Refutations.{PartHasNoValidOrder, IsWhyNotShown, IsNamedPart, IsSearchBasis}
+use Rattle.refutation.specs.Refutations.{PartHasNoValidOrder, IsWhyNotShown, IsNamedPart}
+use Rattle.refutation.specs.Refutations.{IsSearchBasis}
 use Rattle.refutation.specs.Refutations.{IsShownBy, steps_of}
 use Rattle.verifying.specs.declared.claim.Claim.{Claim}
 use Rattle.verifying.specs.declared.claim.Claim.TheVariants as claim
@@ -149,8 +150,7 @@ pub record IsShownReason (x : ℕ) (kind : Kind) (calls : List Call) (f : ShownR
 
 -- what is decided of an object by one claim on it
 pub record IsClaimAnswer (x : ℕ) (kind : Kind) (calls : List Call) (limit : ℕ) (e : Claim)
-    (d : Decision)
-    : Type 0 where
+    (d : Decision) : Type 0 where
   pub order : IfOrder d (λ c. IsCertificateOf x kind calls c × IsSourceOf c e)
   pub impossible : IfImpossible d (λ f.
       IsShownReason x kind calls f × (e ≡ claim.Reason f.reason f.note))

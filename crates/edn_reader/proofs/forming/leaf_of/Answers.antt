@@ -4,7 +4,8 @@ use Rattle.edn_reader.specs.Datum.{string, keyword}
 use Rattle.edn_reader.specs.Forming.{BeginsForm}
 use Rattle.edn_reader.specs.Pieces.{piece_token, unquoted}
 use Rattle.edn_reader.specs.declared.piece.Piece.{Piece}
-use Rattle.edn_reader.proofs.FormsOfTokens.{leaf_own, open_vector_alone, open_map_alone, close_vector_begins, close_map_begins}
+use Rattle.edn_reader.proofs.FormsOfTokens.{leaf_own, open_vector_alone, open_map_alone, close_vector_begins}
+use Rattle.edn_reader.proofs.FormsOfTokens.{close_map_begins}
 use Rattle.edn_reader.proofs.forming.leaf_of.Goals as goal
 
 pub string_in-requires : goal.string_in-requires

@@ -1,6 +1,6 @@
 use Rattle.std.proofs.Common.{subst}
 use Rattle.edn_reader.proofs.Progress.{one_reading_of}
-use Rattle.certificate.specs.Texts.{IsCertificateTextFault}
+use Rattle.certificate.specs.Texts.{IsCertTextFault}
 use Rattle.judging.proofs.Accepting.{one_meaning}
 use Rattle.judging.proofs.ReadFaults.{stopped_forms, certificates_for_memory}
 use Rattle.judging.proofs.texts.certificates_in.Goals as goal
@@ -14,7 +14,7 @@ returns-in-Ok-clause-only c = λ ds h.
 pub returns-in-Err-Forms-clause-stop : goal.returns-in-Err-Forms-clause-stop
 returns-in-Err-Forms-clause-stop c =
     stopped_forms c.args.text.now c.in-Err-Forms.fault c.failure_of_fault-in-Err-Forms.result
-    (subst (IsCertificateTextFault c.args.text.now) c.in-Err-Forms.field-0-is c.in-Err-Forms.ensures.fault)
+    (subst (IsCertTextFault c.args.text.now) c.in-Err-Forms.field-0-is c.in-Err-Forms.ensures.fault)
     c.failure_of_fault-in-Err-Forms.ensures
 
 pub returns-in-Err-Forms-clause-accepts : goal.returns-in-Err-Forms-clause-accepts

@@ -6,4 +6,8 @@ returns-in-None-clause-impossible c e =
     part.shows (c.why_not_shown.ensures.shown c.in-None.is)
 
 pub returns-in-None-clause-shown : goal.returns-in-None-clause-shown
-returns-in-None-clause-shown c = (c.why_not_shown.ensures.basis c.in-None.is, c.why_not_shown.ensures.shown c.in-None.is)
+returns-in-None-clause-shown c = (
+  c.why_not_shown.ensures.basis c.in-None.is,
+  c.why_not_shown.ensures.shown
+      c.in-None.is,
+)

@@ -7,7 +7,7 @@ use Rattle.certificate.specs.declared.fault.CertFaultKind.TheVariants.{NoMemory}
 use Rattle.certificate.specs.declared.text_reader.Reading.{Reading}
 use Rattle.certificate.specs.Denotes.{reading_of}
 use Rattle.certificate.specs.Inside.{AreCertificatesRead, has}
-use Rattle.certificate.specs.Texts.{IsCertificateFaultIn, AreCertificatesReadOrFaulty, IsCertificateReading}
+use Rattle.certificate.specs.Texts.{IsCertFaultIn, AreCertificatesReadOrFaulty, IsCertificateReading}
 use Rattle.certificate.proofs.Reading.{one_more_read}
 use Rattle.certificate.proofs.TextReading.{are_read, found}
 use Rattle.certificate.proofs.text_reader.Reading.take_said.Goals as goal
@@ -34,7 +34,7 @@ returns-after-push c = λ ds d q h.
           let none = found ds old.certificates.items (has old.objects) d NoMemory a
           (reading_of made, own, c.in-Ok.ensures.new) in
           subst (λ (r : Reading). IsCertificateReading r (ds ++ d ∷ [])) (sym w.self-is)
-          (subst (λ (n : ℕ). IsCertificateFaultIn (ds ++ d ∷ []) (record { kind = NoMemory; form = n }))
+          (subst (λ (n : ℕ). IsCertFaultIn (ds ++ d ∷ []) (record { kind = NoMemory; form = n }))
           (sym (c.len-form.ensures ∙ old.certificates.ok.0)) none)
           )
     ]
@@ -44,5 +44,5 @@ returns-in-Err c = λ ds d q h.
     let old = c.args.self.now in
     let a = are_read old ds c.requires h in
     let here = found ds old.certificates.items (has old.objects) d c.in-Err.kind a (c.in-Err.ensures.fault d q) in
-    subst (λ (n : ℕ). IsCertificateFaultIn (ds ++ d ∷ []) (record { kind = c.in-Err.kind; form = n }))
+    subst (λ (n : ℕ). IsCertFaultIn (ds ++ d ∷ []) (record { kind = c.in-Err.kind; form = n }))
     (sym (c.len-form.ensures ∙ old.certificates.ok.0)) here
