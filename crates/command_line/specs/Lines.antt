@@ -20,12 +20,14 @@ use Rattle.seq_objects.specs.Kinds.{default_kinds, kinds_named}
 use Rattle.command_line.specs.Command.{command}
 use Rattle.command_line.specs.declared.asking.Line.{Line}
 use Rattle.command_line.specs.declared.asking.Line.TheVariants.{Check, Search, Refute, Verify}
-use Rattle.command_line.specs.declared.asking.Line.TheVariants.{Run, Simulate, Split, Merge}
+use Rattle.command_line.specs.declared.asking.Line.TheVariants.{Run, Simulate, OnFolder}
 use Rattle.command_line.specs.declared.asking.LineFault.{LineFault}
 use Rattle.command_line.specs.declared.asking.LineFault.TheVariants.{Help, Refused, NoMemory}
 use Rattle.command_line.specs.declared.lines.NoLine.{NoLine}
 use Rattle.command_line.specs.declared.lines.NoLine.TheVariants as unread
 use Rattle.command_line.specs.declared.asking.RunOptions.{RunOptions}
+use Rattle.command_line.specs.declared.on_folder.FolderLine.{FolderLine}
+use Rattle.command_line.specs.declared.on_folder.FolderLine.TheVariants.{Split, Merge}
 use Rattle.command_line.specs.declared.table.Bounds.{Bounds}
 use Rattle.command_line.specs.declared.table.TheConstants.{WORKERS, STEPS, OBJECTS, CLIENTS, CALLS}
 use Rattle.command_line.specs.declared.table.TheConstants.{SEED, SHARDS, COMMANDS}
@@ -68,8 +70,19 @@ pub record AreRunOptions (rows : List Row) (o : RunOptions) : Type 0 where
 abbrev pub IsFile : Text → List Row → Text → Type 0
 IsFile name rows file = first_of name rows ≡ Some file
 
--- The line of this command has the files that the rows have, and for each option the value that the
--- rows have, or its default.
+-- The line of this command on a folder has the files that the rows have, and for each option the
+-- value that the rows have, or its default.
+abbrev pub IsFolderLine : Verb → List Row → FolderLine → Type 0
+IsFolderLine v rows (Split line) =
+    (v ≡ is.Split) × IsFile (codes "HISTORY") rows (string_bytes line.history)
+    × IsFile (codes "FOLDER") rows (string_bytes line.folder)
+    × IsNumber SHARDS (first_of (codes "shards") rows) line.shards
+IsFolderLine v rows (Merge folder steps trust_statuses) =
+    (v ≡ is.Merge) × IsFile (codes "FOLDER") rows (string_bytes folder)
+    × IsNumber STEPS (first_of (codes "steps") rows) steps
+    × (trust_statuses ≡ is_given (first_of (codes "trust-statuses") rows))
+
+-- The same of the line of any command.
 abbrev pub IsLine : Verb → List Row → Line → Type 0
 IsLine v rows (Check history certificates workers) =
     (v ≡ is.Check) × IsFile (codes "HISTORY") rows (string_bytes history)
@@ -91,14 +104,7 @@ IsLine v rows (Verify history evidence steps workers) =
 IsLine v rows (Run options) = (v ≡ is.Run) × AreRunOptions rows options
 IsLine v rows (Simulate schedule) =
     (v ≡ is.Simulate) × IsFile (codes "SCHEDULE") rows (string_bytes schedule)
-IsLine v rows (Split history folder shards) =
-    (v ≡ is.Split) × IsFile (codes "HISTORY") rows (string_bytes history)
-    × IsFile (codes "FOLDER") rows (string_bytes folder)
-    × IsNumber SHARDS (first_of (codes "shards") rows) shards
-IsLine v rows (Merge folder steps trust_statuses) =
-    (v ≡ is.Merge) × IsFile (codes "FOLDER") rows (string_bytes folder)
-    × IsNumber STEPS (first_of (codes "steps") rows) steps
-    × (trust_statuses ≡ is_given (first_of (codes "trust-statuses") rows))
+IsLine v rows (OnFolder line) = IsFolderLine v rows line
 
 -- the rows of what clap found
 abbrev pub rows_in : ArgMatches → List Row

@@ -4,6 +4,7 @@ ghost use Rattle.std.specs.Prelude.{◌≡◌, ◌<◌, ◌≤◌};
 ghost use Rattle.command_line.specs.declared.table.TheConstants.{CALLS, CLIENTS, OBJECTS};
 ghost use Rattle.command_line.specs.declared.asking.LineFault.TheVariants.{NoMemory};
 
+use crate::on_folder::FolderLine;
 use search::TryFirst;
 use seq_objects::Kinds;
 use std::alloc::{AllocError, AllocFailed};
@@ -65,19 +66,8 @@ pub enum Line {
     Simulate {
         schedule: String,
     },
-    /// To divide the history in a file into this number of shards, from 1 to 10,000, in a folder.
-    Split {
-        history: String,
-        folder: String,
-        shards: u32,
-    },
-    /// To verify the shards in a folder, each by its evidence, with at most this number of steps
-    /// for a search without a limit of its own; or to trust the exit status of each.
-    Merge {
-        folder: String,
-        steps: u32,
-        trust_statuses: bool,
-    },
+    /// To divide a history into shards in a folder, or to judge it by them.
+    OnFolder(FolderLine),
 }
 
 /// Why there is no command: help was asked for, the words are wrong, or an allocation failed.

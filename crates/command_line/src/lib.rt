@@ -9,12 +9,14 @@ mod asking;
 mod command;
 mod help;
 mod lines;
+mod on_folder;
 mod table;
 
 use crate::command::command;
 use crate::help::{explain, fault_of};
 use crate::lines::read_line;
 pub use asking::{Line, LineFault, RunOptions};
+pub use on_folder::{FolderLine, SplitLine};
 use std::alloc::Global;
 use std::convert::AsStr;
 

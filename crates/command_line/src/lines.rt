@@ -12,6 +12,7 @@ ghost use Rattle.search.specs.declared.trials.TryFirst.{TryFirst};
 ghost use Rattle.seq_objects.specs.declared.kinds.Kinds.{Kinds};
 
 use crate::asking::{Line, RunOptions};
+use crate::on_folder::{FolderLine, SplitLine};
 use crate::table::{
     Bounds, CALLS, CLIENTS, OBJECTS, SEED, SHARDS, STEPS, Takes, Verb, WORKERS, verb_named,
 };
@@ -215,12 +216,12 @@ fn split_of(alloc: Global, found: &ArgMatches<'_>) -> Result<Line, NoLine>
     ensures { spec.IsLineRead Verb.Split (rows_in found.now) result }
 {
     let (history, folder) = files_of(alloc, found, "FOLDER")?;
-    let shards = number_of(found, "shards", SHARDS)? as u32;
-    Ok(Line::Split {
+    let shards = number_of(found, "shards", SHARDS)? as u16;
+    Ok(Line::OnFolder(FolderLine::Split(SplitLine {
         history,
         folder,
         shards,
-    })
+    })))
 }
 
 fn merge_of(alloc: Global, found: &ArgMatches<'_>) -> Result<Line, NoLine>
@@ -229,11 +230,11 @@ fn merge_of(alloc: Global, found: &ArgMatches<'_>) -> Result<Line, NoLine>
     let folder = file_of(alloc, found, "FOLDER")?;
     let steps = number_of(found, "steps", STEPS)? as u32;
     let trust_statuses = is_given(found, "trust-statuses");
-    Ok(Line::Merge {
+    Ok(Line::OnFolder(FolderLine::Merge {
         folder,
         steps,
         trust_statuses,
-    })
+    }))
 }
 
 /// The line of this command with what is given.

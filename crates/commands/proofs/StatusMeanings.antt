@@ -5,7 +5,7 @@ use Rattle.std.proofs.Common.{◌≡◌, ◌≢◌, ◌∙◌, ℕ, true, List, 
 use Rattle.std.proofs.Common.{Bool}
 use Rattle.command_line.specs.declared.asking.Line.{Line}
 use Rattle.command_line.specs.declared.asking.Line.TheVariants.{Check, Search, Refute, Verify, Run, Simulate}
-use Rattle.command_line.specs.declared.asking.Line.TheVariants.{Split, Merge}
+use Rattle.command_line.specs.declared.asking.Line.TheVariants.{OnFolder}
 use Rattle.judging.specs.Checks.{IsLinearizableRead, IsNotLinearizableRead}
 use Rattle.history_commands.specs.Outputs.{status_number}
 use Rattle.history_commands.specs.declared.status.Status.{Status}

@@ -4,7 +4,7 @@ use Rattle.edn.specs.Given.{WasRead}
 use Rattle.judging.specs.Reads.{read_limit, WasRefused}
 use Rattle.command_line.specs.declared.asking.Line.{Line}
 use Rattle.command_line.specs.declared.asking.Line.TheVariants.{Check, Search, Refute, Verify}
-use Rattle.command_line.specs.declared.asking.Line.TheVariants.{Run, Simulate, Split, Merge}
+use Rattle.command_line.specs.declared.asking.Line.TheVariants.{Run, Simulate, OnFolder}
 use Rattle.history_commands.specs.Checked.{IsCheck}
 use Rattle.history_commands.specs.Outputs.{IsExactly, IsOutOfMemory}
 use Rattle.history_commands.specs.Refuted.{IsRefute}
@@ -39,9 +39,7 @@ IsPerformed (Run options) first second status out =
     IsRunResult options status out ⊎ IsOutOfMemory status out
 IsPerformed (Simulate schedule) first second status out =
     IsSimulation first status out ⊎ IsOutOfMemory status out
-IsPerformed (Split history folder shards) first second status out = IsExactly Usage [] status out
-IsPerformed (Merge folder steps trust_statuses) first second status out =
-    IsExactly Usage [] status out
+IsPerformed (OnFolder line) first second status out = IsExactly Usage [] status out
 
 -- ---- what the exit status says of the history in the first file
 
@@ -53,8 +51,7 @@ says_yes (Refute history reasons steps) = false
 says_yes (Verify history evidence steps workers) = true
 says_yes (Run options) = false
 says_yes (Simulate schedule) = false
-says_yes (Split history folder shards) = false
-says_yes (Merge folder steps trust_statuses) = false
+says_yes (OnFolder line) = false
 
 -- whether 1 says that it is not
 abbrev pub says_no : Line → Bool
@@ -64,8 +61,7 @@ says_no (Refute history reasons steps) = true
 says_no (Verify history evidence steps workers) = true
 says_no (Run options) = false
 says_no (Simulate schedule) = false
-says_no (Split history folder shards) = false
-says_no (Merge folder steps trust_statuses) = false
+says_no (OnFolder line) = false
 
 -- ---- on files
 
@@ -77,8 +73,7 @@ has_first (Refute history reasons steps) = true
 has_first (Verify history evidence steps workers) = true
 has_first (Run options) = false
 has_first (Simulate schedule) = true
-has_first (Split history folder shards) = false
-has_first (Merge folder steps trust_statuses) = false
+has_first (OnFolder line) = false
 
 abbrev pub has_second : Line → Bool
 has_second (Check history certificates workers) = true
@@ -87,8 +82,7 @@ has_second (Refute history reasons steps) = true
 has_second (Verify history evidence steps workers) = true
 has_second (Run options) = false
 has_second (Simulate schedule) = false
-has_second (Split history folder shards) = false
-has_second (Merge folder steps trust_statuses) = false
+has_second (OnFolder line) = false
 
 -- The text of a file that the command has is what was read of its source. What the source has left
 -- is given as it was before and after. Of a file that it does not have nothing was read.

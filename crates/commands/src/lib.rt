@@ -12,7 +12,7 @@ mod trusting;
 mod verification;
 mod write_output;
 
-pub use command_line::{Line, LineFault, RunOptions, line};
+pub use command_line::{FolderLine, Line, LineFault, RunOptions, SplitLine, line};
 pub use folders::{
     ShardFault, ShardFile, ShardFileTexts, ShardFiles, SplitFailure, UnreadShard, merge_shards,
     split_history,

@@ -65,8 +65,7 @@ pub fn perform<R: Threads + Wait + Sync, S: Sink>(
         Line::Run(options) => write_output(run(rt, alloc, *options), sink),
         Line::Simulate { .. } => write_output(play(alloc, first), sink),
         // `split_history`, `merge_shards` and `merge_statuses` do these, on a folder.
-        Line::Split { .. } => write_output(Ok(no_output(alloc)), sink),
-        Line::Merge { .. } => write_output(Ok(no_output(alloc)), sink),
+        Line::OnFolder(_) => write_output(Ok(no_output(alloc)), sink),
     }
 }
 

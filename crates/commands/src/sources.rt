@@ -25,7 +25,7 @@ pub enum Unread {
 pub(crate) fn has_first(line: &Line) -> bool
     ensures { result ≡ spec.has_first line.now }
 {
-    !matches!(line, Line::Run(_) | Line::Split { .. } | Line::Merge { .. })
+    !matches!(line, Line::Run(_) | Line::OnFolder(_))
 }
 
 /// Whether the command reads two files.

@@ -5,8 +5,9 @@ mod shard_folder;
 
 use crate::shard_folder::{ShardFolder, ending_of};
 use commands::{
-    In, Line, LineFault, NamedFile, ReadFault, SplitFailure, Status, Unread, UnreadShard, line,
-    merge_shards, merge_statuses, perform_over, shards_needed, split_history, status_of_fault,
+    FolderLine, In, Line, LineFault, NamedFile, ReadFault, SplitFailure, SplitLine, Status, Unread,
+    UnreadShard, line, merge_shards, merge_statuses, perform_over, shards_needed, split_history,
+    status_of_fault,
 };
 use edn::Out;
 use std::fs::File;
@@ -81,7 +82,7 @@ fn files_of(line: &Line) -> (&str, &str) {
             evidence,
             ..
         } => (history, evidence),
-        Line::Run(_) | Line::Split { .. } | Line::Merge { .. } => ("", ""),
+        Line::Run(_) | Line::OnFolder(_) => ("", ""),
         Line::Simulate { schedule } => (schedule, ""),
     }
 }
@@ -114,12 +115,9 @@ fn is_divided(status: u8) -> bool {
 
 /// Divides a history into shards in a folder that has none. If it is not divided, nothing of it is
 /// left there.
-fn split<R: Host>(rt: &R, history: &str, name: &str, shards: u32) -> io::Result<u8> {
-    let shards = match u16::try_from(shards) {
-        Ok(shards) if shards > 0 => shards,
-        // The command line lets no such number pass.
-        _ => return Ok(Status::Usage.number()),
-    };
+fn split<R: Host>(rt: &R, line: &SplitLine) -> io::Result<u8> {
+    let (history, name) = (line.history.as_str(), line.folder.as_str());
+    let shards = line.shards;
     let mut folder = ShardFolder::new(rt, rt.alloc(), name);
     if let Err(error) = folder.make(shards) {
         return report_unwritten(rt, name, error.kind() == io::ErrorKind::OutOfMemory);
@@ -172,19 +170,22 @@ fn merge<R: Host>(rt: &R, name: &str, steps: u32, trust_statuses: bool) -> io::R
     }
 }
 
-/// Does the command.
-fn do_command<R: Host>(rt: &R, line: &Line) -> io::Result<u8> {
+/// Does the command on its folder.
+fn do_on_folder<R: Host>(rt: &R, line: &FolderLine) -> io::Result<u8> {
     match line {
-        Line::Split {
-            history,
-            folder,
-            shards,
-        } => split(rt, history, folder, *shards),
-        Line::Merge {
+        FolderLine::Split(line) => split(rt, line),
+        FolderLine::Merge {
             folder,
             steps,
             trust_statuses,
         } => merge(rt, folder, *steps, *trust_statuses),
+    }
+}
+
+/// Does the command.
+fn do_command<R: Host>(rt: &R, line: &Line) -> io::Result<u8> {
+    match line {
+        Line::OnFolder(line) => do_on_folder(rt, line),
         _ => do_on_files(rt, line),
     }
 }

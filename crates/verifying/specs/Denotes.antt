@@ -1,13 +1,16 @@
 -- The claims that the forms of a text denote.
-use Rattle.std.specs.Prelude.{◌≡◌, ℕ, Bool, false, ◌&&◌, ◌||◌, not, nat_eq, nat_le, nat_lt}
-use Rattle.std.specs.Prelude.{List, map, codes}
+use Rattle.std.specs.Prelude.{◌≡◌, ◌==◌, ℕ, Bool, true, false, ◌&&◌, ◌||◌, not, nat_eq, nat_le}
+use Rattle.std.specs.Prelude.{nat_lt, List, map, codes}
 use Rattle.std.specs.Prelude.{Option, Some, None, option_map, is_some, if◌then◌else◌}
-use Rattle.std.specs.List.{list_all, starts_with}
+use Rattle.std.specs.List.{list_all, starts_with, before_first, after_first}
 use Rattle.edn_reader.specs.Datum.{Datum, atom, string, dictionary}
 use Rattle.edn_fields.specs.Fields.{value_at}
 use Rattle.certificate.specs.Denotes.{Reading, certificate_of, reading_of}
 use Rattle.refutation.specs.Denotes.{ReasonSeen, reason_in}
 use Rattle.refutation.specs.Denotes as reasons
+use Rattle.seq_objects.specs.Kinds.{kinds_named}
+use Rattle.seq_objects.specs.declared.kinds.Kinds.{Kinds}
+use Rattle.seq_objects.specs.declared.kinds.Kinds.TheVariants.{One}
 use Rattle.verifying.specs.declared.claim.Claim.{Claim}
 use Rattle.verifying.specs.declared.claim.Claim.TheVariants as claim
 
@@ -45,7 +48,8 @@ begins_like_a_verdict s =
     || starts_with nat_eq s (codes "not linearizable")
     || starts_with nat_eq s (codes "out of memory")
 
--- whether a text begins as a line of an answer does, after the mark of a comment or without one
+-- whether a text begins as a line of an answer does that is not the line of a kind, after the mark
+-- of a comment or without one
 abbrev pub begins_like_a_line : List ℕ → Bool
 begins_like_a_line s =
     begins_like_a_verdict s
@@ -55,9 +59,25 @@ begins_like_a_line s =
     || starts_with nat_eq s (codes "{")
     || starts_with nat_eq s (codes " ")
 
+-- whether these are the kinds of a name that is one of a kind, and not `mixed`
+abbrev pub is_one_kind : Option Kinds → Bool
+is_one_kind (Some (One kind)) = true
+is_one_kind other = false
+
+abbrev pub is_colon : ℕ → Bool
+is_colon byte = byte == 58
+
+-- Whether a text begins as the line of a kind does, such as queue: 1 objects, 2 operations. What is
+-- before the first colon is the name of a kind, and what is after it begins with a space.
+abbrev pub begins_like_a_kind : List ℕ → Bool
+begins_like_a_kind s =
+    is_one_kind (kinds_named (before_first is_colon s))
+    && starts_with nat_eq (after_first is_colon s) (codes " ")
+
 -- a sentence: printed characters that cannot be taken for a line that is proved
 abbrev pub is_sentence : List ℕ → Bool
-is_sentence s = list_all (λ b. is_printed b) s && not (begins_like_a_line s)
+is_sentence s =
+    list_all (λ b. is_printed b) s && not (begins_like_a_line s) && not (begins_like_a_kind s)
 
 -- any other value is no sentence
 abbrev pub note_in : Option Datum → Option (List ℕ)

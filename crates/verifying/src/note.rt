@@ -7,6 +7,7 @@ ghost use Rattle.verifying.specs.Denotes as spec;
 ghost use Rattle.verifying.specs.Denotes.{is_printed};
 
 use edn::Form;
+use seq_objects::{Kinds, kinds_named};
 use std::alloc::{AllocError, Global};
 
 /// Whether a byte is a character of ASCII, and no control character.
@@ -22,7 +23,8 @@ fn are_printed(bytes: &[u8]) -> bool
     bytes.iter().all(|byte| is_printed(*byte))
 }
 
-/// Whether a text begins as a line of an answer does, after the mark of a comment or without one.
+/// Whether a text begins as a line of an answer does that is not the line of a kind, after the mark
+/// of a comment or without one.
 fn begins_like_a_line(bytes: &[u8]) -> bool
     ensures { result ≡ spec.begins_like_a_line bytes.now }
 {
@@ -45,10 +47,24 @@ fn begins_like_a_verdict(bytes: &[u8]) -> bool
         || bytes.starts_with(b"out of memory")
 }
 
-fn is_sentence(bytes: &[u8]) -> bool
-    ensures { result ≡ spec.is_sentence bytes.now }
+/// Whether a text begins as the line of a kind does, which follows the line of a yes.
+fn begins_like_a_kind(text: &str) -> bool
+    ensures { result ≡ spec.begins_like_a_kind text.now }
 {
-    are_printed(bytes) && !begins_like_a_line(bytes)
+    match text.split_once(':') {
+        Some((name, rest)) => {
+            rest.as_bytes().starts_with(b" ")
+                && matches!(kinds_named(name.as_bytes()), Some(Kinds::One(_)))
+        }
+        None => false,
+    }
+}
+
+fn is_sentence(text: &str) -> bool
+    ensures { result ≡ spec.is_sentence text.now }
+{
+    let bytes = text.as_bytes();
+    are_printed(bytes) && !begins_like_a_line(bytes) && !begins_like_a_kind(text)
 }
 
 /// The sentence, if the value is a string of printed characters that cannot be taken for a line
@@ -58,7 +74,7 @@ pub(crate) fn note(alloc: Global, value: Option<&Form>) -> Result<Option<Vec<u8>
         ≡ spec.note_in (option_map (λ f. view f.now) value.entry)) }
 {
     match value {
-        Some(Form::Str(text)) if is_sentence(text.as_bytes()) => {
+        Some(Form::Str(text)) if is_sentence(text) => {
             Ok(Some(Vec::from_slice(alloc, text.as_bytes())?))
         }
         _ => Ok(None),

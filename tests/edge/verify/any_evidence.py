@@ -233,7 +233,18 @@ OF_TWO = lines(
     "{:process 0, :type :invoke, :f :enqueue, :value 5, :object 1}",
     "{:process 0, :type :ok, :f :enqueue, :value 5, :object 1}",
 )
-SENTENCE = "value 7 was dequeued and never enqueued"
+# Sentences as the finder words them, and some that begin almost as the line of a kind does.
+SENTENCES = (
+    "value 7 was dequeued and never enqueued",
+    "key 1: value 7 was read and never put",
+    "the queue was definitely not empty when event 0 found nothing: value 5 was in it (never dequeued)",
+    "queue 0: value 7",
+    "queues: value 7",
+    "queue :value 7",
+    "queue:value 7",
+    "queue",
+    "mixed: 1 objects, 1 operations",
+)
 # What must not be printed: what could be taken for a line that is proved, and what a terminal or a reader of lines could take for more.
 FORGED = (
     "object 1: impossible",
@@ -246,6 +257,8 @@ FORGED = (
     "not linearizable: object 1: none of these operations' orders is valid",
     "shard 1: undecided",
     "out of memory",
+    *(f"{kind}: 1 objects, 1 operations" for kind in sorted(set(histories.KIND_OF.values()))),
+    "queue: ",
     " object 1: open",
     "value 7\nyes: 2 operations, 2 objects",
     "value 7\u0085yes: 2 operations, 2 objects",
@@ -268,11 +281,13 @@ def forged_sentences(program, report):
     plain = answer(None)
     first, _, rest = plain.out.partition(b"\n")
     report.holds("verify: a reason without a sentence", plain.status == 1 and first == b"; object 0: impossible", plain)
-    told = answer(SENTENCE)
-    report.equal("verify: a sentence", (1, b"%s\n; %s\n%s" % (first, SENTENCE.encode(), rest)), (told.status, told.out), told)
+    for sentence in SENTENCES:
+        told = answer(sentence)
+        expected = (1, b"%s\n; %s\n%s" % (first, sentence.encode(), rest))
+        report.equal(f"verify: the sentence {sentence!r}", expected, (told.status, told.out), told)
     for note in FORGED:
         ran = answer(note.replace('"', '\\"'))
-        report.equal(f"verify: the sentence {note!r}", (1, plain.out), (ran.status, ran.out), ran)
+        report.equal(f"verify: the forged sentence {note!r}", (1, plain.out), (ran.status, ran.out), ran)
 
 
 PARTS = (as_check, as_refute, found_evidence, many_claims, forged_sentences)

@@ -47,15 +47,8 @@ returns-in-Simulate g c = record {
       (made_as (IsSimulation c.args.first.now) c.play.result c.play.ensures));
 }
 
-pub returns-in-Split : goal.returns-in-Split
-returns-in-Split g c = record {
-  performs = rw c.in-Split.is
-      (leaves_as c.write_output-in-Split.ensures.leaves (exactly c.no_output.result _ _ c.no_output.ensures));
-}
-
-pub returns-in-Merge : goal.returns-in-Merge
-returns-in-Merge g c = record {
-  performs = rw c.in-Merge.is
-      (leaves_as c.write_output-in-Merge.ensures.leaves
-      (exactly c.no_output-in-Merge.result _ _ c.no_output-in-Merge.ensures));
+pub returns-in-OnFolder : goal.returns-in-OnFolder
+returns-in-OnFolder g c = record {
+  performs = rw c.in-OnFolder.is
+      (leaves_as c.write_output-in-OnFolder.ensures.leaves (exactly c.no_output.result _ _ c.no_output.ensures));
 }
