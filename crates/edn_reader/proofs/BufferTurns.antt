@@ -1,22 +1,22 @@
 -- One turn of `TokenBuffer`: what holds of it after each token. A token is one step of the reader, and where no frame
 -- is open the element is whole.
 use Rattle.std.proofs.Common.{◌≡◌, ◌⊎◌, ℕ, true, false, Option, Some, None, ◌<◌, List, [], ◌∷◌, ◌++◌, length, get_or}
-use Rattle.std.proofs.Common.{refl, sym, ap, subst, ◌∙◌, append_assoc, arith, inl, inr}
-use Rattle.std.specs.Prelude.{◌≤◌, option_map, option_and_then, IsSome, ◌==◌, nat_lt}
+use Rattle.std.proofs.Common.{refl, sym, ap, ◌∙◌, append_assoc, arith, inl, inr}
+use Rattle.std.specs.Prelude.{option_map, option_and_then, IsSome, ◌==◌}
 use Rattle.std.proofs.lemmas.Bool.Decides.{nat_tests}
 use Rattle.std.proofs.lemmas.List.{append-nil}
 use Rattle.std.specs.Str.{IsUtf8}
-use Rattle.edn_reader.specs.Datum.{Datum, ItemsFit, vector, dictionary, items_of, entries_of, max_open}
+use Rattle.edn_reader.specs.Datum.{Datum, vector, dictionary, items_of, entries_of}
 use Rattle.edn_reader.specs.Token.{Token, open_vector, close_vector, open_map, close_map, leaf, tokens_of}
 use Rattle.edn_reader.specs.Spells.{Lexes, Spells}
-use Rattle.edn_reader.specs.Reading.{Next, after_token, end, bad, got, got_string, string_at, skip, first, next, Frame}
-use Rattle.edn_reader.specs.Reading.{in_text, in_vector, in_map, put, takes_key, close_as, close_vector_at}
+use Rattle.edn_reader.specs.Reading.{Next, after_token, got, got_string, string_at, skip, first, next, Frame}
+use Rattle.edn_reader.specs.Reading.{in_text, in_vector, in_map, put, close_as, close_vector_at}
 use Rattle.edn_reader.specs.Reading.{close_map_at, open_at, State, step, steps, opening, closed}
 use Rattle.edn_reader.specs.Shapes.{Shape, Shapes, shape_list, shapes_of, shape_step, after_piece, nothing_open}
 use Rattle.edn_reader.specs.Shapes.{waits_for_key, put_in}
 use Rattle.edn_reader.specs.Elements.{SpellsFront, SpellsNothing, ReadsElement, HoldsToken}
-use Rattle.edn_reader.specs.Truncation.{Keeping, Keep}
-use Rattle.edn_reader.specs.IntegerVectors.{Held, nothing_held, hold, hold_all, noted}
+use Rattle.edn_reader.specs.Truncation.{Keeping}
+use Rattle.edn_reader.specs.IntegerVectors.{Held, nothing_held, hold_all, noted}
 use Rattle.edn_reader.proofs.Cutting.{kept_tokens}
 use Rattle.edn_reader.proofs.Noting.{hold_append, held_kept, integer_vector_held}
 use Rattle.edn_reader.proofs.Strings.{some_is}

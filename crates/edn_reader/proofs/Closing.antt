@@ -1,12 +1,11 @@
 -- Whatever is open can be closed: what was read are the first tokens of some forms.
 use Rattle.std.proofs.Common.{◌≡◌, ℕ, ◌-◌, ◌≤◌, false, Some, List, [], ◌∷◌, ◌++◌, length, refl, sym, ap, subst, ◌∙◌}
 use Rattle.std.proofs.Common.{append_assoc, arith}
-use Rattle.std.specs.Prelude.{nat_lt}
 use Rattle.std.proofs.lemmas.List.{append-nil}
-use Rattle.edn_reader.specs.Datum.{Atom, nil, boolean, integer, string, keyword, Datum, atom, vector, dictionary}
-use Rattle.edn_reader.specs.Datum.{items_of, entries_of, max_open, DatumFits, ItemsFit, EntriesFit}
+use Rattle.edn_reader.specs.Datum.{nil, keyword, Datum, atom, vector, dictionary}
+use Rattle.edn_reader.specs.Datum.{items_of, entries_of, DatumFits, ItemsFit, EntriesFit}
 use Rattle.edn_reader.specs.Token.{Token, open_vector, close_vector, open_map, close_map, leaf, tokens_of}
-use Rattle.edn_reader.specs.Reading.{Frame, in_text, in_vector, in_map, in_pair, State, has_key, put_key, put, close_as}
+use Rattle.edn_reader.specs.Reading.{Frame, in_text, in_vector, in_map, in_pair, State, has_key, put, close_as}
 use Rattle.edn_reader.specs.Reading.{close_vector_at, close_map_at, takes_key, open_at, step}
 use Rattle.edn_reader.proofs.Consumed.{kept_if_not, mapped, opened_at, list_tokens, pairs_tokens-append}
 use Rattle.edn_reader.proofs.Consumed.{frame_tokens, stack_tokens, put_tokens}

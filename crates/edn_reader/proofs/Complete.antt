@@ -1,16 +1,16 @@
 -- The tokens of forms lead to those forms, by induction on the form, from any state that takes one form more.
 use Rattle.std.proofs.Common.{◌≡◌, ℕ, ◌+◌, ◌-◌, ◌<◌, true, false, Option, Some, None, List, [], ◌∷◌, ◌++◌, length, refl}
-use Rattle.std.proofs.Common.{sym, ap, ◌∙◌, append_assoc, arith}
+use Rattle.std.proofs.Common.{sym, ap, append_assoc, arith}
 use Rattle.std.specs.Prelude.{option_and_then, nat_lt}
 use Rattle.std.proofs.lemmas.List.{append-nil}
 use Rattle.std.proofs.lemmas.Bool.{lt-ltb, or_from}
 use Rattle.std.specs.Str.{bytes_eq}
 use Rattle.edn_reader.proofs.Strings.{some_is}
 use Rattle.edn_reader.proofs.Keys.{same_not}
-use Rattle.edn_reader.specs.Datum.{keyword, Datum, atom, vector, dictionary, Items, no_items, item, Entries, no_entries}
+use Rattle.edn_reader.specs.Datum.{Datum, atom, vector, dictionary, Items, no_items, item, Entries, no_entries}
 use Rattle.edn_reader.specs.Datum.{entry, items_of, entries_of, Lacks, DatumFits, ItemsFit, EntriesFit}
-use Rattle.edn_reader.specs.Token.{Token, close_vector, close_map, leaf, tokens_of, items_tokens, entries_tokens}
-use Rattle.edn_reader.specs.Reading.{Frame, in_vector, in_map, in_pair, State, has_key, put, close_as, takes_key}
+use Rattle.edn_reader.specs.Token.{Token, close_vector, close_map, tokens_of, items_tokens, entries_tokens}
+use Rattle.edn_reader.specs.Reading.{Frame, in_vector, in_map, in_pair, State, has_key, put, takes_key}
 use Rattle.edn_reader.specs.Reading.{open_at, step, steps}
 
 -- a state, written out

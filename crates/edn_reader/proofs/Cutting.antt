@@ -2,7 +2,7 @@
 -- on the element: a nested value is passed over, an item is kept while there is room, and then the rest is dropped.
 use Rattle.std.proofs.Common.{◌≡◌, ℕ, zero, suc, ◌+◌, ◌-◌, Bool, true, false, List, [], ◌∷◌, ◌++◌, refl, sym, ap}
 use Rattle.std.proofs.Common.{◌∙◌, append_assoc, add-one, arith}
-use Rattle.std.specs.Prelude.{◌==◌, if◌then◌else◌}
+use Rattle.std.specs.Prelude.{◌==◌}
 use Rattle.std.proofs.lemmas.Bool.{ne_eqb}
 use Rattle.std.proofs.lemmas.List.{append-nil}
 use Rattle.edn_reader.specs.Datum.{nil, keyword, Datum, atom, vector, dictionary, Items, no_items, item, Entries}
@@ -11,7 +11,7 @@ use Rattle.edn_reader.specs.Token.{Token, open_vector, close_vector, open_map, c
 use Rattle.edn_reader.specs.Token.{items_tokens, entries_tokens}
 use Rattle.edn_reader.specs.Truncation.{most_items, truncated_item, truncated_items, truncated_value}
 use Rattle.edn_reader.specs.Truncation.{truncated_entries, truncated, kept_of, Keep}
-use Rattle.edn_reader.specs.Truncation.{nothing_kept, keep_outside, keep_item, keep_inside, pass_over, keep, keep_all}
+use Rattle.edn_reader.specs.Truncation.{nothing_kept, keep_item, pass_over, keep, keep_all}
 
 abbrev at : List Token → Bool → ℕ → ℕ → Keep
 at ts m b r = record { tokens = ts; cuts = true; in_map = m; below = b; room = r }
@@ -141,10 +141,8 @@ entries_kept (entry k d es) us ts =
     rw (
       append_assoc,
       value_kept d (entries_tokens es ++ us) own,
-      entries_kept es us
-          (own ++ tokens_of (truncated_value d)),
-    )
-    (simp append_assoc)
+      entries_kept es us (own ++ tokens_of (truncated_value d)),
+    ) (simp append_assoc)
 
 -- ---- an element
 

@@ -2,8 +2,6 @@
 -- left to write (`escaped_plain`). By induction along the bytes.
 use Rattle.std.proofs.Common.{◌≡◌, ℕ, ◌-◌, ◌<◌, ◌≤◌, Bool, true, false, cond, List, [], ◌∷◌, ◌++◌, length, take, get_or}
 use Rattle.std.proofs.Common.{refl, ap, arith}
-use Rattle.std.specs.Prelude.{◌==◌}
-use Rattle.std.proofs.lemmas.Bool.{not-true, or_parts}
 use Rattle.edn_reader.specs.Text.{escape_text, escaped}
 use Rattle.edn_reader.proofs.TakeAndDrop.{rest_within, front_is}
 use Rattle.edn_reader.specs.Writing.{is_plain, plain, after_plain}

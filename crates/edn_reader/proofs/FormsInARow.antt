@@ -1,11 +1,11 @@
 -- Forms at the front of a text, one more after them, and what is sound after them.
 use Rattle.std.proofs.Common.{◌≡◌, ◌≢◌, ℕ, ◌+◌, Bool, true, false, cond, Option, Some, None, List, [], ◌∷◌, ◌++◌}
-use Rattle.std.proofs.Common.{length, refl, sym, ap, subst, ◌∙◌, append_assoc, arith}
+use Rattle.std.proofs.Common.{length, sym, ap, subst, ◌∙◌, append_assoc, arith}
 use Rattle.std.specs.Prelude.{ℤ}
 use Rattle.std.specs.Str.{IsUtf8}
 use Rattle.edn_reader.specs.Datum.{Datum}
 use Rattle.edn_reader.specs.Elements.{SpellsFront, SpellsNothing, ReadsElement, ReadsNext}
-use Rattle.edn_reader.specs.Sound.{BeginWith, IsShort, IsSoundAt, IsSoundFrom, IsUnreadable}
+use Rattle.edn_reader.specs.Sound.{IsShort, IsSoundAt, IsSoundFrom, IsUnreadable}
 use Rattle.edn_reader.specs.Spells.{Spells}
 use Rattle.edn_reader.specs.Token.{Token, tokens_of}
 use Rattle.edn_reader.specs.Truncation.{Keeping, kept_of, integer_vector_kept}

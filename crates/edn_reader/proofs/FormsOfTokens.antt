@@ -1,9 +1,9 @@
 -- Forms at the front of tokens. The first token tells which form begins, since each kind of form begins with a token of
 -- its own.
-use Rattle.std.proofs.Common.{◌≡◌, ℕ, ◌<◌, true, false, List, [], ◌∷◌, ◌++◌, length, refl, sym, ap, ◌∙◌, subst}
+use Rattle.std.proofs.Common.{◌≡◌, ℕ, ◌<◌, true, List, [], ◌∷◌, ◌++◌, length, refl, sym, ap, ◌∙◌, subst}
 use Rattle.std.proofs.Common.{append_assoc, arith}
 use Rattle.edn_reader.specs.Bytes.{is_name}
-use Rattle.edn_reader.specs.Datum.{Atom, nil, boolean, integer, string, keyword, Datum, atom, vector, dictionary, Items}
+use Rattle.edn_reader.specs.Datum.{Atom, keyword, Datum, atom, vector, dictionary, Items}
 use Rattle.edn_reader.specs.Datum.{no_items, item, Entries, no_entries, entry, items_of, entries_of}
 use Rattle.edn_reader.specs.Token.{Token, open_vector, close_vector, open_map, close_map, leaf, tokens_of, items_tokens}
 use Rattle.edn_reader.specs.Token.{entries_tokens}
@@ -11,13 +11,13 @@ use Rattle.edn_reader.specs.Text.{InProfile, ItemsInProfile, EntriesInProfile, A
 use Rattle.edn_reader.specs.Forming.{BeginsForm, BeginsItems, BeginsPairs}
 use Rattle.std.specs.Borrow.{Bor}
 use Rattle.edn_reader.specs.Names.{name_bytes}
-use Rattle.edn_reader.specs.Pieces.{piece_token, token_buffer_tokens, unquoted}
+use Rattle.edn_reader.specs.Pieces.{piece_token, token_buffer_tokens}
 use Rattle.edn_reader.specs.View.{view, views, pair_views}
 use Rattle.edn_reader.specs.declared.form.Form.{Form}
 use Rattle.edn_reader.specs.declared.form.Name.{Name}
 use Rattle.edn_reader.specs.declared.piece.Piece.{Piece}
-use Rattle.edn_reader.specs.declared.piece.Piece.TheVariants.{OpenVector, CloseVector, OpenMap, CloseMap, Nil, True}
-use Rattle.edn_reader.specs.declared.piece.Piece.TheVariants.{False, Int, Str, Keyword}
+use Rattle.edn_reader.specs.declared.piece.Piece.TheVariants.{OpenVector, CloseVector, OpenMap, CloseMap}
+use Rattle.edn_reader.specs.declared.piece.Piece.TheVariants.{Keyword}
 use Rattle.edn_reader.proofs.Keys.{pair_views-append}
 use Rattle.edn_reader.proofs.Consumed.{list_tokens, pairs_tokens, list_tokens-append, pairs_tokens-append}
 use Rattle.edn_reader.proofs.Prefixes.{tails, same_datum, not_nothing, not_close_vector}
@@ -28,8 +28,8 @@ same_leaf a b ts us e = (cc, cc)
 -- ---- at the front of a form
 
 -- a single token is in the profile
-pub leaf_own : (a : Atom) (ts : List Token) → BeginsForm (leaf (atom a) ∷ ts) → AtomInProfile a
-leaf_own a ts b = by_form b.form b.own b.are
+pub leaf_own : {a : Atom} {ts : List Token} → BeginsForm (leaf (atom a) ∷ ts) → AtomInProfile a
+leaf_own {a} {ts} b = by_form b.form b.own b.are
   where
     by_form : (d : Datum) → InProfile d → leaf (atom a) ∷ ts ≡ tokens_of d ++ b.remains → AtomInProfile a
     by_form (atom x) p e = subst AtomInProfile (sym (same_leaf a x ts b.remains e).0) p
@@ -38,11 +38,11 @@ leaf_own a ts b = by_form b.form b.own b.are
 pub nothing_begins : BeginsForm [] → ⊥
 nothing_begins b = not_nothing b.form b.remains b.are
 
-pub close_vector_begins : (ts : List Token) → BeginsForm (close_vector ∷ ts) → ⊥
-close_vector_begins ts b = not_close_vector b.form ts b.remains b.are
+pub close_vector_begins : {ts : List Token} → BeginsForm (close_vector ∷ ts) → ⊥
+close_vector_begins b = not_close_vector b.form _ b.remains b.are
 
-pub close_map_begins : (ts : List Token) → BeginsForm (close_map ∷ ts) → ⊥
-close_map_begins ts b = by_form b.form b.are
+pub close_map_begins : {ts : List Token} → BeginsForm (close_map ∷ ts) → ⊥
+close_map_begins {ts} b = by_form b.form b.are
   where
     by_form : (d : Datum) → close_map ∷ ts ≡ tokens_of d ++ b.remains → ⊥
     by_form (atom x) e = cc
@@ -72,8 +72,8 @@ open_map_alone b = by_form b.form b.are
     by_form (dictionary es) e = by_pairs es (tails open_map open_map _ _ e)
     by_form d e = absurd cc
 
-pub vector_begins : (ts : List Token) → BeginsForm (open_vector ∷ ts) → BeginsItems ts
-vector_begins ts b = by_form b.form b.own b.are
+pub vector_begins : {ts : List Token} → BeginsForm (open_vector ∷ ts) → BeginsItems ts
+vector_begins {ts} b = by_form b.form b.own b.are
   where
     by_form : (d : Datum) → InProfile d → open_vector ∷ ts ≡ tokens_of d ++ b.remains → BeginsItems ts
     by_form (vector ds) p e =
@@ -85,8 +85,8 @@ vector_begins ts b = by_form b.form b.own b.are
         }
     by_form d p e = absurd cc
 
-pub map_begins : (ts : List Token) → BeginsForm (open_map ∷ ts) → BeginsPairs ts
-map_begins ts b = by_form b.form b.own b.are
+pub map_begins : {ts : List Token} → BeginsForm (open_map ∷ ts) → BeginsPairs ts
+map_begins {ts} b = by_form b.form b.own b.are
   where
     by_form : (d : Datum) → InProfile d → open_map ∷ ts ≡ tokens_of d ++ b.remains → BeginsPairs ts
     by_form (vector ds) p e = absurd cc
@@ -100,13 +100,13 @@ map_begins ts b = by_form b.form b.own b.are
     by_form d p e = absurd cc
 
 -- a leaf, without what follows it
-pub leaf_alone : (a : Atom) (ts : List Token) → BeginsForm (leaf (atom a) ∷ ts) → BeginsForm (leaf (atom a) ∷ [])
-leaf_alone a ts b = record { form = atom a; remains = []; own = leaf_own a ts b; are = refl }
+leaf_alone : {a : Atom} {ts : List Token} → BeginsForm (leaf (atom a) ∷ ts) → BeginsForm (leaf (atom a) ∷ [])
+leaf_alone {a} b = record { form = atom a; remains = []; own = leaf_own b; are = refl }
 
 -- ---- along the elements of a vector
 
-pub item_begins : (ts : List Token) → ((us : List Token) → ts ≡ close_vector ∷ us → ⊥) → BeginsItems ts → BeginsForm ts
-item_begins ts apart b = by_items b.items b.own b.are
+pub item_begins : {ts : List Token} → ((us : List Token) → ts ≡ close_vector ∷ us → ⊥) → BeginsItems ts → BeginsForm ts
+item_begins {ts} apart b = by_items b.items b.own b.are
   where
     by_items : (ds : Items) → ItemsInProfile ds → ts ≡ items_tokens ds ++ close_vector ∷ b.remains → BeginsForm ts
     by_items no_items p e = absurd (apart b.remains e)
@@ -118,22 +118,21 @@ item_begins ts apart b = by_items b.items b.own b.are
           are = e ∙ append_assoc (tokens_of d) (items_tokens ds) (close_vector ∷ b.remains);
         }
 
-pub items_after : (ts us : List Token) (d : Datum) → ((vs : List Token) → ts ≡ close_vector ∷ vs → ⊥)
+pub items_after : {ts us : List Token} (d : Datum) → ((vs : List Token) → ts ≡ close_vector ∷ vs → ⊥)
     → ts ≡ tokens_of d ++ us → BeginsItems ts → BeginsItems us
-items_after ts us d apart is b = by_items b.items b.own b.are
+items_after {ts} {us} d apart is b = by_items b.items b.own b.are
   where
     by_items : (ds : Items) → ItemsInProfile ds → ts ≡ items_tokens ds ++ close_vector ∷ b.remains → BeginsItems us
     by_items no_items p e = absurd (apart b.remains e)
     by_items (item x ds) p e =
-        let q = same_datum d x us (items_tokens ds ++ close_vector ∷ b.remains)
-        (sym is ∙ e ∙ append_assoc (tokens_of x) (items_tokens ds) (close_vector ∷ b.remains)) in
+        let q = same_datum d x us _ (sym is ∙ e ∙ append_assoc (tokens_of x) _ _) in
         record { items = ds; remains = b.remains; own = p.1; are = q.1 }
 
 -- ---- along the pairs of a map
 
 -- a key is a name, and its value comes next
-pub key_own : (ts us : List Token) (k : List ℕ) → ts ≡ leaf (atom (keyword k)) ∷ us → BeginsPairs ts → is_name k ≡ true
-key_own ts us k q b = by_pairs b.pairs b.own (sym q ∙ b.are)
+pub key_own : {ts us : List Token} {k : List ℕ} → ts ≡ leaf (atom (keyword k)) ∷ us → BeginsPairs ts → is_name k ≡ true
+key_own {us = us} {k = k} q b = by_pairs b.pairs b.own (sym q ∙ b.are)
   where
     by_pairs : (es : Entries) → EntriesInProfile es
         → leaf (atom (keyword k)) ∷ us ≡ entries_tokens es ++ close_map ∷ b.remains → is_name k ≡ true
@@ -141,9 +140,9 @@ key_own ts us k q b = by_pairs b.pairs b.own (sym q ∙ b.are)
     by_pairs (entry l d es) p e =
         let h : keyword k ≡ keyword l = (same_leaf (keyword k) (keyword l) us _ e).0 in subst AtomInProfile (sym h) p.0
 
-pub value_begins : (ts us : List Token) (k : List ℕ) → ts ≡ leaf (atom (keyword k)) ∷ us → BeginsPairs ts
+pub value_begins : {ts us : List Token} {k : List ℕ} → ts ≡ leaf (atom (keyword k)) ∷ us → BeginsPairs ts
     → BeginsForm us
-value_begins ts us k q b = by_pairs b.pairs b.own (sym q ∙ b.are)
+value_begins {us = us} {k = k} q b = by_pairs b.pairs b.own (sym q ∙ b.are)
   where
     by_pairs : (es : Entries) → EntriesInProfile es
         → leaf (atom (keyword k)) ∷ us ≡ entries_tokens es ++ close_map ∷ b.remains → BeginsForm us
@@ -157,17 +156,16 @@ value_begins ts us k q b = by_pairs b.pairs b.own (sym q ∙ b.are)
               ∙ append_assoc (tokens_of d) (entries_tokens es) (close_map ∷ b.remains);
         }
 
-pub pairs_after : (ts us vs : List Token) (k : List ℕ) (d : Datum) → ts ≡ leaf (atom (keyword k)) ∷ us
+pub pairs_after : {ts us vs : List Token} {k : List ℕ} (d : Datum) → ts ≡ leaf (atom (keyword k)) ∷ us
     → us ≡ tokens_of d ++ vs → BeginsPairs ts → BeginsPairs vs
-pairs_after ts us vs k d q is b = by_pairs b.pairs b.own (sym q ∙ b.are)
+pairs_after {us = us} {vs = vs} {k = k} d q is b = by_pairs b.pairs b.own (sym q ∙ b.are)
   where
     by_pairs : (es : Entries) → EntriesInProfile es
         → leaf (atom (keyword k)) ∷ us ≡ entries_tokens es ++ close_map ∷ b.remains → BeginsPairs vs
     by_pairs no_entries p e = absurd cc
     by_pairs (entry l x es) p e =
         let t = (same_leaf (keyword k) (keyword l) us _ e).1 in
-        let r = same_datum d x vs (entries_tokens es ++ close_map ∷ b.remains)
-        (sym is ∙ t ∙ append_assoc (tokens_of x) (entries_tokens es) (close_map ∷ b.remains)) in
+        let r = same_datum d x vs _ (sym is ∙ t ∙ append_assoc (tokens_of x) _ _) in
         record { pairs = es; remains = b.remains; own = p.2; are = r.1 }
 
 pub no_pairs : BeginsPairs [] → ⊥
@@ -238,15 +236,10 @@ alone p ts us h k e b = by_token p (subst BeginsForm e b) h k
     by_token : (p : Piece) → BeginsForm (piece_token p ∷ us) → (p ≡ OpenVector → ⊥) → (p ≡ OpenMap → ⊥)
         → BeginsForm (piece_token p ∷ [])
     by_token OpenVector b h k = absurd (h refl)
-    by_token CloseVector b h k = absurd (close_vector_begins us b)
+    by_token CloseVector b h k = absurd (close_vector_begins b)
     by_token OpenMap b h k = absurd (k refl)
-    by_token CloseMap b h k = absurd (close_map_begins us b)
-    by_token Nil b h k = leaf_alone nil us b
-    by_token True b h k = leaf_alone (boolean true) us b
-    by_token False b h k = leaf_alone (boolean false) us b
-    by_token (Int z) b h k = leaf_alone (integer z) us b
-    by_token (Str raw) b h k = leaf_alone (string (unquoted raw.now)) us b
-    by_token (Keyword name) b h k = leaf_alone (keyword name.now) us b
+    by_token CloseMap b h k = absurd (close_map_begins b)
+    by_token p b h k = leaf_alone b
 
 -- ---- one form more in a vector
 

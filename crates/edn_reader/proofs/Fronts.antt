@@ -1,17 +1,15 @@
 -- Elements at the front of a text, from the tokens that it begins with.
-use Rattle.std.proofs.Common.{◌≡◌, ℕ, ◌<◌, ◌≤◌, Option, Some, None, List, [], ◌∷◌, ◌++◌, length, refl, sym, ap}
-use Rattle.std.proofs.Common.{subst, arith}
+use Rattle.std.proofs.Common.{◌≡◌, ℕ, ◌<◌, ◌≤◌, Option, Some, None, List, [], ◌∷◌, ◌++◌, length, refl, ap}
+use Rattle.std.proofs.Common.{arith}
 use Rattle.std.specs.Prelude.{option_and_then}
 use Rattle.std.specs.Str.{IsUtf8}
 use Rattle.std.proofs.lemmas.List.{append-nil}
 use Rattle.edn_reader.specs.Datum.{Datum, DatumFits, items_of, max_open}
 use Rattle.edn_reader.specs.Elements.{SpellsFront, PassesElement}
-use Rattle.edn_reader.specs.Reading.{next, skip, in_text, State, step, steps, opening, closed}
+use Rattle.edn_reader.specs.Reading.{in_text, State, step, steps, opening, closed}
 use Rattle.edn_reader.specs.Sound.{BeginWith}
-use Rattle.edn_reader.specs.Spells.{IsNext}
 use Rattle.edn_reader.specs.Token.{Token, tokens_of}
 use Rattle.edn_reader.proofs.Complete.{steps_items}
-use Rattle.edn_reader.proofs.Lexical.{first_shorter, skip_within}
 use Rattle.edn_reader.proofs.Next.{next_from}
 use Rattle.edn_reader.proofs.Prefixes.{not_nothing}
 use Rattle.edn_reader.proofs.Progress.{Progress, goes_on, next_shorter}
@@ -22,20 +20,14 @@ use Rattle.edn_reader.proofs.Strings.{some_is}
 
 pub begin_within : (ts : List Token) (text rest : List ℕ) → BeginWith ts text rest → length rest ≤ length text
 begin_within [] text rest b = omega (arith, ap length b)
-begin_within (t ∷ ts) text rest (mid, n, b) = omega (
-  arith,
-  next_shorter text t mid (next_from text t mid n),
-  begin_within ts mid rest b,
-)
+begin_within (t ∷ ts) text rest (mid, n, b) =
+    omega (arith, next_shorter text t mid (next_from text t mid n), begin_within ts mid rest b)
 
 pub begin_shorter : (ts : List Token) (text rest : List ℕ) → ([] ≡ ts → ⊥) → BeginWith ts text rest
     → length rest < length text
 begin_shorter [] text rest h b = absurd (h refl)
-begin_shorter (t ∷ ts) text rest h (mid, n, b) = omega (
-  arith,
-  next_shorter text t mid (next_from text t mid n),
-  begin_within ts mid rest b,
-)
+begin_shorter (t ∷ ts) text rest h (mid, n, b) =
+    omega (arith, next_shorter text t mid (next_from text t mid n), begin_within ts mid rest b)
 
 pub rest_shorter : (text rest : List ℕ) → PassesElement text rest → length rest < length text
 rest_shorter text rest p = begin_shorter (tokens_of p.element ++ []) text rest (not_nothing p.element []) p.front.begins

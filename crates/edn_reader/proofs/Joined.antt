@@ -1,11 +1,10 @@
 -- The laws of reading and writing: what is written for a form spells it (`text_spells_it`), and texts of forms joined
 -- by a line feed spell all their forms (`joined_spell`), since a line feed ends a token and a comment.
-use Rattle.std.proofs.Common.{◌≡◌, ℕ, false, ◌++◌, List, [], ◌∷◌, refl, sym, ap, ◌∙◌, subst, append_assoc, inl, inr}
+use Rattle.std.proofs.Common.{◌≡◌, ℕ, ◌++◌, List, [], ◌∷◌, refl, sym, ap, ◌∙◌, subst, append_assoc, inl, inr}
 use Rattle.std.proofs.lemmas.List.{append-nil}
 use Rattle.std.proofs.lemmas.Str.{IsUtf8-append, IsUtf8-nil}
-use Rattle.edn_reader.specs.Bytes.{is_token_byte}
 use Rattle.edn_reader.specs.Datum.{Datum, DatumFits, ItemsFit, items_of, max_open}
-use Rattle.edn_reader.specs.Token.{Token, open_vector, close_vector, open_map, close_map, leaf, tokens_of, items_tokens}
+use Rattle.edn_reader.specs.Token.{Token, leaf, tokens_of, items_tokens}
 use Rattle.edn_reader.specs.Spells.{IsGap, EndsComment, IsEnding, EndsText, EndsToken, Begins, Lexes, Spells}
 use Rattle.edn_reader.specs.Text.{InProfile, text_of, form_lines}
 use Rattle.edn_reader.specs.Laws.{EachSpelled}

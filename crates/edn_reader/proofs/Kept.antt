@@ -2,13 +2,12 @@
 -- By cases on the token and on the innermost form that is open.
 use Rattle.std.proofs.Common.{◌≡◌, ℕ, suc, ◌-◌, ◌<◌, ◌≤◌, true, false, Some, List, [], ◌∷◌, ◌++◌, length, sym, subst}
 use Rattle.std.proofs.Common.{arith}
-use Rattle.std.specs.Prelude.{nat_lt}
-use Rattle.std.proofs.lemmas.Bool.{ltb-true, both_ways, or_parts}
-use Rattle.edn_reader.specs.Datum.{Atom, keyword, Datum, atom, vector, dictionary, items_of, entries_of, max_open}
+use Rattle.std.proofs.lemmas.Bool.{both_ways, or_parts}
+use Rattle.edn_reader.specs.Datum.{Atom, keyword, Datum, atom, vector, dictionary, items_of, entries_of}
 use Rattle.edn_reader.specs.Datum.{Lacks, DatumFits, ItemsFit, EntriesFit}
 use Rattle.edn_reader.specs.Token.{Token, open_vector, close_vector, open_map, close_map, leaf}
 use Rattle.edn_reader.specs.Reading.{Frame, in_text, in_vector, in_map, in_pair, State, has_key, put_key, put, close_as}
-use Rattle.edn_reader.specs.Reading.{close_vector_at, close_map_at, takes_key, open_at, step}
+use Rattle.edn_reader.specs.Reading.{close_vector_at, close_map_at, open_at, step}
 use Rattle.std.specs.Str.{bytes_eq}
 use Rattle.edn_reader.proofs.Keys.{same_self}
 use Rattle.edn_reader.proofs.Consumed.{kept_if_not, mapped, IsPlain, opened_at}

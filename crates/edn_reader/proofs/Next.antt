@@ -9,7 +9,7 @@ use Rattle.std.specs.List.{list_all}
 use Rattle.edn_reader.specs.Bytes.{is_separator, is_mark, is_token_byte}
 use Rattle.edn_reader.specs.Datum.{Atom, atom}
 use Rattle.edn_reader.proofs.Strings.{string_from, string_is}
-use Rattle.edn_reader.specs.Token.{Token, open_vector, close_vector, open_map, close_map, leaf}
+use Rattle.edn_reader.specs.Token.{Token, leaf}
 use Rattle.edn_reader.specs.Spells.{IsGap, EndsComment, IsEnding, EndsText, IsWord, EndsToken, Begins, IsNext}
 use Rattle.edn_reader.specs.Reading.{skip, skip_comment, word, after_word, atom_of, Next, end, bad, got, got_word}
 use Rattle.edn_reader.specs.Reading.{got_string, string_at, first, next}

@@ -6,7 +6,7 @@ use Rattle.std.specs.Prelude.{ℤ, ◌==◌, nat_le, if◌then◌else◌, option
 use Rattle.std.specs.Str.{bytes_eq}
 use Rattle.std.proofs.lemmas.Bool.{ne_eqb}
 use Rattle.std.proofs.lemmas.List.{append-nil}
-use Rattle.edn_reader.specs.Datum.{nil, boolean, integer, string, keyword, Datum, atom, vector, dictionary, Items}
+use Rattle.edn_reader.specs.Datum.{integer, Datum, atom, vector, dictionary, Items}
 use Rattle.edn_reader.specs.Datum.{no_items, item, Entries, no_entries, entry}
 use Rattle.edn_reader.specs.Token.{Token, open_vector, close_vector, open_map, close_map, tokens_of, items_tokens}
 use Rattle.edn_reader.specs.Token.{entries_tokens}

@@ -2,10 +2,10 @@
 -- (`string_at_utf8`). By induction along gaps, and along the characters of a string.
 use Rattle.std.proofs.Common.{◌≡◌, ℕ, ◌-◌, ◌<◌, ◌≤◌, suc, Bool, true, false, cond, Some, None, List, [], ◌∷◌, ◌++◌}
 use Rattle.std.proofs.Common.{length, get_or, refl, sym, ap, ◌∙◌, subst, append_assoc, arith, lit<, inl, inr}
-use Rattle.std.specs.Prelude.{◌==◌, ◌⊎◌, nat_lt}
+use Rattle.std.specs.Prelude.{◌==◌, ◌⊎◌}
 use Rattle.std.specs.Str.{IsUtf8, IsCharBoundary}
 use lib.Utf8.{scalars, scalar, encodes, encode}
-use Rattle.std.proofs.lemmas.Bool.{and_parts, ltb-true, cases_lt}
+use Rattle.std.proofs.lemmas.Bool.{and_parts, cases_lt}
 use Rattle.std.proofs.lemmas.Bool.Decides.{nat_tests}
 use Rattle.std.proofs.lemmas.List.{length-append, take_at, drop_at, get_or-append_right}
 use Rattle.std.proofs.lemmas.Str.{IsUtf8-append, IsUtf8-nil, IsUtf8-encode, IsUtf8-take, IsUtf8-drop}
@@ -13,7 +13,7 @@ use Rattle.std.proofs.lemmas.Str.{IsUtf8-past_char, IsUtf8-from_ascii, encode_as
 use Rattle.std.proofs.lemmas.Str.Ascii.{IsAscii-nil, IsAscii-cons}
 use Rattle.edn_reader.specs.Bytes.{is_separator, is_token_byte}
 use Rattle.edn_reader.specs.Spells.{IsGap, EndsComment, escape_of, IsQuoted, IsEscaped, EndsToken, Begins}
-use Rattle.edn_reader.specs.Token.{Token, open_vector, close_vector, open_map, close_map, leaf}
+use Rattle.edn_reader.specs.Token.{Token, leaf}
 use Rattle.edn_reader.specs.Reading.{string_at}
 use Rattle.edn_reader.proofs.Strings.{string_is}
 use Rattle.edn_reader.proofs.Utf8.{bytes_above}

@@ -6,7 +6,7 @@ use Rattle.std.specs.Prelude.{option_map, nat_lt, ◌||◌}
 use Rattle.std.specs.Str.{bytes_eq}
 use Rattle.edn_reader.specs.Datum.{keyword, Datum, atom, vector, dictionary, max_open, items_of, entries_of}
 use Rattle.edn_reader.specs.Token.{Token, open_vector, close_vector, open_map, close_map, leaf}
-use Rattle.edn_reader.specs.Reading.{Frame, in_text, in_vector, in_map, in_pair, State, has_key, put, close_as}
+use Rattle.edn_reader.specs.Reading.{Frame, in_vector, in_map, in_pair, State, has_key, put, close_as}
 use Rattle.edn_reader.specs.Reading.{close_vector_at, close_map_at, takes_key, open_at, step}
 use Rattle.edn_reader.specs.Shapes.{Shape, a_map, Shapes, has_name, keys_of, shape_of, shape_list, shapes_of, key_in}
 use Rattle.edn_reader.specs.Shapes.{put_in, closed_in, vector_closed, map_closed, waits_for_key, opened, shape_step}

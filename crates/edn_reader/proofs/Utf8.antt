@@ -1,7 +1,7 @@
 -- The text that is written for a form is UTF-8: by induction on the form. An escape is ASCII, and the bytes of any
 -- other character stay as they are.
 use Rattle.std.proofs.Common.{◌≡◌, ℕ, suc, ◌<◌, ◌≤◌, Bool, true, false, cond, List, [], ◌∷◌, ◌++◌, length, get_or, refl}
-use Rattle.std.proofs.Common.{sym, ap, ◌∙◌, subst, append_assoc, arith, inl, inr}
+use Rattle.std.proofs.Common.{sym, ap, subst, append_assoc, arith, inl, inr}
 use Rattle.std.specs.Prelude.{◌==◌, nat_lt, codes, ℤ, pos, negsuc}
 use Rattle.std.specs.Fmt.{decimal, signed_decimal}
 use Rattle.std.specs.List.{list_all}
@@ -91,8 +91,8 @@ characters_utf8 : (cs : List ℕ) → scalars cs ≡ true → IsUtf8 (escaped (e
 characters_utf8 [] h = IsUtf8-nil
 characters_utf8 (c ∷ cs) h =
     let p = and_parts (scalar c) (scalars cs) h in
-    rw (escaped-append (encode c) (encodes cs)) (IsUtf8-append (escaped (encode c)) (escaped (encodes cs))
-    (character_utf8 c p.0) (characters_utf8 cs p.1))
+    rw (escaped-append (encode c) (encodes cs))
+    (IsUtf8-append (escaped (encode c)) (escaped (encodes cs)) (character_utf8 c p.0) (characters_utf8 cs p.1))
 
 escaped_utf8 : (s : List ℕ) → IsUtf8 s → IsUtf8 (escaped s)
 escaped_utf8 s u = subst (λ (x : List ℕ). IsUtf8 (escaped x)) u.1.1 (characters_utf8 u.0 u.1.0)

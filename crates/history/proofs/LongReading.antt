@@ -1,6 +1,6 @@
 -- One map more of a history of any length: its events, and its fault. That is the first fault, since the maps before it
 -- have none, and one of the map itself is none of its place.
-use Rattle.std.proofs.Common.{◌≡◌, ℕ, ◌+◌, inl, inr, List, [], ◌∷◌, ◌++◌, length, refl, ap, sym, ◌∙◌, subst}
+use Rattle.std.proofs.Common.{◌≡◌, ◌+◌, inl, inr, List, [], ◌∷◌, ◌++◌, length, refl, subst}
 use Rattle.std.proofs.Common.{zero-add, arith}
 use Rattle.std.proofs.lemmas.List.{length-append}
 use Rattle.edn_reader.specs.Datum.{Datum}
@@ -30,8 +30,7 @@ read_more old new ds d es h r q =
 pub events_more : (ds : List Datum) (d : Datum) (es : List Event) → es ≡ event_of (length ds) (client_of d)
     → events_of_forms 0 (ds ++ d ∷ []) ≡ events_of_forms 0 ds ++ es
 events_more ds d es is =
-    events_push 0 ds d ∙ ap (λ (x : List Event). events_of_forms 0 ds ++ x)
-    (ap (λ (k : ℕ). event_of k (client_of d)) (zero-add (length ds)) ∙ sym is)
+    rw (events_push 0 ds d, zero-add (length ds), is) refl
 
 -- a fault of the map is none of its place
 pub of_the_map : (ds : List Datum) (d : Datum) (k : HistoryFaultKind) → IsMapFault ds d k → IsOfPlace k → ⊥

@@ -12,15 +12,12 @@ use Rattle.history.specs.Noting.{shift_event}
 
 -- ---- joined forms
 
-events_join : (n : ℕ) (ds es : List Datum) → events_of_forms n (ds ++ es)
+pub events_join : (n : ℕ) (ds es : List Datum) → events_of_forms n (ds ++ es)
     ≡ events_of_forms n ds ++ events_of_forms (n + length ds) es
 events_join n [] es = ap (λ k. events_of_forms k es) (let e : n ≡ n + 0 = omega arith in e)
 events_join n (d ∷ ds) es =
-    ap (λ t. event_of n (client_of d) ++ t) (events_join (n + 1) ds es)
-    ∙ (sym (append_assoc (event_of n (client_of d)) (events_of_forms (n + 1) ds)
-    (events_of_forms (n + 1 + length ds) es))
-    ∙ ap (λ k. (event_of n (client_of d) ++ events_of_forms (n + 1) ds) ++ events_of_forms k es)
-    (let e : n + 1 + length ds ≡ n + length (d ∷ ds) = omega arith in e))
+    let e : n + length (d ∷ ds) ≡ n + 1 + length ds = omega arith in
+    rw (e, events_join (n + 1) ds es) (simp append_assoc)
 
 shift_one : (n k : ℕ) (c : Option ClientMap) → event_of (n + k) c ≡ map (shift_event n) (event_of k c)
 shift_one n k None = refl
@@ -33,11 +30,9 @@ shift_one n k (Some m) = go (action_of m.type m)
 events_moved : (n k : ℕ) (ds : List Datum) → events_of_forms (n + k) ds ≡ map (shift_event n) (events_of_forms k ds)
 events_moved n k [] = refl
 events_moved n k (d ∷ ds) =
-    ap (λ t. t ++ events_of_forms (n + k + 1) ds) (shift_one n k (client_of d))
-    ∙ (ap (λ i. map (shift_event n) (event_of k (client_of d)) ++ events_of_forms i ds)
-    (let e : n + k + 1 ≡ n + (k + 1) = omega arith in e)
-    ∙ (ap (λ t. map (shift_event n) (event_of k (client_of d)) ++ t) (events_moved n (k + 1) ds)
-    ∙ sym (map-append (shift_event n) (event_of k (client_of d)) (events_of_forms (k + 1) ds))))
+    let e : n + k + 1 ≡ n + (k + 1) = omega arith in
+    rw (shift_one n k (client_of d), e, events_moved n (k + 1) ds)
+    (sym (map-append (shift_event n) (event_of k (client_of d)) (events_of_forms (k + 1) ds)))
 
 -- the same forms after n others
 events_shift : (n : ℕ) (ds : List Datum) → events_of_forms n ds ≡ map (shift_event n) (events_of_forms 0 ds)
@@ -47,17 +42,13 @@ events_shift n ds = ap (λ k. events_of_forms k ds) (let e : n ≡ n + 0 = omega
 pub events_after : (ds es : List Datum) → events_of_forms 0 (ds ++ es)
     ≡ events_of_forms 0 ds ++ map (shift_event (length ds)) (events_of_forms 0 es)
 events_after ds es =
-    events_join 0 ds es
-    ∙ ap (λ xs. events_of_forms 0 ds ++ xs) (ap (λ n. events_of_forms n es) (zero-add (length ds))
-    ∙ events_shift (length ds) es)
+    rw (events_join 0 ds es, zero-add (length ds), events_shift (length ds) es) refl
 
 -- events that are counted from where they are
 pub shifted_by_none : (es : List Event) → map (shift_event 0) es ≡ es
 shifted_by_none [] = refl
 shifted_by_none (e ∷ es) =
-    ap (λ n. record { number = n; process = e.process; object = e.object; action = e.action } ∷ map
-    (shift_event 0) es) (zero-add e.number)
-    ∙ ap (λ t. e ∷ t) (shifted_by_none es)
+    rw (zero-add e.number, shifted_by_none es) refl
 
 -- with nothing before them they are all
 pub nothing_before : (n : ℕ) (es more : List Event) → n ≡ 0 → length es ≡ 0 → more ≡ es ++ map (shift_event n) more

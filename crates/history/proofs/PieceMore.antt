@@ -1,7 +1,7 @@
 -- If a piece of a text continues what was read before it, it also does with one more map (`continues_more`). By
 -- cases: whether the map is the first of its process, and of its object, in the piece.
 use Rattle.std.proofs.Common.{◌≡◌, ◌≢◌, ℕ, ◌+◌, ◌≤◌, inl, inr, true, List, [], ◌∷◌, ◌++◌, map, length, Option, Some}
-use Rattle.std.proofs.Common.{None, All, refl, ap, sym, ◌∙◌, subst, append_assoc, zero-add, arith}
+use Rattle.std.proofs.Common.{None, All, refl, ap, sym, ◌∙◌, append_assoc, zero-add, arith}
 use Rattle.std.specs.Prelude.{Result, Ok, Err, is_ok, Contains, if◌then◌else◌}
 use Rattle.std.specs.Option.{option_or}
 use Rattle.std.specs.Result.{result_ok}
@@ -26,8 +26,8 @@ use Rattle.history.specs.declared.piece.FirstMap.{FirstMap}
 use Rattle.history.specs.declared.piece.ReadPiece.{ReadPiece}
 use Rattle.history.specs.declared.fault.HistoryFaultKind.TheVariants.{AfterInfo}
 use Rattle.history.specs.Maps.{ClientMap, client_of, is_ignored, clients}
-use Rattle.history.specs.Faults.{last_map, IsMapFault, IsFaultlessAtAnyLength}
-use Rattle.history.specs.Denotes.{action_of, event_of_map, event_of, events_of_forms}
+use Rattle.history.specs.Faults.{IsMapFault, IsFaultlessAtAnyLength}
+use Rattle.history.specs.Denotes.{action_of, events_of_forms}
 use Rattle.history.specs.Seen.{doing_after, IsProcessKept, IsKindOf, IsNoOther, IsProcessFault, IsSeen, IsSeenBy}
 use Rattle.history.specs.Noting.{IsFirstOrAllowed, NotesProcess, NotesObject}
 use Rattle.history.specs.ReadPieces.{kept_after, IsAllowed, FitsAfter, ContinuesWhereItFits, IsOfForms}
@@ -76,8 +76,8 @@ allowed_after (Some p) before old new m h first = h.1
 fewer_firsts : (P : FirstMap → Type 0) (kept : Option Process) (old new : List FirstMap) (m : FirstMap)
     → IsFirstOrAllowed kept old new m → All P new → All P old
 fewer_firsts P None old new m h all = all_from_in P old
-    (λ x i. all_at P (old ++ m ∷ []) (subst (All P) h all) x (in_left x old (m ∷ []) i))
-fewer_firsts P (Some p) old new m h all = subst (All P) h.0 all
+    (λ x i. all_at P (old ++ m ∷ []) (rw h at all) x (in_left x old (m ∷ []) i))
+fewer_firsts P (Some p) old new m h all = rw h.0 at all
 
 no_other_after : (own before : Option Kind) (kind : Kind) → IsNoOther own kind → IsNoOther before kind
     → IsNoOther (option_or own before) kind
@@ -110,8 +110,7 @@ continues_more old new ds d c w f a h is known action process object before s k 
     let of_kind : (x : ℕ) (kind : Kind) → kinds x ≡ Some kind
     → IsNoOther (k x) kind = λ x kind q. elim (cases_eq x c.object) [
       | inl e ↦
-          let same : kind ≡ kind_of_function f = object.checked kind (subst (λ y. kinds y ≡ Some kind) e q) in
-          subst (λ y. IsNoOther (k y) kind) (sym e) (subst (IsNoOther (k c.object)) (sym same) kind_fits)
+          let same : kind ≡ kind_of_function f = object.checked kind (rw e at q) in rw (e, same) kind_fits
       | inr ne ↦ fits.of_kind x kind (object.others x ne ∙ q)
     ] in
     let fits_before : FitsAfter old s k = record {
@@ -122,7 +121,7 @@ continues_more old new ds d c w f a h is known action process object before s k 
     let so_far = h before s k seen faultless fits_before in
     let allowed = allowed_after (own c.process) (s c.process) old.firsts.items new.firsts.items
     (noted_map c f) process.checked
-    (λ q. all_at (IsAllowed s) (old.firsts.items ++ noted_map c f ∷ []) (subst (All (IsAllowed s)) q fits.allowed)
+    (λ q. all_at (IsAllowed s) (old.firsts.items ++ noted_map c f ∷ []) (rw q at fits.allowed)
     (noted_map c f) (in_right (noted_map c f) old.firsts.items (noted_map c f ∷ []) (inl refl))) in
     let more = goes_on_more (before ++ ds) d m f a (kept_after s own) (kept_after s (value_of new.seen.processes))
     (kept_after k kinds) (kept_after k (value_of new.seen.kinds))
@@ -132,11 +131,7 @@ continues_more old new ds d c w f a h is known action process object before s k 
     (λ p ne. ap (λ (o : Option Process). option_or o (s p)) (process.others p ne))
     (ap (λ (o : Option Kind). option_or o (k c.object)) object.own)
     (λ x ne. ap (λ (o : Option Kind). option_or o (k x)) (object.others x ne)) in
-    let same = append_assoc before ds (d ∷ []) in (
-      subst IsFaultlessAtAnyLength same more.0,
-      subst (IsSeenBy (kept_after s (value_of new.seen.processes))
-          (kept_after k (value_of new.seen.kinds))) same more.1,
-    )
+    let same = append_assoc before ds (d ∷ []) in (rw same at more.0, rw same at more.1)
 
 -- ---- one map more
 
@@ -146,20 +141,15 @@ event_added : (ds : List Datum) (d : Datum) (c : code.ClientMap) (w : Datum) (n 
     → action_of (map_type c.map_type) (client_map c w) ≡ Some a → events_of_forms 0 (ds ++ d ∷ [])
     ≡ events_of_forms 0 ds ++ noted_event c n a ∷ []
 event_added ds d c w n a count is action =
-    let m = client_map c w in
-    events_push 0 ds d
-    ∙ ap (λ t. events_of_forms 0 ds ++ t) (ap (λ k. event_of k (client_of d)) (zero-add (length ds) ∙ sym count)
-    ∙ (ap (event_of n) is ∙ ap (event_of_map n m) action))
+    rw (events_push 0 ds d, zero-add (length ds), ← count, is, action) refl
 
 -- the processes so far have a first map, and that of one more map has one too
 firsts_more : (old new : ℕ → Option Process) (was now : List FirstMap) (m : FirstMap) → NotesProcess old new was now m
     → ((p : ℕ) → IsListed (old p) (map (λ x. x.process) was) p) → (p : ℕ)
     → IsListed (new p) (map (λ x. x.process) now) p
 firsts_more old new was now m h listed p = elim (cases_eq p m.process) [
-  | inl e ↦ subst (λ n. IsListed (new n) (map (λ x. x.process) now) n) (sym e)
-      (inr (own (old m.process) h.checked (listed m.process)))
-  | inr ne ↦ subst (λ o. IsListed o (map (λ x. x.process) now) p) (sym (h.others p ne))
-      (other (old m.process) h.checked (listed p))
+  | inl e ↦ rw e (inr (own (old m.process) h.checked (listed m.process)))
+  | inr ne ↦ rw (h.others p ne) (other (old m.process) h.checked (listed p))
 ]
   where
     ends : now ≡ was ++ m ∷ [] → map (λ x. x.process) now ≡ map (λ x. x.process) was ++ m.process ∷ []
@@ -167,27 +157,26 @@ firsts_more old new was now m h listed p = elim (cases_eq p m.process) [
 
     own : (o : Option Process) → IsFirstOrAllowed o was now m → IsListed o (map (λ x. x.process) was) m.process
         → Contains (map (λ x. x.process) now) m.process
-    own None c l = subst (λ xs. Contains xs m.process) (sym (ends c))
+    own None c l = rw (ends c)
         (contains_from_in (map (λ x. x.process) was ++ m.process ∷ []) m.process
         (in_right m.process (map (λ x. x.process) was) (m.process ∷ []) (inl refl)))
     own (Some v) c l = elim l [
       | inl q ↦ absurd (cc q)
-      | inr k ↦ subst
-          (λ ms. Contains (map (λ x. x.process) ms) m.process) (sym c.0) k
+      | inr k ↦ rw c.0 k
     ]
 
     other : (o : Option Process) → IsFirstOrAllowed o was now m → IsListed (old p) (map (λ x. x.process) was) p
         → IsListed (old p) (map (λ x. x.process) now) p
     other None c (inl q) = inl q
-    other None c (inr k) = inr (subst (λ xs. Contains xs p) (sym (ends c))
+    other None c (inr k) = inr (rw (ends c)
         (contains_from_in (map (λ x. x.process) was ++ m.process ∷ []) p
         (in_left p (map (λ x. x.process) was) (m.process ∷ []) (in_from_contains (map (λ x. x.process) was) p k))))
-    other (Some v) c l = subst (λ ms. IsListed (old p) (map (λ x. x.process) ms) p) (sym c.0) l
+    other (Some v) c l = rw c.0 l
 
 -- no form so far is on a great object, nor is one more
 small_more : (ds : List Datum) (d : Datum) → All IsSmall ds → IsSmall d → All IsSmall (ds ++ d ∷ [])
 small_more ds d h own = All-append IsSmall ds (d ∷ []) h (all_from_in IsSmall (d ∷ [])
-    (λ x j. elim j [ inl e ↦ subst IsSmall (sym e) own | inr k ↦ absurd k ]))
+    (λ x j. elim j [ inl e ↦ rw e own | inr k ↦ absurd k ]))
 
 small_client : (d : Datum) (m : ClientMap) → client_of d ≡ Some m → m.object ≤ max_object → IsSmall d
 small_client d m is few great =
@@ -209,9 +198,8 @@ pub part_more : (old new : ReadPiece) (ds : List Datum) (d : Datum) (c : code.Cl
     → new.maps ≡ old.maps + 1 → new.events.items ≡ old.events.items ++ noted_event c old.maps a ∷ []
     → c.object ≤ max_object → IsOfForms new (ds ++ d ∷ [])
 part_more old new ds d c w f a h is known action process object count events few = record {
-  count = count ∙ (ap (λ k. k + 1) h.count ∙ sym (length-append ds (d ∷ [])));
-  events = events ∙ (ap (λ es. es ++ noted_event c old.maps a ∷ []) h.events
-      ∙ sym (event_added ds d c w old.maps a h.count is action));
+  count = omega (arith, length-append ds (d ∷ []), count, h.count);
+  events = rw (events, h.events, event_added ds d c w old.maps a h.count is action) refl;
   processes = firsts_more (value_of old.seen.processes)
       (value_of new.seen.processes) old.firsts.items new.firsts.items (noted_map c f) process h.processes;
   objects = λ x. object.listed x (h.objects x);
@@ -230,10 +218,9 @@ continues_skip : (read : ReadPiece) (ds : List Datum) (d : Datum) → client_of 
 continues_skip read ds d none ignored h before s k seen faultless fits =
     let so_far = h before s k seen faultless fits in
     let same = append_assoc before ds (d ∷ []) in (
-      subst IsFaultlessAtAnyLength same (faultless_push IsMapFault (before ++ ds) d so_far.0
+      rw (← same) (faultless_push IsMapFault (before ++ ds) d so_far.0
           (ignored_faultless (before ++ ds) d none ignored)),
-      subst (IsSeenBy (kept_after s (value_of read.seen.processes)) (kept_after k (value_of read.seen.kinds))) same
-          (kept_skip (kept_after s (value_of read.seen.processes)) (kept_after k (value_of read.seen.kinds))
+      rw (← same) (kept_skip (kept_after s (value_of read.seen.processes)) (kept_after k (value_of read.seen.kinds))
           (before ++ ds) d so_far.1 none),
     )
 
@@ -247,10 +234,10 @@ pub part_skip : (old new : ReadPiece) (ds : List Datum) (d : Datum) → IsOfForm
       events = old.events;
     } → IsOfForms new (ds ++ d ∷ [])
 part_skip old new ds d h none ignored same =
-    let events : events_of_forms 0 (ds ++ d ∷ []) ≡ events_of_forms 0 ds = events_push 0 ds d
-    ∙ (ap (λ c. events_of_forms 0 ds ++ event_of (0 + length ds) c) none ∙ append-nil (events_of_forms 0 ds)) in
-    subst (λ p. IsOfForms p (ds ++ d ∷ [])) (sym same) (record {
-      count = ap (λ k. k + 1) h.count ∙ sym (length-append ds (d ∷ []));
+    let events : events_of_forms 0 (ds ++ d ∷ []) ≡ events_of_forms 0 ds =
+    rw (events_push 0 ds d, none) (append-nil (events_of_forms 0 ds)) in
+    rw same (record {
+      count = omega (arith, length-append ds (d ∷ []), h.count);
       events = h.events ∙ sym events;
       processes = h.processes;
       objects = h.objects;
@@ -265,8 +252,8 @@ part_skip old new ds d h none ignored same =
 pub seen_same : (s t : ℕ → Option Process) (k l : ℕ → Option Kind) (ds : List Datum) → IsSeenBy s k ds
     → ((p : ℕ) → t p ≡ s p) → ((x : ℕ) → l x ≡ k x) → IsSeenBy t l ds
 seen_same s t k l ds h sp kx = record {
-  processes = λ p. subst (λ o. IsProcessKept o (last_map p (clients ds))) (sym (sp p)) (h.processes p);
-  kinds = λ x. subst (λ o. IsKindOf o (clients ds) x) (sym (kx x)) (h.kinds x);
+  processes = λ p. rw (sp p) (h.processes p);
+  kinds = λ x. rw (kx x) (h.kinds x);
   closed = h.closed;
 }
 
@@ -291,9 +278,8 @@ no_maps read seen count events =
       objects = λ x. inl (kinds x);
       small = all_from_in IsSmall [] (λ d i. absurd i);
       continues = λ before s k kept faultless fits. (
-        subst IsFaultlessAtAnyLength (sym (append-nil before)) faultless,
-        subst (IsSeenBy (kept_after s (value_of read.seen.processes)) (kept_after k (value_of read.seen.kinds)))
-            (sym (append-nil before))
+        rw (append-nil before) faultless,
+        rw (append-nil before)
             (seen_same s (kept_after s (value_of read.seen.processes)) k
             (kept_after k (value_of read.seen.kinds)) before kept
             (λ p. ap (λ (o : Option Process). option_or o (s p)) (processes p))

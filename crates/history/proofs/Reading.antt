@@ -1,7 +1,7 @@
 -- After each form the history read so far is that of the forms so far (`one_read`), and the first form with a fault
 -- is the first fault of all (`first_fault`). By what one more form adds to events and to what is kept.
 use Rattle.std.proofs.Common.{◌≡◌, ℕ, ◌+◌, ◌<◌, ◌≤◌, ◌⊎◌, inl, inr, List, [], ◌∷◌, ◌++◌, length, take, drop, get_or}
-use Rattle.std.proofs.Common.{zero, suc, append_assoc, zero-add, refl, ap, sym, ◌∙◌, subst, arith}
+use Rattle.std.proofs.Common.{zero, suc, zero-add, refl, ap, sym, ◌∙◌, subst, arith}
 use Rattle.std.proofs.lemmas.List.{append-nil, length-append, map-append, take_more, take_all}
 use Rattle.edn_reader.specs.Datum.{Datum}
 use Rattle.edn_reader.specs.View.{view, views}
@@ -17,17 +17,11 @@ use Rattle.history.specs.Denotes.{event_of, events_of_forms, Denotes}
 use Rattle.history.specs.Seen.{IsSeen, HasNoFault, HasFirst, IsFormRead}
 use Rattle.history.specs.Texts.{AreEventsRead}
 use Rattle.history.proofs.MapLimit.{IsSmall, none_within}
+use Rattle.history.proofs.PartEvents.{events_join}
 
 pub events_push : (n : ℕ) (ds : List Datum) (d : Datum)
     → events_of_forms n (ds ++ d ∷ []) ≡ events_of_forms n ds ++ event_of (n + length ds) (client_of d)
-events_push n [] d = append-nil (event_of n (client_of d))
-    ∙ ap (λ k. event_of k (client_of d)) (let e : n ≡ n + 0 = omega arith in e)
-events_push n (x ∷ ds) d =
-    ap (λ es. event_of n (client_of x) ++ es) (events_push (n + 1) ds d)
-    ∙ (sym (append_assoc (event_of n (client_of x)) (events_of_forms (n + 1) ds)
-    (event_of (n + 1 + length ds) (client_of d)))
-    ∙ ap (λ k. (event_of n (client_of x) ++ events_of_forms (n + 1) ds) ++ event_of k (client_of d))
-    (let e : n + 1 + length ds ≡ n + length (x ∷ ds) = omega arith in e))
+events_push n ds d = rw (events_join n ds (d ∷ []), append-nil) refl
 
 -- a split of a longer list
 split_push : (ds : List Datum) (d : Datum) (earlier later : List Datum) (e : Datum)
@@ -52,7 +46,7 @@ pub faultless_push : (IsHistoryFormFault : List Datum → Datum → HistoryFault
     → AreFaultless IsHistoryFormFault ds
     → HasNoFault IsHistoryFormFault ds d → AreFaultless IsHistoryFormFault (ds ++ d ∷ [])
 faultless_push IsHistoryFormFault ds d h none earlier later e k q f = elim (split_push ds d earlier later e q) [
-  | inl s ↦ none k (subst (λ x. IsHistoryFormFault ds x k) s.1 (subst (λ x. IsHistoryFormFault x e k) s.0 f))
+  | inl s ↦ none k (rw (s.0, s.1) at f)
   | inr s ↦ h earlier s.0 e k s.1 f
 ]
 
@@ -62,7 +56,7 @@ nothing_faulty IsHistoryFormFault earlier later d k e f = no_split earlier e
   where
     no_split : (earlier : List Datum) → [] ≡ earlier ++ d ∷ later → ⊥
     no_split [] e = cc
-    no_split (x ∷ earlier) e = cc
+    no_split xs e = cc
 
 -- ---- what is read
 
@@ -77,11 +71,8 @@ one_more old new number ds d es more h few small r =
     record {
       kept = r.seen;
       faultless = faultless_push IsHistoryFormFault ds d h.faultless (none_within ds d small r.no_fault
-          (subst (λ (n : ℕ). n < max_maps) (sym h.count) few));
-      events = ap (λ (x : List Event). x ++ more) h.events
-          ∙ (ap (λ (x : List Event). events_of_forms 0 ds ++ x) r.events ∙ sym
-          (events_push 0 ds d ∙ ap (λ (k : ℕ). events_of_forms 0 ds ++ event_of k (client_of d))
-          (zero-add (length ds))));
+          (rw h.count few));
+      events = rw (h.events, r.events, events_push 0 ds d, zero-add (length ds)) refl;
       count = omega (arith, length-append ds (d ∷ []), h.count);
     }
 
@@ -99,8 +90,7 @@ pub faultless_more : (seen : Seen) (fs : List Form) (i : ℕ) (f : Form) (es : L
     → HasNoHistoryFault
     (views (take (i + 1) fs))
 faultless_more seen fs i f es l is h none =
-    let ds = views (take i fs) in subst HasNoHistoryFault (sym (one_form fs i f l is))
-    (faultless_push IsHistoryFormFault ds (view f) h.faultless none)
+    rw (one_form fs i f l is) (faultless_push IsHistoryFormFault (views (take i fs)) (view f) h.faultless none)
 
 -- one form more
 pub one_read : (old new : Seen) (fs : List Form) (i : ℕ) (f : Form) (es more : List Event) → i < length fs
@@ -109,8 +99,7 @@ pub one_read : (old new : Seen) (fs : List Form) (i : ℕ) (f : Form) (es more :
     → AreEventsRead new (i + 1)
     (views (take (i + 1) fs)) (es ++ more)
 one_read old new fs i f es more l is few small h r =
-    subst (λ xs. AreEventsRead new (i + 1) xs (es ++ more)) (sym (one_form fs i f l is))
-    (one_more old new i (views (take i fs)) (view f) es more h few small r)
+    rw (one_form fs i f l is) (one_more old new i (views (take i fs)) (view f) es more h few small r)
 
 pub first_fault : (seen : Seen) (fs : List Form) (i : ℕ) (f : Form) (es : List Event) (k : HistoryFaultKind)
     → i < length fs → f ≡ get_or fs i f

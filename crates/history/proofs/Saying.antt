@@ -4,7 +4,7 @@ use Rattle.std.proofs.Common.{◌≡◌, ℕ, ℤ, true, false, Option, Some, No
 use Rattle.std.proofs.Common.{ap, ◌∙◌}
 use Rattle.std.specs.Prelude.{option_map, option_and_then}
 use Rattle.edn_reader.specs.Truncation.{integer_in}
-use Rattle.edn_reader.specs.Datum.{nil, boolean, integer, string, keyword, Datum, atom, vector, dictionary, Items}
+use Rattle.edn_reader.specs.Datum.{boolean, integer, Datum, atom, vector, Items}
 use Rattle.edn_reader.specs.Datum.{no_items, item, Entries}
 use Rattle.edn_reader.specs.Token.{Token, close_vector, leaf, tokens_of, items_tokens}
 use Rattle.edn_reader.specs.Pieces.{token_buffer_tokens}
@@ -39,49 +39,29 @@ third_by : (x y : ℤ) (c : Datum) (ds : Items) (ts : List Token)
     → tuple_first (leaf (atom (integer x)) ∷ leaf (atom (integer y)) ∷
     (((tokens_of c ++ items_tokens ds) ++ close_vector ∷ []) ++ ts))
     ≡ tuple_in (item (atom (integer x)) (item (atom (integer y)) (item c ds)))
-third_by x y (atom nil) ds ts = no_third x y (atom nil) ds refl
-third_by x y (atom (boolean b)) ds ts = no_third x y (atom (boolean b)) ds refl
-third_by x y (atom (string s)) ds ts = no_third x y (atom (string s)) ds refl
-third_by x y (atom (keyword k)) ds ts = no_third x y (atom (keyword k)) ds refl
-third_by x y (vector es) ds ts = no_third x y (vector es) ds refl
-third_by x y (dictionary es) ds ts = no_third x y (dictionary es) ds refl
 third_by x y (atom (integer z)) no_items ts = refl
 third_by x y (atom (integer z)) (item (atom a) ds) ts = refl
-third_by x y (atom (integer z)) (item (vector es) ds) ts = refl
-third_by x y (atom (integer z)) (item (dictionary es) ds) ts = refl
+third_by x y (atom (integer z)) (item d ds) ts = refl
+third_by x y c ds ts = no_third x y c ds refl
 
 second_by : (x : ℤ) (b : Datum) (ds : Items) (ts : List Token)
     → tuple_first (leaf (atom (integer x)) ∷
     (((tokens_of b ++ items_tokens ds) ++ close_vector ∷ []) ++ ts)) ≡ tuple_in (item (atom (integer x)) (item b ds))
-second_by x (atom nil) ds ts = no_second x (atom nil) ds refl
-second_by x (atom (boolean b)) ds ts = no_second x (atom (boolean b)) ds refl
-second_by x (atom (string s)) ds ts = no_second x (atom (string s)) ds refl
-second_by x (atom (keyword k)) ds ts = no_second x (atom (keyword k)) ds refl
-second_by x (vector es) ds ts = no_second x (vector es) ds refl
-second_by x (dictionary es) ds ts = no_second x (dictionary es) ds refl
 second_by x (atom (integer y)) no_items ts = refl
 second_by x (atom (integer y)) (item c ds) ts = third_by x y c ds ts
+second_by x b ds ts = no_second x b ds refl
 
 tuple_by : (ds : Items) (ts : List Token) → tuple_first ((items_tokens ds ++ close_vector ∷ []) ++ ts) ≡ tuple_in ds
 tuple_by no_items ts = refl
-tuple_by (item (atom nil) ds) ts = no_first (atom nil) ds refl
-tuple_by (item (atom (boolean b)) ds) ts = no_first (atom (boolean b)) ds refl
-tuple_by (item (atom (string s)) ds) ts = no_first (atom (string s)) ds refl
-tuple_by (item (atom (keyword k)) ds) ts = no_first (atom (keyword k)) ds refl
-tuple_by (item (vector es) ds) ts = no_first (vector es) ds refl
-tuple_by (item (dictionary es) ds) ts = no_first (dictionary es) ds refl
 tuple_by (item (atom (integer x)) no_items) ts = refl
 tuple_by (item (atom (integer x)) (item b ds)) ts = second_by x b ds ts
+tuple_by (item a ds) ts = no_first a ds refl
 
 plain_by : (d : Datum) (ts : List Token) → plain_first (tokens_of d ++ ts) ≡ plain_value d
-plain_by (atom nil) ts = refl
 plain_by (atom (boolean true)) ts = refl
 plain_by (atom (boolean false)) ts = refl
-plain_by (atom (integer z)) ts = refl
-plain_by (atom (string s)) ts = refl
-plain_by (atom (keyword k)) ts = refl
 plain_by (vector ds) ts = tuple_by ds ts
-plain_by (dictionary es) ts = refl
+plain_by d ts = refl
 
 pub plain_is : (ps : List Piece) (o : Option Datum) → IsValue ps o
     → plain_first (token_buffer_tokens ps) ≡ plain_value (value_in o)

@@ -1,8 +1,8 @@
 -- One more piece that fits after the joined ones is joined to them (`joined_more`): what it was first to say of a
 -- process or an object is taken over once for each (`taken_more`). By cases on whether the key was met.
 use Rattle.std.proofs.Common.{◌≡◌, ℕ, ◌+◌, ◌<◌, ◌≤◌, ◌⊎◌, inl, inr, false}
-use Rattle.std.proofs.Common.{List, [], ◌∷◌, ◌++◌, map, length, take, drop, get_or, suc}
-use Rattle.std.proofs.Common.{drop-cons, Option, Some, None, All, refl, ap, sym, ◌∙◌, subst}
+use Rattle.std.proofs.Common.{List, [], ◌∷◌, ◌++◌, map, length, take, get_or}
+use Rattle.std.proofs.Common.{Option, Some, None, All, refl, ap, sym, ◌∙◌}
 use Rattle.std.proofs.Common.{arith}
 use Rattle.std.specs.Option.{option_or, is_some}
 use Rattle.std.proofs.lemmas.Bool.{cases_eq}
@@ -19,7 +19,6 @@ use Rattle.history.specs.declared.piece.ReadPiece.{ReadPiece}
 use Rattle.history.specs.declared.seams.Seams.{Seams}
 use Rattle.history.specs.declared.fault.HistoryFaultKind.{HistoryFaultKind}
 use Rattle.history.specs.Faults.{max_maps}
-use Rattle.history.specs.Denotes.{events_of_forms}
 use Rattle.history.specs.Seen.{IsProcessFault}
 use Rattle.history.specs.Views.{map_type}
 use Rattle.history.specs.Noting.{TakesOver, IsOneKind, shift_event}
@@ -51,9 +50,7 @@ pub taken_more : {V : Type 0} (old own now new : ℕ → Option V) (key : ℕ) (
     → TakesOver now own new key
     → IsTakenOver old own now (key ∷ later) k → IsTakenOver old own new later k
 taken_more {V} old own now new key later k t h = elim (cases_eq k key) [
-  | inl e ↦ inl (subst (λ n. new n ≡ kept_after old own n) (sym e)
-      (t.at_key ∙ twice (own key) (old key) (now key)
-      (subst (λ n. (now n ≡ kept_after old own n) ⊎ (now n ≡ old n)) e kept)))
+  | inl e ↦ inl (rw e (t.at_key ∙ twice (own key) (old key) (now key) (rw e at kept)))
   | inr ne ↦ elim h [
     | inl q ↦ inl (t.others k ne ∙ q)
     | inr s ↦ elim s.1 [
@@ -107,10 +104,7 @@ joined_more old new read ds es h p allowed one few processes kinds events maps =
           (λ k. processes k (p.processes k)) (λ x. kinds x (p.objects x));
       faultless = faultless_within (ds ++ es) whole.0 (omega (arith, length-append ds es, few, counted, own))
           (All-append IsSmall ds es (small_objects ds h.faultless) p.small);
-      events = events ∙ (ap (λ xs. xs ++ map (shift_event old.maps) read.events.items) h.events
-          ∙ (ap (λ xs. events_of_forms 0 ds ++ map (shift_event old.maps) xs) p.events
-          ∙ (ap (λ n. events_of_forms 0 ds ++ map (shift_event n) (events_of_forms 0 es)) (sym counted)
-          ∙ sym (events_after ds es))));
+      events = rw (events, h.events, p.events, ← counted, events_after ds es) refl;
       count = omega (arith, length-append ds es, counted, own, maps);
     }
 
@@ -118,14 +112,11 @@ joined_more old new read ds es h p allowed one few processes kinds events maps =
 
 pub all_more : {X : Type 0} (P : X → Type 0) (xs : List X) (i : ℕ) (d : X) → i < length xs → All P (take i xs)
     → P (get_or xs i d) → All P (take (i + 1) xs)
-all_more P xs i d l h p = subst (All P) (sym (take_more xs i d l)) (All-append P (take i xs) (get_or xs i d ∷ []) h
-    (all_from_in P (get_or xs i d ∷ []) (λ x j. elim j [ inl e ↦ subst P (sym e) p | inr k ↦ absurd k ])))
+all_more P xs i d l h p = rw (take_more xs i d l) (All-append P (take i xs) (get_or xs i d ∷ []) h
+    (all_from_in P (get_or xs i d ∷ []) (λ x j. elim j [ inl e ↦ rw e p | inr k ↦ absurd k ])))
 
 pub all_done : {X : Type 0} (P : X → Type 0) (xs : List X) (i : ℕ) → length xs ≤ i → All P (take i xs) → All P xs
-all_done P xs i l h = subst (All P) (take_all i xs l) h
-
-pub drop_more : {X : Type 0} (xs : List X) (i : ℕ) (d : X) → i < length xs → drop i xs ≡ get_or xs i d ∷ drop (i + 1) xs
-drop_more xs i d l = drop-cons xs i d l ∙ ap (λ n. get_or xs i d ∷ drop n xs) (let e : suc i ≡ i + 1 = omega arith in e)
+all_done P xs i l h = rw (take_all i xs l) at h
 
 was_none : {X : Type 0} (o : Option X) → false ≡ is_some o → o ≡ None
 was_none None q = refl
@@ -136,5 +127,4 @@ pub allowed_at : (processes : ℕ → Option Process) (m : FirstMap) (kept : Opt
     → false ≡ is_some found → IsProcessFault kept (map_type m.map_type) m.function m.object found
     → IsAllowed processes m
 allowed_at processes m kept found is none h =
-    subst (λ o. IsProcessFault o (map_type m.map_type) m.function m.object None) is
-    (subst (IsProcessFault kept (map_type m.map_type) m.function m.object) (was_none found none) h)
+    rw (← is) (rw (was_none found none) at h)

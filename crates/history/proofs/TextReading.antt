@@ -16,7 +16,7 @@ use Rattle.history.specs.declared.text_reader.Reading.{Reading}
 use Rattle.history.specs.declared.client_map.OperationMap.{OperationMap}
 use Rattle.history.specs.Faults.{IsHistoryFormFault, HasNoHistoryFault}
 use Rattle.history.specs.Seen.{HasFirst, HasNoFault}
-use Rattle.history.specs.Texts.{IsHistoryFaultIn, AreEventsRead, AreEventsReadOrFaulty, IsHistoryReading}
+use Rattle.history.specs.Texts.{IsHistoryFaultIn, AreEventsRead, IsHistoryReading}
 use Rattle.history.specs.UsualForms.{ReadsForm}
 use Rattle.history.proofs.Reading.{faultless_push}
 use Rattle.history.proofs.Proper.{proper_events}
@@ -41,10 +41,7 @@ found_more ds d f h = (
 faulty_more : (r : Reading) (f : HistoryFault) (ds : List Datum) (d : Datum) → r.fault ≡ Some f → IsHistoryReading r ds
     → IsHistoryReading r (ds ++ d ∷ [])
 faulty_more r f ds d e h =
-    let a : IsHistoryFaultIn ds f = subst (λ (o : Option HistoryFault). AreEventsReadOrFaulty o r.seen r.map ds
-    r.events.items) e h in
-    subst (λ (o : Option HistoryFault). AreEventsReadOrFaulty o r.seen r.map (ds ++ d ∷ []) r.events.items) (sym e)
-    (found_more ds d f a)
+    rw e (found_more ds d f (rw e at h))
 
 pub faulty_stays : (r : Reading) (ds : List Datum) (d : Datum) → is_some r.fault ≡ true → IsHistoryReading r ds
     → IsHistoryReading r (ds ++ d ∷ [])
@@ -56,7 +53,7 @@ faulty_stays r ds d e h = by_fault r.fault refl e
 
 pub are_read : (r : Reading) (ds : List Datum) → r.fault ≡ None → IsHistoryReading r ds
     → AreEventsRead r.seen r.map ds r.events.items
-are_read r ds e h = subst (λ (o : Option HistoryFault). AreEventsReadOrFaulty o r.seen r.map ds r.events.items) e h
+are_read r ds e h = rw e at h
 
 -- what is wrong with the map after those that were read
 pub found : (seen : Seen) (number : ℕ) (ds : List Datum) (d : Datum) (es : List Event) (k : HistoryFaultKind)
@@ -87,7 +84,7 @@ found seen number ds d es k h first none = (
 )
 
 pub proper_reading : (r : Reading) (ds : List Datum) → r.fault ≡ None → IsHistoryReading r ds → IsProper r.events.items
-proper_reading r ds e h = let a = are_read r ds e h in subst IsProper (sym a.events) (proper_events ds a.faultless)
+proper_reading r ds e h = let a = are_read r ds e h in rw a.events (proper_events ds a.faultless)
 
 -- one form more, which says this
 pub along_next : (P Q : List Datum → Type 0) (text mid rest : List ℕ) (before start : ℕ) (said : OperationMap)

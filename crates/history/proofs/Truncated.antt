@@ -3,7 +3,7 @@ use Rattle.std.proofs.Common.{arith, ◌≡◌, ℕ, Option, Some, None, List, c
 use Rattle.std.specs.Prelude.{option_map, is_some}
 use Rattle.edn_reader.specs.Truncation.{most_items, truncated_item, truncated_items, truncated_value, truncated_entries}
 use Rattle.edn_reader.specs.Truncation.{truncated, integer_in}
-use Rattle.edn_reader.specs.Datum.{Datum, atom, vector, dictionary, Items, no_items, item, Entries}
+use Rattle.edn_reader.specs.Datum.{Datum, vector, dictionary, Items, no_items, item, Entries}
 use Rattle.edn_fields.specs.Fields.{value_at, natural_in, keyword_in, value_in}
 use Rattle.edn_fields.proofs.Truncation.{value_of_truncated, natural_of_truncated, keyword_of_truncated}
 use Rattle.history.specs.Maps.{MapType, type_in, object_at, tuple_in, plain_value, ClientMap, client_with, client_in}
@@ -30,10 +30,8 @@ tuple_of_truncated (item a (item b (item c (item d ds)))) = refl
 
 plain_of_truncated : (o : Option Datum)
     → plain_value (value_in (option_map truncated_value o)) ≡ plain_value (value_in o)
-plain_of_truncated None = refl
-plain_of_truncated (Some (atom a)) = refl
 plain_of_truncated (Some (vector ds)) = tuple_of_truncated ds
-plain_of_truncated (Some (dictionary es)) = refl
+plain_of_truncated o = refl
 
 -- ---- the map
 

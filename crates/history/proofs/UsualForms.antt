@@ -1,7 +1,7 @@
 -- A text in the usual form is read as the map that its parts say (`usual_is`). Each part begins with its tokens, and
 -- pairs are put in front of the last ones one by one (`other_pair`, `object_pair`).
-use Rattle.std.proofs.Common.{◌≡◌, ℕ, ◌⊎◌, true, false, Bool, cond, Some, Option, List, [], ◌∷◌, ◌++◌, codes, refl, sym}
-use Rattle.std.proofs.Common.{ap, subst, ◌∙◌, append_assoc, arith}
+use Rattle.std.proofs.Common.{◌≡◌, ℕ, ◌⊎◌, true, false, Bool, Some, List, [], ◌∷◌, ◌++◌, codes, refl, sym}
+use Rattle.std.proofs.Common.{◌∙◌, append_assoc, arith}
 use Rattle.std.specs.Prelude.{ℤ, pos}
 use Rattle.std.specs.Str.{IsUtf8, bytes_eq}
 use Rattle.std.proofs.lemmas.Slice.Eq.{bytes_eq-Decides}
@@ -65,13 +65,13 @@ false_here text rest e q =
     }
 
 pub true_here : (text rest : List ℕ) → EndsToken rest → text ≡ codes "true" ++ rest → ReadsValue text True rest
-true_here text rest e q = record {
-  form = atom (boolean true);
-  plain = refl;
-  fits = tt;
-  begins = word_here
-      (boolean true) (codes "true") text rest refl e q;
-}
+true_here text rest e q =
+    record {
+      form = atom (boolean true);
+      plain = refl;
+      fits = tt;
+      begins = word_here (boolean true) (codes "true") text rest refl e q;
+    }
 
 pub integer_here : (z : ℤ) (text rest : List ℕ) → BeginWith (leaf (atom (integer z)) ∷ []) text rest
     → ReadsValue text (Int z) rest
@@ -86,8 +86,7 @@ pair_here y z inside after_y from_z after_z rest b q c r =
     let second : BeginWith (leaf (atom (integer z)) ∷ close_vector ∷ []) from_z rest =
     both_begin (leaf (atom (integer z)) ∷ []) (close_vector ∷ []) from_z after_z rest c close in
     let behind : BeginWith (leaf (atom (integer z)) ∷ close_vector ∷ []) after_y rest =
-    subst (λ (x : List ℕ). BeginWith (leaf (atom (integer z)) ∷ close_vector ∷ []) x rest) (sym q)
-    (spaced 32 (leaf (atom (integer z))) (close_vector ∷ []) from_z rest refl second) in
+    rw q (spaced 32 (leaf (atom (integer z))) (close_vector ∷ []) from_z rest refl second) in
     let all : BeginWith (leaf (atom (integer y)) ∷ leaf (atom (integer z)) ∷ close_vector ∷ []) inside rest =
     both_begin (leaf (atom (integer y)) ∷ [])
     (leaf (atom (integer z)) ∷ close_vector ∷ []) inside after_y rest b behind in
@@ -138,8 +137,7 @@ other_pair k ks z text mid after rest n s o q b r =
     record {
       pairs = entry k (atom (integer z)) r.pairs;
       lack = lack_more k (atom (integer z)) ks r.pairs o r.lack.1;
-      object_is = ap (λ (c : Bool). object_at (cond c (Some (atom (integer z))) (value_at (codes "object") r.pairs)))
-          s ∙ r.object_is;
+      object_is = rw s r.object_is;
       fits = (r.lack.0, tt, r.fits);
       begins = integer_pair k z (entries_tokens r.pairs ++ close_map ∷ []) text mid after rest n q b r.begins;
     }
@@ -180,8 +178,7 @@ note_pair k a text at_key after_key at_value after_value rest o q e s b z =
     both_begin (leaf (atom a) ∷ []) (close_map ∷ []) at_value after_value rest b
     (here after_value rest close_map z) in
     let behind : BeginWith (leaf (atom a) ∷ close_map ∷ []) after_key rest =
-    subst (λ (x : List ℕ). BeginWith (leaf (atom a) ∷ close_map ∷ []) x rest) (sym s)
-    (spaced 32 (leaf (atom a)) (close_map ∷ []) at_value rest refl value) in
+    rw s (spaced 32 (leaf (atom a)) (close_map ∷ []) at_value rest refl value) in
     let own : BeginWith (key ∷ leaf (atom a) ∷ close_map ∷ []) (58 ∷ at_key) rest =
     both_begin (key ∷ []) (leaf (atom a) ∷ close_map ∷ []) (58 ∷ at_key) after_key rest
     (first_here (58 ∷ at_key) after_key key e) behind in
@@ -191,10 +188,9 @@ note_pair k a text at_key after_key at_value after_value rest o q e s b z =
     record {
       pairs = entry k (atom a) no_entries;
       lack = note_lacks keys_to_index o;
-      object_is = ap (λ (c : Bool). object_at (cond c (Some (atom a)) (value_at (codes "object") no_entries)))
-          (differs k o.1.1.0);
+      object_is = rw (differs k o.1.1.0) refl;
       fits = (tt, tt, tt);
-      begins = subst (λ (x : List ℕ). BeginWith (key ∷ more) x rest) (sym q) all;
+      begins = rw q all;
     }
   where
     note_lacks : (ks : List (List ℕ)) → IsNoneOf k ks → LackEach ks (entry k (atom a) no_entries)
@@ -228,12 +224,7 @@ client_is : (n : ℕ) (t : MapType) (f : Function) (x : ℕ) (v : Value) (d : Da
     → object_at (value_at (codes "object") es) ≡ Some x
     → spec.client_of (form_with n t f d es) ≡ Some (client_map (map_with n t f x v) d)
 client_is n t f x v d es e =
-    ap (λ y. client_with (Some n) y (Some (name_of f)) (object_at (value_at (codes "object") es)) d) (type_is t)
-    ∙ ap (λ y. client_with (Some n) (Some (map_type t)) (Some (name_of f)) y d) e
-    ∙ ap (λ y. client_with_function y) (own_name f)
-  where
-    client_with_function : Option Function → Option spec.ClientMap
-    client_with_function g = Some (record { process = n; type = map_type t; function = g; object = x; value = d })
+    rw (type_is t, e, own_name f) refl
 
 pub usual_is : (n : ℕ) (t : MapType) (f : Function) (x : ℕ) (v : Value)
     (text own from_n after_n from_t after_t from_f after_f from_v after_v rest : List ℕ) → IsUtf8 text
@@ -267,12 +258,7 @@ usual_is n t f x v text own from_n after_n from_t after_t from_f after_f from_v 
     let all = after_one 10 open_map
     (leaf (atom (keyword (codes "process"))) ∷ leaf (atom (integer (pos n))) ∷ ts_n) text own rest refl feed n2 in
     let begins : BeginWith (tokens_of (form_with n t f value.form last.pairs)) text rest =
-    subst (λ (ts : List Token). BeginWith
-    (open_map ∷ leaf (atom (keyword (codes "process"))) ∷ leaf (atom (integer (pos n)))
-    ∷ leaf (atom (keyword (codes "type")))
-    ∷ leaf (atom (keyword (type_name t))) ∷ leaf (atom (keyword (codes "f"))) ∷ leaf (atom (keyword (name_of f)))
-    ∷ leaf (atom (keyword (codes "value"))) ∷ ts) text rest)
-    (sym (append_assoc (tokens_of value.form) (entries_tokens last.pairs) (close_map ∷ []))) all in
+    rw (append_assoc (tokens_of value.form) (entries_tokens last.pairs) (close_map ∷ [])) all in
     let front = front_of text rest (form_with n t f value.form last.pairs) u
     (fits_with n t f value.form last.pairs value.fits last.lack last.fits) begins in
     record {
@@ -291,8 +277,7 @@ form_pair : (k : List ℕ) (d : Datum) (es : Entries) (text mid after rest : Lis
     → BeginWith (entries_tokens (entry k d es) ++ close_map ∷ []) text rest
 form_pair k d es text mid after rest n q b c =
     let ts : List Token = entries_tokens es ++ close_map ∷ [] in
-    subst (λ (us : List Token). BeginWith (leaf (atom (keyword k)) ∷ us) text rest)
-    (sym (append_assoc (tokens_of d) (entries_tokens es) (close_map ∷ [])))
+    rw (append_assoc (tokens_of d) (entries_tokens es) (close_map ∷ []))
     (form_field d k ts text mid rest n q (both_begin (tokens_of d) ts mid after rest b c))
 
 abbrev indexed_with : ℤ → ℤ → ℕ → MapType → Function → Datum → Entries
@@ -309,11 +294,7 @@ indexed_fits i j n t f d h = grind arith
 indexed_client : (i j : ℤ) (n : ℕ) (t : MapType) (f : Function) (v : Value) (d : Datum)
     → spec.client_of (dictionary (indexed_with i j n t f d)) ≡ Some (client_map (map_with n t f 0 v) d)
 indexed_client i j n t f v d =
-    ap (λ y. client_with (Some n) y (Some (name_of f)) (Some 0) d) (type_is t)
-    ∙ ap (λ y. client_with_function y) (own_name f)
-  where
-    client_with_function : Option Function → Option spec.ClientMap
-    client_with_function g = Some (record { process = n; type = map_type t; function = g; object = 0; value = d })
+    rw (type_is t, own_name f) refl
 
 pub index_first_is : (i j : ℤ) (n : ℕ) (t : MapType) (f : Function) (v : Value)
     (text own from_i after_i from_j after_j from_t after_t from_n after_n from_f after_f from_v after_v rest : List ℕ)

@@ -1,6 +1,7 @@
 use Rattle.std.proofs.Common.{◌+◌, map, drop, ap, subst}
 use Rattle.number_map.specs.Lookup.{value_of}
-use Rattle.history.proofs.SeamLaws.{IsTakenOver, taken_first, taken_more, drop_more}
+use Rattle.history.proofs.SeamLaws.{IsTakenOver, taken_first, taken_more}
+use Rattle.std.proofs.lemmas.List.{drop_more}
 use Rattle.history.proofs.seams.keep_processes.Goals as goal
 
 pub loop-first-init : goal.loop-first-init

@@ -23,16 +23,14 @@ form-next-requires t c = some_form c.args.self.now.rest.now c.requires
 pub form-vector-requires : goal.form-vector-requires
 form-vector-requires t c = (
   omega (arith, c.decreases, c.next.ensures.shorter),
-  vector_begins (left_on c.next.new.self)
-      (subst BeginsForm (c.next.ensures.token
+  vector_begins (subst BeginsForm (c.next.ensures.token
       ∙ ap (λ (p : Piece). piece_token p ∷ left_on c.next.new.self) c.in-OpenVector.is) c.requires),
 )
 
 pub form-map-requires : goal.form-map-requires
 form-map-requires t c = (
   omega (arith, c.decreases, c.next.ensures.shorter),
-  map_begins (left_on c.next.new.self)
-      (subst BeginsForm (c.next.ensures.token
+  map_begins (subst BeginsForm (c.next.ensures.token
       ∙ ap (λ (p : Piece). piece_token p ∷ left_on c.next.new.self) c.in-OpenMap.is) c.requires),
 )
 
@@ -43,15 +41,12 @@ form-leaf_of-requires t c =
 
 pub map-from_bytes-requires : goal.map-from_bytes-requires
 map-from_bytes-requires t c =
-    ap is_name c.as_bytes.ensures.value
-    ∙ key_own (left_on c.pairs.self)
-    (left_on c.next_key.new.self) c.in-Some.name.now c.in-Some.ensures.next c.pairs.invariant.1
+    ap is_name c.as_bytes.ensures.value ∙ key_own c.in-Some.ensures.next c.pairs.invariant.1
 
 pub map-form-requires : goal.map-form-requires
 map-form-requires t c = (
   omega (arith, c.decreases, c.next_key.ensures.shorter, c.pairs.invariant.2),
-  value_begins (left_on c.pairs.self)
-      (left_on c.next_key.new.self) c.in-Some.name.now c.in-Some.ensures.next c.pairs.invariant.1,
+  value_begins c.in-Some.ensures.next c.pairs.invariant.1,
 )
 
 pub map-pairs-preserved : goal.map-pairs-preserved
@@ -68,8 +63,7 @@ map-pairs-preserved t c =
     let pushed = pairs_with c.pairs.pairs.items c.push.new.self.items key c.in_ok-value.value
     c.in_ok-push.ensures.items in (
       more ∙ ap (λ (ps : List (List ℕ × Datum)). pairs_tokens ps ++ left_on c.form.new.self) (sym pushed),
-      pairs_after (left_on c.pairs.self) (left_on c.next_key.new.self) (left_on c.form.new.self)
-          (name_bytes key) value front c.in_ok-value.ensures.form c.pairs.invariant.1,
+      pairs_after value front c.in_ok-value.ensures.form c.pairs.invariant.1,
       omega (arith, c.in_ok-value.ensures.shorter, c.next_key.ensures.shorter, c.pairs.invariant.2),
     )
 
@@ -83,7 +77,7 @@ pub vector-form-requires : goal.vector-form-requires
 vector-form-requires t c = (
   omega (arith, c.decreases, c.ends_vector.ensures.within, c.items.invariant.2),
   subst BeginsForm (sym (c.items-test.ensures.same refl))
-      (item_begins (left_on c.items.self) (c.items-test.ensures.goes_on refl) c.items.invariant.1),
+      (item_begins (c.items-test.ensures.goes_on refl) c.items.invariant.1),
 )
 
 pub vector-items-preserved : goal.vector-items-preserved
@@ -95,8 +89,7 @@ vector-items-preserved t c =
     (views c.items.forms.items) form c.items.invariant.0 front in
     let pushed = views_with c.items.forms.items c.push.new.self.items c.in_ok-form.form c.in_ok-push.ensures.items in (
       more ∙ ap (λ (ds : List Datum). list_tokens ds ++ left_on c.form.new.self) (sym pushed),
-      items_after (left_on c.items.self) (left_on c.form.new.self) form
-          (c.items-test.ensures.goes_on refl) front c.items.invariant.1,
+      items_after form (c.items-test.ensures.goes_on refl) front c.items.invariant.1,
       omega (arith, c.in_ok-form.ensures.shorter, c.ends_vector.ensures.within, c.items.invariant.2),
     )
 

@@ -5,7 +5,6 @@ use Rattle.edn_reader.specs.Kepts.{kept_in, noted_in, keeping_of}
 use Rattle.edn_reader.specs.Truncation.{nothing_kept}
 use Rattle.edn_reader.specs.IntegerVectors.{nothing_noted}
 use Rattle.edn_reader.proofs.Noting.{held_both}
-use Rattle.edn_reader.specs.TokenBuffers.{held_on, open_on}
 use Rattle.edn_reader.proofs.BufferTurns.{first_turn, none_first, sound_first, nothing_more, whole, whole_open}
 use Rattle.edn_reader.proofs.BufferTurns.{next_turn}
 use Rattle.edn_reader.proofs.BufferTurns.{none_next, sound_next, none_at_end, after_piece_shorter}
