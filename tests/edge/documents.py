@@ -260,10 +260,13 @@ def plain_words(program, report):
         report.equal(f"plain_words: '{word}' is in no name", [], found)
 
 
-# The most characters of a line of these files: of proofs, of definitions, and of prose.
-WIDTHS = {"crates/*/proofs/**/*.antt": 120, "crates/*/specs/**/*.antt": 100, "docs/*.md": 150, "README.md": 150, "CHANGELOG.md": 150}
-# A name that the kit made, which cannot be divided.
-ONE_NAME = re.compile(r"use \S+\{\S+\}$")
+# The most characters of a line of these files: of proofs, of definitions, of code, and of prose.
+WIDTHS = {
+    "crates/*/proofs/**/*.antt": 120, "crates/*/specs/**/*.antt": 100, "crates/*/src/**/*.rt": 100, "docs/*.md": 150, "README.md": 150,
+    "CHANGELOG.md": 150,
+}
+# What cannot be divided: a name that the kit made, an attribute, which rt fmt writes on one line, and a text.
+ONE_NAME = re.compile(r"use \S+\{\S+\}$| *#\[tactic\(.*\)\]$| *b?\"([^\"\\]|\\.)*\"[,;]?$")
 # A row of a table, or a line that is one link.
 NO_PROSE = re.compile(r"\|| *(?:[-*] )?\[[^\[\]]*\]\(\S+\)\W?$")
 
@@ -280,7 +283,7 @@ def lines_with_numbers(path):
 
 
 def widths(program, report):
-    """No line of a proof has more than 120 characters, of a definition more than 100, and of prose more than 150."""
+    """No line of a proof has more than 120 characters, of a definition or of code more than 100, and of prose more than 150."""
     for files, most in WIDTHS.items():
         paths = sorted(glob.glob(f"{ROOT}/{files}", recursive=True))
         report.holds(f"widths: there are files {files}", paths)

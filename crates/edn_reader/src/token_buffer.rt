@@ -73,7 +73,8 @@ impl<'a> TokenBuffer<'a> {
         ensures taken { MatchResult result
             (λ _. after_piece (open_on self.old) (reading.first here.entry.now)
             ≡ Some (open_on self.new, self.new.remains.now))
-            (λ cause. Denies cause (after_piece (open_on self.old) (reading.first here.entry.now))) }
+            (λ cause. Denies cause
+            (after_piece (open_on self.old) (reading.first here.entry.now))) }
         ensures place { self.new.left ≡ length here.entry.now }
         ensures kept { OnOk result
             (HoldsToken (held_on self.old) (reading.first here.entry.now) (held_on self.new)) }
@@ -93,7 +94,8 @@ impl<'a> TokenBuffer<'a> {
         ensures taken { MatchResult result
             (λ _. after_piece (open_on self.old) (reading.first here.entry.now)
             ≡ Some (open_on self.new, self.new.remains.now))
-            (λ cause. Denies cause (after_piece (open_on self.old) (reading.first here.entry.now))) }
+            (λ cause. Denies cause
+            (after_piece (open_on self.old) (reading.first here.entry.now))) }
         ensures place { IfErr result (λ cause. cause ≡ Cause.NoMemory →
             self.new.left ≡ length here.entry.now) }
         ensures kept { OnOk result
@@ -121,7 +123,8 @@ impl<'a> TokenBuffer<'a> {
         ensures taken { MatchResult result
             (λ _. after_piece (open_on self.old) (reading.first here.entry.now)
             ≡ Some (open_on self.new, self.new.remains.now))
-            (λ cause. Denies cause (after_piece (open_on self.old) (reading.first here.entry.now))) }
+            (λ cause. Denies cause
+            (after_piece (open_on self.old) (reading.first here.entry.now))) }
         ensures place { IfErr result (λ cause. cause ≡ Cause.NoMemory →
             self.new.left ≡ length here.entry.now) }
         ensures kept { OnOk result
