@@ -100,7 +100,7 @@ def names_of_several(program, report):
     """Of each name that docs/definitions.md says several crates define, these crates define one of the row, and no other crate does."""
     defined = lines_to_believe.crates_of_names()
     rows = list(rows_of_several())
-    report.holds("names_of_several: the table has rows", len(rows) >= 15, rows)
+    report.holds("names_of_several: the table has rows", len(rows) >= 10, rows)
     for names, crates in rows:
         own = set().union(*(defined.get(name, set()) for name in names))
         own |= {crate for crate in crates if any(is_defined_in(crate, name) for name in names)}

@@ -113,7 +113,8 @@ impl Reading {
     /// Reads one more element, unless an earlier one is faulty. Of each value the beginning is
     /// given, and the integer vector of its order.
     fn take(&mut self, pieces: &[Piece], integer_vector: Option<Vec<i64>>)
-        ensures { (ds : List Datum) (d : Datum) → IsBufferKept pieces.now (numbers_of integer_vector) d
+        ensures { (ds : List Datum) (d : Datum)
+            → IsBufferKept pieces.now (numbers_of integer_vector) d
             → IsCertificateReading self.old ds → IsCertificateReading self.new (ds ++ d ∷ []) }
     {
         if self.fault.is_none() {

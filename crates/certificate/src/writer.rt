@@ -70,7 +70,8 @@ pub fn write_certificates<S: Sink>(
     ensures sent { Writes result (S.sent sink.old) (S.sent sink.new) (S.broken sink.new)
         (text.certificate_lines certificates.now) }
     // What went out reads back as these certificates.
-    ensures spelled { OnOk result (AreDistinct certificates.now → AreCertificatesInRange certificates.now →
+    ensures spelled { OnOk result (AreDistinct certificates.now
+        → AreCertificatesInRange certificates.now →
         SpellsCertificates certificates.now (text.certificate_lines certificates.now)) }
     ensures device { IfErr result (λ e. e ≡ WriteFault.Device) }
 {

@@ -73,7 +73,8 @@ fn make<R: Wait>(
     ensures desk { result.0.desk ≡ client.desk }
     ensures called { result.1 ≡ true
         → (a : AnyAnswer) × Called client.knows object op a result.0.knows }
-    ensures outstanding { result.1 ≡ false → IsStillOutstanding client.knows object op result.0.knows }
+    ensures outstanding { result.1 ≡ false → IsStillOutstanding client.knows object op
+        result.0.knows }
 {
     let (client, answered) = call(rt, desk, client, object, op);
     match answered {

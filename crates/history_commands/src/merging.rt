@@ -2,7 +2,8 @@
 //! and the full history is judged by all of it. Nothing that comes from a worker is trusted.
 
 ghost use Rattle.std.specs.Prelude.{◌++◌, ◌∷◌, [], List, IfOk, OnOk};
-ghost use Rattle.history_commands.specs.Merged.{AnswersShard, AreMerged, IsMerge, Shard, answer_seen};
+ghost use Rattle.history_commands.specs.Merged.{AnswersShard, AreMerged, IsMerge, Shard};
+ghost use Rattle.history_commands.specs.Merged.{answer_seen};
 
 use crate::finding::Finding;
 use crate::object_lines::{ObjectLines, with_lines};

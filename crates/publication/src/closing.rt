@@ -238,7 +238,8 @@ fn take_all_journals<S: SeqObject>(
     ensures count { length (items_of_each journals.new.items) ≡ clients }
     ensures own { slice_index_or (items_of_each journals.new.items) number [] ≡ own.items }
     ensures others { (c : ℕ) → c < clients → c ≢ number →
-        IsJournalOf (values_of left.old) c (slice_index_or (items_of_each journals.new.items) c []) }
+        IsJournalOf (values_of left.old) c (slice_index_or (items_of_each journals.new.items) c
+        []) }
 {
     let own_slot = ENDS + number as usize;
     take_journals(left, 0, number, journals);

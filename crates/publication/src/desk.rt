@@ -114,7 +114,8 @@ pub enum Picked<S: SeqObject> {
 }
 
 impl<S: SeqObject> Desk<S> {
-    ghost use Rattle.publication.specs.Calls.{IsNotOfKind, MayPost, IsPosted, IsPostRefusal, IsPollAnswer};
+    ghost use Rattle.publication.specs.Calls.{IsNotOfKind, MayPost, IsPosted, IsPostRefusal};
+    ghost use Rattle.publication.specs.Calls.{IsPollAnswer};
     ghost use Rattle.publication.specs.Calls.{IsPollMiss, IsWon, desk_after_win, places_after_win};
     ghost use Rattle.publication.specs.Calls.{IfWon, IfHeld};
 

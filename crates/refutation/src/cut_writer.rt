@@ -55,7 +55,8 @@ fn write_without<S: Sink>(value: i64, before: u32, sink: &mut S) -> Result<(), F
 fn write_keep<S: Sink>(values: &Values, numbers: &BTreeSet<u32>, sink: &mut S) -> Result<(), Failed>
     requires { S.broken sink.old ≡ false }
     ensures sent { Writes result (S.sent sink.old) (S.sent sink.new) (S.broken sink.new)
-        (codes "{:keep " ++ (text.values_text values.now ++ text.given_numbers_text numbers.now.keys)) }
+        (codes "{:keep " ++ (text.values_text values.now
+        ++ text.given_numbers_text numbers.now.keys)) }
     ensures typed { OnOk result (AreTypedValues values.now × AreNumberKeys numbers.now.keys) }
 {
     write_bytes(b"{:keep ", sink)?;

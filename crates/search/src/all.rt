@@ -29,9 +29,11 @@ pub fn search_all(
     // the objects that some invocation names, and no others
     ensures named { IfOk result (λ v. (x : ℕ)
         → Contains (map (λ a. a.0) v.items) x ↔ IsNamed history.now x) }
-    ensures answers { IfOk result (λ v. All (λ a. IsSearchAnswerOn history.now limit a.0 a.1) v.items) }
+    ensures answers { IfOk result (λ v. All (λ a. IsSearchAnswerOn history.now limit a.0 a.1)
+        v.items) }
     // If one is impossible the history is not linearizable.
-    ensures impossible { IfOk result (λ v. Any (λ a. a.1.found ≡ CertificateOutcome.Impossible) v.items
+    ensures impossible { IfOk result (λ v. Any
+        (λ a. a.1.found ≡ CertificateOutcome.Impossible) v.items
         → IsLinearizable (kind_of_object history.now) (events (denoted history.now)) → ⊥) }
     // If all are found `check_all` accepts the certificates.
     ensures distinct { IfOk result (λ v. AreDistinct (certificates_found v.items)) }
@@ -52,8 +54,10 @@ pub fn search_all_by(
     // the objects that some invocation names, and no others
     ensures named { IfOk result (λ v. (x : ℕ)
         → Contains (map (λ a. a.0) v.items) x ↔ IsNamed history.now x) }
-    ensures answers { IfOk result (λ v. All (λ a. IsSearchAnswerOn history.now limit a.0 a.1) v.items) }
-    ensures impossible { IfOk result (λ v. Any (λ a. a.1.found ≡ CertificateOutcome.Impossible) v.items
+    ensures answers { IfOk result (λ v. All (λ a. IsSearchAnswerOn history.now limit a.0 a.1)
+        v.items) }
+    ensures impossible { IfOk result (λ v. Any
+        (λ a. a.1.found ≡ CertificateOutcome.Impossible) v.items
         → IsLinearizable (kind_of_object history.now) (events (denoted history.now)) → ⊥) }
     ensures distinct { IfOk result (λ v. AreDistinct (certificates_found v.items)) }
     ensures valid { IfOk result (λ v. All (λ a. IsFound a.1) v.items

@@ -72,7 +72,8 @@ impl Dead {
     /// pair.
     pub fn holds(&self, hash: u64, high: u32, not_done: &NotDone, object: &Reversible) -> bool
         ensures { IsTrue result →
-            HasPair self.now.older.pairs.items not_done.now.next.items high (reversible_content object.now)
+            HasPair self.now.older.pairs.items not_done.now.next.items high
+            (reversible_content object.now)
             ⊎ HasPair self.now.younger.pairs.items not_done.now.next.items high
             (reversible_content object.now) }
     {

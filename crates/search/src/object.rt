@@ -58,7 +58,8 @@ pub fn search(alloc: Global, history: &ObjectHistory, limit: u64) -> Search
 
 /// Searches as `search` does; `first` chooses which operation is tried first.
 pub fn search_by(alloc: Global, history: &ObjectHistory, first: TryFirst, limit: u64) -> Search
-    ensures { IsSearchAnswer history.now.object history.now.kind (calls_of history.now.ops) limit result }
+    ensures { IsSearchAnswer history.now.object history.now.kind (calls_of history.now.ops) limit
+        result }
 {
     answer_of(history.object(), find_order(alloc, history, first, limit))
 }

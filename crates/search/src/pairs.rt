@@ -71,7 +71,8 @@ impl Pairs {
     /// Whether a pair is remembered.
     pub fn holds(&self, hash: u64, high: u32, not_done: &NotDone, object: &Reversible) -> bool
         ensures { IsTrue result →
-            HasPair self.now.pairs.items not_done.now.next.items high (reversible_content object.now) }
+            HasPair self.now.pairs.items not_done.now.next.items high
+            (reversible_content object.now) }
     {
         let first = number_at(&self.heads, slot_of(&self.heads, hash));
         let mut rest = (first as usize).min(self.pairs.len());

@@ -70,7 +70,8 @@ impl Reversible {
     /// Does the operation. If an allocation fails, the object may contain anything.
     pub fn apply(&mut self, op: &AnyOp) -> Result<Step, AllocError>
         requires { IsSome (next (reversible_content self.old) op.now) }
-        ensures { IfOk result (IsStep (reversible_content self.old) op.now (reversible_content self.new)) }
+        ensures { IfOk result (IsStep (reversible_content self.old) op.now
+            (reversible_content self.new)) }
     {
         match self {
             Reversible::Queue(values) => Queues::step(values, op),
@@ -87,7 +88,8 @@ impl Reversible {
 
     /// Undoes what an operation did. If an allocation fails, the object may contain anything.
     pub fn undo(&mut self, undo: Undo) -> Result<(), AllocError>
-        ensures { OnOk result (reversible_content self.new ≡ undone undo (reversible_content self.old)) }
+        ensures { OnOk result (reversible_content self.new
+            ≡ undone undo (reversible_content self.old)) }
     {
         match self {
             Reversible::Queue(values) => Queues::undo(values, undo),

@@ -224,7 +224,8 @@ impl State {
         requires in_time { (call_at trials.now.items.items self.old.at).number
             ≤ self.old.window.least }
         requires possible { IsSome
-            (next (reversible_content self.old.object) (call_at trials.now.items.items self.old.at).op) }
+            (next (reversible_content self.old.object)
+            (call_at trials.now.items.items self.old.at).op) }
         ensures search { IfOk result (λ over. over ≡ false → IsSearching trials.now self.new) }
         ensures over { IfOk result (λ over. over ≡ true →
             IsOrder trials.now (places self.new.levels.items)) }

@@ -64,7 +64,8 @@ fn take_claim(
 ) -> Result<(), AllocError>
     requires rising { AllPairs (λ a b. a.object < b.object) objects.now }
     requires each { length answers.old.items ≡ length objects.now }
-    ensures { OnOk result (AreDecisionsTaken objects.now limit claim answers.old.items answers.new.items) }
+    ensures { OnOk result (AreDecisionsTaken objects.now limit claim answers.old.items
+        answers.new.items) }
 {
     let number = claim.object();
     let Ok(at) = objects.binary_search_by_key(&number, |object| object.object()) else {
