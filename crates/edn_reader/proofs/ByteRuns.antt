@@ -1,7 +1,7 @@
 -- Runs of bytes at the front of a text: names and digits. A run and what follows it make the text, by induction on it;
 -- so the first token is the run's.
 use Rattle.std.proofs.Common.{◌≡◌, ℕ, suc, ◌+◌, ◌-◌, ◌<◌, ◌≤◌, ◌^◌, Bool, true, false, not, cond, List, [], ◌∷◌, ◌++◌}
-use Rattle.std.proofs.Common.{length, take, drop, get_or, refl, add-one, sym, ap, subst, ◌∙◌, arith, inl}
+use Rattle.std.proofs.Common.{length, take, drop, get_or, refl, add-one, sym, ap, ◌∙◌, arith, inl}
 use Rattle.std.specs.Prelude.{◌&&◌, ◌==◌, nat_le, pos}
 use Rattle.std.specs.List.{list_all}
 use Rattle.std.proofs.lemmas.Bool.{and_from, ne_eqb, le-leb}
@@ -15,6 +15,8 @@ use Rattle.edn_reader.specs.Spells.{value_after, is_decimal, EndsToken, IsWord}
 use Rattle.edn_reader.specs.Reading.{got, first, names, after_names, digits, after_digits}
 use Rattle.edn_reader.proofs.TakeAndDrop.{rest_within, front_is}
 use Rattle.edn_reader.proofs.Next.{begins_reads}
+
+-- ---- the name bytes at the front
 
 pub names_parts : (t : List ℕ) → names t ++ after_names t ≡ t
 names_parts [] = refl
@@ -38,6 +40,8 @@ pub names_all : (t : List ℕ) → list_all is_name_byte (names t) ≡ true
 names_all [] = refl
 names_all (b ∷ bs) = all_by is_name_byte (is_name_byte b) b (names bs) refl (names_all bs)
 
+-- ---- the digits at the front
+
 pub digits_parts : (t : List ℕ) → digits t ++ after_digits t ≡ t
 digits_parts [] = refl
 digits_parts (b ∷ bs) = let rest = digits_parts bs in grind arith
@@ -45,6 +49,8 @@ digits_parts (b ∷ bs) = let rest = digits_parts bs in grind arith
 pub digits_all : (t : List ℕ) → list_all is_digit (digits t) ≡ true
 digits_all [] = refl
 digits_all (b ∷ bs) = all_by is_digit (is_digit b) b (digits bs) refl (digits_all bs)
+
+-- ---- the first token
 
 -- a letter and a run of name bytes, no longer than a name
 pub is_name_run : (b : ℕ) (t : List ℕ) → is_letter b ≡ true → nat_le (length (names t)) 63 ≡ true
@@ -84,15 +90,7 @@ integer_first b t h n lt e =
     (begins_reads (b ∷ t) (leaf (atom (integer (pos (value_after 0 (b ∷ digits t)))))) (after_digits t)
     (inl (integer (pos (value_after 0 (b ∷ digits t))), b ∷ digits t, refl, k, e, p))).reads
 
--- as the code has them
-pub keyword_at : (b : ℕ) (t : List ℕ) → is_letter b ≡ true → length t - length (after_names t) ≤ 63
-    → EndsToken (after_names t)
-    → first (58 ∷ b ∷ t) ≡ got (leaf (atom (keyword (b ∷ take (length t - length (after_names t)) t)))) (after_names t)
-keyword_at b t h l e =
-    let f : take (length t - length (after_names t)) t ≡ names t = names_front t in
-    let n : length (names t) ≡ length t - length (after_names t) = names_length t in
-    let le : nat_le (length (names t)) 63 ≡ true = le-leb (length (names t)) 63 (omega (arith, n)) in
-    keyword_first b t h le e ∙ ap (λ (k : List ℕ). got (leaf (atom (keyword (b ∷ k)))) (after_names t)) (sym f)
+-- ---- as the code has them
 
 all_of : (xs : List ℕ) → take (suc (length xs) - 1) xs ≡ xs
 all_of xs = take_all (suc (length xs) - 1) xs (omega arith)
@@ -101,28 +99,22 @@ pub record IsUsualKeyword (t name rest : List ℕ) : Type 0 where
   pub utf8 : IsUtf8 name
   pub read : first (58 ∷ t) ≡ got (leaf (atom (keyword name))) rest
 
+after_letter : (b : ℕ) (bs : List ℕ) → is_letter b ≡ true → length bs - length (after_names bs) ≤ 63
+    → EndsToken (after_names bs)
+    → IsUsualKeyword (b ∷ bs) (take (length bs - length (after_names bs) + 1) (b ∷ bs)) (after_names bs)
+after_letter b bs h l w =
+    let le : nat_le (length (names bs)) 63 ≡ true = le-leb (length (names bs)) 63 (omega (arith, names_length bs)) in
+    rw (add-one, names_front bs) (record {
+      utf8 = name_utf8 (b ∷ names bs) (is_name_run b bs h le);
+      read = keyword_first b bs h le w;
+    })
+
 pub usual_keyword : (t u r : List ℕ) → 0 < length t → u ≡ take (length t - 1) (drop 1 t) → r ≡ after_names u
     → is_letter (get_or t 0 0) ≡ true → length u - length r ≤ 63 → EndsToken r
     → IsUsualKeyword t (take (length u - length r + 1) t) r
 usual_keyword [] u r some q e h l w = absurd (omega arith)
 usual_keyword (b ∷ bs) u r some q e h l w =
-    let i : u ≡ bs = q ∙ all_of bs in
-    let e' : r ≡ after_names bs = e ∙ ap after_names i in
-    let l' : length bs - length (after_names bs) ≤ 63 =
-    subst (λ (x : List ℕ). length bs - length x ≤ 63) e' (subst (λ (x : List ℕ). length x - length r ≤ 63) i l) in
-    let w' : EndsToken (after_names bs) = subst EndsToken e' w in
-    let n : length u - length r ≡ length bs - length (after_names bs) =
-    ap (λ (x : List ℕ). length x - length r) i ∙ ap (λ (x : List ℕ). length bs - length x) e' in
-    let k : take (length u - length r + 1) (b ∷ bs) ≡ b ∷ take (length bs - length (after_names bs)) bs =
-    rw (n, add-one) refl in
-    let f : take (length bs - length (after_names bs)) bs ≡ names bs = names_front bs in
-    let le : nat_le (length (names bs)) 63 ≡ true = le-leb (length (names bs)) 63 (omega (arith, names_length bs)) in
-    record {
-      utf8 = subst IsUtf8 (ap (λ (x : List ℕ). b ∷ x) (sym f) ∙ sym k)
-          (name_utf8 (b ∷ names bs) (is_name_run b bs h le));
-      read = keyword_at b bs h l' w' ∙ ap (λ (x : List ℕ). got (leaf (atom (keyword x))) (after_names bs)) (sym k)
-          ∙ ap (got (leaf (atom (keyword (take (length u - length r + 1) (b ∷ bs)))))) (sym e');
-    }
+    let i : u ≡ bs = q ∙ all_of bs in rw (e, i) (after_letter b bs h (rw (e, i) at l) (rw (e, i) at w))
 
 pub integer_at : (t : List ℕ) → is_digit (get_or t 0 0) ≡ true → (get_or t 0 0 ≡ 48 → ⊥) → 0 < length t
     → value_after 0 (digits t) < 2 ^ 63 → EndsToken (after_digits t)

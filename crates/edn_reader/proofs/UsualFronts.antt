@@ -1,7 +1,7 @@
 -- A text that begins as usual texts do begins with these tokens: a word, a space, a key and its value. By comparing
 -- it byte by byte.
 use Rattle.std.proofs.Common.{◌≡◌, ℕ, ◌-◌, ◌<◌, ◌≤◌, ◌⊎◌, inl, inr, true, List, [], ◌∷◌, ◌++◌, length, take, drop}
-use Rattle.std.proofs.Common.{get_or, refl, sym, ap, subst, ◌∙◌, arith}
+use Rattle.std.proofs.Common.{get_or, refl, sym, ap, subst, arith}
 use Rattle.std.specs.Prelude.{pos}
 use Rattle.std.proofs.lemmas.List.{take_all}
 use Rattle.edn_reader.specs.Bytes.{is_separator, is_token_byte, is_name}
@@ -19,15 +19,14 @@ pub head_is : (t : List ℕ) (a : ℕ) → 0 < length t → get_or t 0 0 ≡ a �
 head_is [] a l h = absurd (omega arith)
 head_is (b ∷ bs) a l h =
     let q : b ≡ a = h in
-    ap (λ (x : ℕ). x ∷ bs) q ∙ ap (λ (x : List ℕ). a ∷ x) (sym (take_all (length (b ∷ bs) - 1) bs (omega arith)))
+    rw (q, take_all (length (b ∷ bs) - 1) bs (omega arith)) refl
 
 pub heads_are : (t : List ℕ) (a b : ℕ) → 2 ≤ length t → get_or t 0 0 ≡ a → get_or t 1 0 ≡ b
     → t ≡ a ∷ b ∷ take (length t - 2) (drop 2 t)
 heads_are (x ∷ y ∷ xs) a b l h k =
     let q : x ≡ a = h in
     let r : y ≡ b = k in
-    ap (λ (z : ℕ). z ∷ y ∷ xs) q ∙ ap (λ (z : ℕ). a ∷ z ∷ xs) r
-    ∙ ap (λ (z : List ℕ). a ∷ b ∷ z) (sym (take_all (length (x ∷ y ∷ xs) - 2) xs (omega arith)))
+    rw (q, r, take_all (length (x ∷ y ∷ xs) - 2) xs (omega arith)) refl
 heads_are t a b l h k = absurd (omega arith)
 
 -- ---- a token at the front
