@@ -42,17 +42,17 @@ split_push (y ∷ ds) d (x ∷ earlier) later e q =
       | inr h ↦ inr (h.0, ap (λ z. z ∷ ds) head ∙ ap (λ t. x ∷ t) h.1)
     ]
 
-pub faultless_push : (IsHistoryFormFault : List Datum → Datum → HistoryFaultKind → Type 0) (ds : List Datum) (d : Datum)
-    → AreFaultless IsHistoryFormFault ds
-    → HasNoFault IsHistoryFormFault ds d → AreFaultless IsHistoryFormFault (ds ++ d ∷ [])
-faultless_push IsHistoryFormFault ds d h none earlier later e k q f = elim (split_push ds d earlier later e q) [
+pub faultless_push : (IsFault : List Datum → Datum → HistoryFaultKind → Type 0) (ds : List Datum) (d : Datum)
+    → AreFaultless IsFault ds
+    → HasNoFault IsFault ds d → AreFaultless IsFault (ds ++ d ∷ [])
+faultless_push IsFault ds d h none earlier later e k q f = elim (split_push ds d earlier later e q) [
   | inl s ↦ none k (rw (s.0, s.1) at f)
   | inr s ↦ h earlier s.0 e k s.1 f
 ]
 
-pub nothing_faulty : (IsHistoryFormFault : List Datum → Datum → HistoryFaultKind → Type 0)
-    → AreFaultless IsHistoryFormFault []
-nothing_faulty IsHistoryFormFault earlier later d k e f = no_split earlier e
+pub nothing_faulty : (IsFault : List Datum → Datum → HistoryFaultKind → Type 0)
+    → AreFaultless IsFault []
+nothing_faulty IsFault earlier later d k e f = no_split earlier e
   where
     no_split : (earlier : List Datum) → [] ≡ earlier ++ d ∷ later → ⊥
     no_split [] e = cc
