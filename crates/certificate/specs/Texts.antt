@@ -1,10 +1,7 @@
 -- What is wrong with a text of certificates, and how far it is read.
 use Rattle.std.specs.Prelude.{◌≡◌, ◌≢◌, ℕ, Bool, List, Option, Some, None}
 use Rattle.edn_reader.specs.Datum.{Datum}
-use Rattle.edn_reader.specs.Sound as edn_sound
-use Rattle.edn_reader.specs.Sound.{IsShort, IsUnreadable}
-use Rattle.edn_reader.specs.Spells.{Spells}
-use Rattle.edn_reader.specs.declared.fault.FaultKind.TheVariants as edn_kind
+use Rattle.edn_reader.specs.Sound.{IsReadingFault, SpellsWithFault}
 use Rattle.certificate.specs.declared.Certificate.{Certificate}
 use Rattle.certificate.specs.declared.fault.CertFault.{CertFault}
 use Rattle.certificate.specs.declared.fault.CertFaultKind.TheVariants.{NoMemory}
@@ -23,11 +20,8 @@ IsCertFaultIn ds f = (f.kind ≢ NoMemory → IsFirstFault ds f)
 -- The text is unreadable, or an allocation failed for a token; or it is short and spells forms in
 -- which this was found.
 abbrev pub IsCertTextFault : List ℕ → CertTextFault → Type 0
-IsCertTextFault text (Text e) =
-    (e.kind ≢ edn_kind.NoMemory → IsUnreadable text e)
-    × (e.kind ≡ edn_kind.NoMemory → IsShort text × edn_sound.IsSoundAt e.place text)
-IsCertTextFault text (Forms f) = IsShort text × (ds : List Datum) × Spells ds text
-    × IsCertFaultIn ds f
+IsCertTextFault text (Text e) = IsReadingFault text e
+IsCertTextFault text (Forms f) = SpellsWithFault IsCertFaultIn text f
 
 -- ---- the elements so far
 

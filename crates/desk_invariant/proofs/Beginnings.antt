@@ -70,8 +70,8 @@ makers_made clients vs us id v l new is at role made new_role number low known k
 
 module _ {S O R : Type 0} (content : S → Content) (op_in : O → AnyOp) (reply_in : R → AnyReply) (kinds : List Kind)
     (clients quota : ℕ) where
-  abbrev K : State (Slot S O R) DeskView → Type 0
-  K = Rule content op_in reply_in kinds clients quota
+  abbrev DeskRule : State (Slot S O R) DeskView → Type 0
+  DeskRule = Rule content op_in reply_in kinds clients quota
 
   -- ---- the first state
 
@@ -82,7 +82,7 @@ module _ {S O R : Type 0} (content : S → Content) (op_in : O → AnyOp) (reply
       → (k : Core S O R) × (get_elem? slots x ≡ some (slot.Core k))
       × CoreFits content op_in reply_in (kind_at kinds x) (get_elem? lists x) k [])
       → ((i : ℕ) → 16 ≤ i → i < 80 → get_elem? slots i ≡ some slot.Nothing)
-      → K (opening words slots (first_maker kinds lists))
+      → DeskRule (opening words slots (first_maker kinds lists))
   opening_keeps_rule lists words slots few people small wide zeros deep cores others = record {
     world = initial_world;
     seat_of = λ _. 0;
@@ -126,7 +126,7 @@ module _ {S O R : Type 0} (content : S → Content) (op_in : O → AnyOp) (reply
   -- ---- making a client
 
   pub making_keeps_rule : (id : ℕ) (v : DeskView) → v.role ≡ role.Maker → v.made < clients
-      → Splits K id v (after_making v) (new_client v.kinds v.lists v.made)
+      → Splits DeskRule id v (after_making v) (new_client v.kinds v.lists v.made)
   making_keeps_rule id v is low s k at =
       let w : World = k.world in let c : ℕ = v.made in let l : DeskView = after_making v in
       let new : DeskView = new_client v.kinds v.lists c in let here : ℕ = length (set s.views id l) in
@@ -193,7 +193,7 @@ module _ {S O R : Type 0} (content : S → Content) (op_in : O → AnyOp) (reply
 
   pub begin_keeps_rule : (slots id c : ℕ) (m : Me (Slot S O R) DeskView) → m.0.role ≡ role.Client → m.0.number ≡ c
       → c < 32 → m.0.own ≡ own.Absent → m.0.held ≡ held.Free → m.0.ended ≡ false
-      → Allows K slots id m (row_place c) (λ f. f)
+      → Allows DeskRule slots id m (row_place c) (λ f. f)
       (play.begins content op_in reply_in (step slots (row_place c) 0 0 maybe.none) m)
   begin_keeps_rule slots id c m cl number low is free going s k deep at small =
       let w : World = k.world in

@@ -115,8 +115,8 @@ covers_own kinds w c v o is ok x =
 
 module _ {S O R : Type 0} (content : S → Content) (op_in : O → AnyOp) (reply_in : R → AnyReply) (kinds : List Kind)
     (clients quota : ℕ) where
-  abbrev K : State (Slot S O R) DeskView → Type 0
-  K = Rule content op_in reply_in kinds clients quota
+  abbrev DeskRule : State (Slot S O R) DeskView → Type 0
+  DeskRule = Rule content op_in reply_in kinds clients quota
 
   abbrev request_carried : Request O → List (ℕ × Slot S O R) → Request O
   request_carried d ((i, slot.Request q) ∷ ys) = q
@@ -125,7 +125,7 @@ module _ {S O R : Type 0} (content : S → Content) (op_in : O → AnyOp) (reply
   -- ---- drawing the ticket of a call
 
   -- the clock goes on by one
-  pub more_by_one : (s : State (Slot S O R) DeskView) (k : K s)
+  pub more_by_one : (s : State (Slot S O R) DeskView) (k : DeskRule s)
       → (get_or s.words clock_place 0 + 1) % 2 ^ 64 ≡ k.world.clock + 1
   more_by_one s k = let low = clock_low kinds quota k.world k.few_calls k.sound in let is = k.tied.clock in omega arith
 
@@ -133,9 +133,9 @@ module _ {S O R : Type 0} (content : S → Content) (op_in : O → AnyOp) (reply
   draws_where : (slots id i : ℕ) (m : Me (Slot S O R) DeskView) (p : Request O) (tl : List (ℕ × Slot S O R))
       → m.0.role ≡ role.Client
       → m.0.own ≡ own.Idle → m.0.ended ≡ false → m.1 ≡ (i, slot.Request p) ∷ tl
-      → ((s : State (Slot S O R) DeskView) → K s → get_elem? s.views id ≡ some m.0 → p.object < length kinds)
+      → ((s : State (Slot S O R) DeskView) → DeskRule s → get_elem? s.views id ≡ some m.0 → p.object < length kinds)
       → kind_of (op_in p.op) ≡ kind_at kinds p.object → length m.0.done < quota
-      → Allows K slots id m clock_place (λ x. (x + 1) % 2 ^ 64)
+      → Allows DeskRule slots id m clock_place (λ x. (x + 1) % 2 ^ 64)
       (play.draws content op_in reply_in (step slots clock_place 1 0 maybe.none) m)
   draws_where slots id i m p tl cl is going carried on fits few s k deep at small =
       let w : World = k.world in let c : ℕ = m.0.number in let ok = mine k id cl at in
@@ -178,7 +178,7 @@ module _ {S O R : Type 0} (content : S → Content) (op_in : O → AnyOp) (reply
       → m.0.role ≡ role.Client
       → m.0.own ≡ own.Idle → m.0.ended ≡ false → m.1 ≡ (i, slot.Request p) ∷ tl
       → p.object < length kinds → kind_of (op_in p.op) ≡ kind_at kinds p.object → length m.0.done < quota
-      → Allows K slots id m clock_place (λ x. (x + 1) % 2 ^ 64)
+      → Allows DeskRule slots id m clock_place (λ x. (x + 1) % 2 ^ 64)
       (play.draws content op_in reply_in (step slots clock_place 1 0 maybe.none) m)
   draw_keeps_rule slots id i m p tl cl is going carried on fits few =
       draws_where slots id i m p tl cl is going carried (λ s k at. on) fits few
@@ -195,7 +195,7 @@ module _ {S O R : Type 0} (content : S → Content) (op_in : O → AnyOp) (reply
       (tl : List (ℕ × Slot S O R))
       → m.0.role ≡ role.Client → m.0.number ≡ j → m.0.own ≡ own.Drawn q → m.0.held ≡ held.Free
       → request_in op_in p ≡ q → n ≡ 1 + q.object → m.1 ≡ (16 + j, slot.Request p) ∷ tl
-      → Allows K slots id m (row_place j) (λ _. n)
+      → Allows DeskRule slots id m (row_place j) (λ _. n)
       (λ _. play.posts content op_in reply_in (step slots (row_place j) n 0 maybe.none) m n)
   post_keeps_rule slots id c n m q p tl cl number is free same word carried s k deep at small =
       let w : World = k.world in
@@ -251,7 +251,7 @@ module _ {S O R : Type 0} (content : S → Content) (op_in : O → AnyOp) (reply
 
   pub look_for_answer_keeps_rule : (slots id j : ℕ) (m : Me (Slot S O R) DeskView) → m.0.role ≡ role.Client
       → m.0.number ≡ j → j < 32
-      → Allows K slots id m (row_place j) (λ f. f)
+      → Allows DeskRule slots id m (row_place j) (λ f. f)
       (play.looks_for_answer content op_in reply_in (step slots (row_place j) 0 0 maybe.none) m)
   look_for_answer_keeps_rule slots id c m cl number few s k deep at small =
       let w : World = k.world in
@@ -279,7 +279,7 @@ module _ {S O R : Type 0} (content : S → Content) (op_in : O → AnyOp) (reply
   pub take_keeps_rule : (slots id j : ℕ) (m : Me (Slot S O R) DeskView) (q : AnyRequest) → m.0.role ≡ role.Client
       → m.0.number ≡ j
       → m.0.own ≡ own.Waiting q → m.0.held ≡ held.Free → q.object < 16 → j < 32
-      → Allows K slots id m (row_place j) (λ f. either (eqb f 33) 0 f)
+      → Allows DeskRule slots id m (row_place j) (λ f. either (eqb f 33) 0 f)
       (play.takes_answer content op_in reply_in (step slots (row_place j) 33 0 maybe.none) m)
   take_keeps_rule slots id c m q cl number is free low few s k deep at small =
       let w : World = k.world in
@@ -362,7 +362,7 @@ module _ {S O R : Type 0} (content : S → Content) (op_in : O → AnyOp) (reply
 
   pub return_keeps_rule : (slots id : ℕ) (m : Me (Slot S O R) DeskView) (q : AnyRequest) (a : AnyAnswer)
       → m.0.role ≡ role.Client → m.0.own ≡ own.Taken q a → m.0.held ≡ held.Free → m.0.ended ≡ false
-      → Allows K slots id m clock_place (λ x. (x + 1) % 2 ^ 64)
+      → Allows DeskRule slots id m clock_place (λ x. (x + 1) % 2 ^ 64)
       (play.returns content op_in reply_in (step slots clock_place 1 0 maybe.none) m)
   return_keeps_rule slots id m q a cl is free going s k deep at small =
       let w : World = k.world in let c : ℕ = m.0.number in let ok = mine k id cl at in

@@ -60,14 +60,14 @@ has_come o t calm is gone = grind arith
 
 module _ {S O R : Type 0} (content : S → Content) (op_in : O → AnyOp) (reply_in : R → AnyReply) (kinds : List Kind)
     (clients quota : ℕ) where
-  abbrev K : State (Slot S O R) DeskView → Type 0
-  K = Rule content op_in reply_in kinds clients quota
+  abbrev DeskRule : State (Slot S O R) DeskView → Type 0
+  DeskRule = Rule content op_in reply_in kinds clients quota
 
   pub end_keeps_rule : (slots id c : ℕ) (m : Me (Slot S O R) DeskView) (j : Journal O R) (tl : List (ℕ × Slot S O R))
       → m.0.role ≡ role.Client
       → m.0.number ≡ c → IsAtRest m.0.own → m.0.held ≡ held.Free
       → map (event_in op_in reply_in) j.events.items ≡ journal m.0 → m.1 ≡ (48 + c, slot.Journal j) ∷ tl
-      → Allows K slots id m (end_place c) (λ _. 1)
+      → Allows DeskRule slots id m (end_place c) (λ _. 1)
       (λ _. play.ends content op_in reply_in (step slots (end_place c) 1 0 maybe.none) m 1)
   end_keeps_rule slots id c m j tl cl number calm free says carried s k deep at small =
       let w : World = k.world in
@@ -95,7 +95,7 @@ module _ {S O R : Type 0} (content : S → Content) (op_in : O → AnyOp) (reply
       )
 
   pub look_at_end_keeps_rule : (slots id d : ℕ) (m : Me (Slot S O R) DeskView) → m.0.role ≡ role.Client → d < 32
-      → Allows K slots id m (end_place d) (λ f. f)
+      → Allows DeskRule slots id m (end_place d) (λ f. f)
       (play.sees_end content op_in reply_in (step slots (end_place d) 0 0 maybe.none) m)
   look_at_end_keeps_rule slots id d m cl low s k deep at small = let w : World = k.world in let ok = mine k id cl at in
       let word = k.tied.ends d low in dite (ℕ_discrete (get_or s.words (end_place d) 0) 1)

@@ -72,13 +72,14 @@ seat_held kinds w c x h v o bs n in_rows ok now = assumption
 
 module _ {S O R : Type 0} (content : S → Content) (op_in : O → AnyOp) (reply_in : R → AnyReply) (kinds : List Kind)
     (clients quota : ℕ) where
-  abbrev K : State (Slot S O R) DeskView → Type 0
-  K = Rule content op_in reply_in kinds clients quota
+  abbrev DeskRule : State (Slot S O R) DeskView → Type 0
+  DeskRule = Rule content op_in reply_in kinds clients quota
 
   -- ---- looking at a lock, and winning the object
 
   pub look_at_lock_keeps_rule : (slots id x : ℕ) (m : Me (Slot S O R) DeskView) → m.0.role ≡ role.Client
-      → Allows K slots id m x (λ f. f) (play.looks_at_lock content op_in reply_in (step slots x 0 0 maybe.none) m)
+      → Allows DeskRule slots id m x (λ f. f) (play.looks_at_lock content op_in reply_in
+      (step slots x 0 0 maybe.none) m)
   look_at_lock_keeps_rule slots id x m cl s k deep at small = dite (ℕ_discrete (get_or s.words x 0) 0)
       (λ hit. (
         m.0,
@@ -96,7 +97,7 @@ module _ {S O R : Type 0} (content : S → Content) (op_in : O → AnyOp) (reply
 
   pub win_keeps_rule : (slots id x n : ℕ) (m : Me (Slot S O R) DeskView) → m.0.role ≡ role.Client → x < length kinds
       → n ≡ 1 + m.0.number → m.0.held ≡ held.Free → m.0.ended ≡ false
-      → Allows K slots id m x (λ f. either (eqb f 0) n f)
+      → Allows DeskRule slots id m x (λ f. either (eqb f 0) n f)
       (play.wins content op_in reply_in (step slots x 0 n maybe.none) m)
   win_keeps_rule slots id x n m cl inside is free going s k deep at small = dite (ℕ_discrete (get_or s.words x 0) 0)
       -- the lock is free: the client wins the object
@@ -164,7 +165,8 @@ module _ {S O R : Type 0} (content : S → Content) (op_in : O → AnyOp) (reply
       (tl : List (ℕ × Slot S O R))
       → m.0.role ≡ role.Client → m.0.held ≡ held.Pass x l → m.1 ≡ (x, slot.Core k) ∷ tl
       → CoreFits content op_in reply_in (kind_at m.0.kinds x) (get_elem? m.0.lists x) k l → IsAtRest m.0.own
-      → Allows K slots id m x (λ _. 0) (λ _. play.releases content op_in reply_in (step slots x 0 0 maybe.none) m 0)
+      → Allows DeskRule slots id m x (λ _. 0) (λ _. play.releases content op_in reply_in (step slots x 0 0 maybe.none)
+      m 0)
   release_keeps_rule slots id x m l core tl cl pass carried fits calm s k deep at small =
       let w : World = k.world in let c : ℕ = m.0.number in let ok = mine k id cl at in let few = k.tied.objects in
       let h = subst (HeldAgrees (length kinds) w c) pass ok.held in let v' : DeskView = after_release x l m.0 in

@@ -23,17 +23,17 @@ use Rattle.desk_invariant.proofs.Messages.{message_ok, sending_keeps_rule, recei
 
 module _ {S O R : Type 0} (content : S → Content) (op_in : O → AnyOp) (reply_in : R → AnyReply) (kinds : List Kind)
     (clients quota : ℕ) where
-  abbrev K : State (Slot S O R) DeskView → Type 0
-  K = Rule content op_in reply_in kinds clients quota
+  abbrev DeskRule : State (Slot S O R) DeskView → Type 0
+  DeskRule = Rule content op_in reply_in kinds clients quota
 
-  pub seen_message_keeps_rule : (id : ℕ) (v : DeskView) → Splits K id v v (seen_message v)
+  pub seen_message_keeps_rule : (id : ℕ) (v : DeskView) → Splits DeskRule id v v (seen_message v)
   seen_message_keeps_rule id v =
       sending_keeps_rule content op_in reply_in kinds clients quota id v (seen_message v) refl
       (λ s k at j. message_ok kinds k.lists k.world k.seat_of j (seen_message v) refl (k.seats id v at).seen
       (λ x. (k.world.log x, refl)) (All-nil (HasLeft k.world)))
 
   pub message_keeps_rule : (id : ℕ) (v : DeskView) (other : ℕ) (t : DeskView)
-      → Joins K id v other t (after_message v t) empty_message
+      → Joins DeskRule id v other t (after_message v t) empty_message
   message_keeps_rule id v other t =
       receiving_keeps_rule content op_in reply_in kinds clients quota id v (after_message v t) other t refl refl refl
       (λ s k at there. let old = k.seats id v at in let client : v.role ≡ role.Client
@@ -42,7 +42,7 @@ module _ {S O R : Type 0} (content : S → Content) (op_in : O → AnyOp) (reply
 
   pub learn_keeps_rule : (slots id x : ℕ) (m : Me (Slot S O R) DeskView) → m.0.role ≡ role.Client → x < 16
       → IsAtRest m.0.own
-      → Allows K slots id m x (λ f. f) (play.learns content op_in reply_in (step slots x 0 0 maybe.none) m)
+      → Allows DeskRule slots id m x (λ f. f) (play.learns content op_in reply_in (step slots x 0 0 maybe.none) m)
   learn_keeps_rule slots id x m cl low calm s k deep at small =
       let w : World = k.world in let c : ℕ = m.0.number in
       let ok = mine k id cl at in let l : List AnyEntry = w.log x in
@@ -64,7 +64,7 @@ module _ {S O R : Type 0} (content : S → Content) (op_in : O → AnyOp) (reply
 
   pub adopt_keeps_rule : (slots id x : ℕ) (m : Me (Slot S O R) DeskView) → m.0.role ≡ role.Client → x < 16
       → StartsWith (received_of m.0 x) (seen_of m.0 x) → IsAtRest m.0.own
-      → Allows K slots id m x (λ f. f) (play.adopts content op_in reply_in (step slots x 0 0 maybe.none) m)
+      → Allows DeskRule slots id m x (λ f. f) (play.adopts content op_in reply_in (step slots x 0 0 maybe.none) m)
   adopt_keeps_rule slots id x m cl low later calm s k deep at small =
       let w : World = k.world in let c : ℕ = m.0.number in let ok = mine k id cl at in
       let l : List AnyEntry = received_of m.0 x in

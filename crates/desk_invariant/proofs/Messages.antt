@@ -58,13 +58,13 @@ empty_message_ok kinds lists w so j =
 
 module _ {S O R : Type 0} (content : S → Content) (op_in : O → AnyOp) (reply_in : R → AnyReply) (kinds : List Kind)
     (clients quota : ℕ) where
-  abbrev K : State (Slot S O R) DeskView → Type 0
-  K = Rule content op_in reply_in kinds clients quota
+  abbrev DeskRule : State (Slot S O R) DeskView → Type 0
+  DeskRule = Rule content op_in reply_in kinds clients quota
 
   -- the same world, with other views
-  kept_views : (s : State (Slot S O R) DeskView) (k : K s) (vs : List DeskView)
+  kept_views : (s : State (Slot S O R) DeskView) (k : DeskRule s) (vs : List DeskView)
       → ((j : ℕ) (u : DeskView) → get_elem? vs j ≡ some u → ViewAgrees kinds k.lists k.world k.seat_of j u)
-      → Makers clients vs → K record { words = s.words; homes = s.homes; views = vs }
+      → Makers clients vs → DeskRule record { words = s.words; homes = s.homes; views = vs }
   kept_views s k vs seats makers = record {
     world = k.world;
     seat_of = k.seat_of;
@@ -81,10 +81,10 @@ module _ {S O R : Type 0} (content : S → Content) (op_in : O → AnyOp) (reply
 
   -- a message b more
   pub sending_keeps_rule : (id : ℕ) (v b : DeskView) → b.role ≡ role.Message
-      → ((s : State (Slot S O R) DeskView) (k : K s) → get_elem? s.views id ≡ some v → (j : ℕ)
-      → ViewAgrees kinds k.lists k.world k.seat_of j b) → Splits K id v v b
+      → ((s : State (Slot S O R) DeskView) (k : DeskRule s) → get_elem? s.views id ≡ some v → (j : ℕ)
+      → ViewAgrees kinds k.lists k.world k.seat_of j b) → Splits DeskRule id v v b
   sending_keeps_rule id v b idle ok s k at =
-      subst (λ (z : List DeskView). K record { words = s.words; homes = s.homes; views = z ++ b ∷ [] })
+      subst (λ (z : List DeskView). DeskRule record { words = s.words; homes = s.homes; views = z ++ b ∷ [] })
       (sym (set_again s.views id v at))
       (kept_views s k (s.views ++ b ∷ []) (λ j u e. elim (at_end s.views b u j e) [
         | inl old ↦ k.seats j u old
@@ -94,8 +94,9 @@ module _ {S O R : Type 0} (content : S → Content) (op_in : O → AnyOp) (reply
   -- the view v takes in the message t, which is spent, and becomes v'
   pub receiving_keeps_rule : (id : ℕ) (v v' : DeskView) (other : ℕ) (t : DeskView) → v'.role ≡ v.role
       → v'.number ≡ v.number → v'.made ≡ v.made
-      → ((s : State (Slot S O R) DeskView) (k : K s) → get_elem? s.views id ≡ some v → get_elem? s.views other ≡ some t
-      → ViewAgrees kinds k.lists k.world k.seat_of id v') → Joins K id v other t v' empty_message
+      → ((s : State (Slot S O R) DeskView) (k : DeskRule s) → get_elem? s.views id ≡ some v → get_elem? s.views other
+      ≡ some t
+      → ViewAgrees kinds k.lists k.world k.seat_of id v') → Joins DeskRule id v other t v' empty_message
   receiving_keeps_rule id v v' other t alike number made ok s k at apart there =
       let mid : List DeskView = set s.views id v' in
       kept_views s k (set mid other empty_message) (λ j u e. elim (at_set mid other j empty_message u e) [

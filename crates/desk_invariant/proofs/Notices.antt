@@ -19,11 +19,11 @@ use Rattle.desk_invariant.proofs.Messages.{message_ok, nothing_seen, sending_kee
 
 module _ {S O R : Type 0} (content : S → Content) (op_in : O → AnyOp) (reply_in : R → AnyReply) (kinds : List Kind)
     (clients quota : ℕ) where
-  abbrev K : State (Slot S O R) DeskView → Type 0
-  K = Rule content op_in reply_in kinds clients quota
+  abbrev DeskRule : State (Slot S O R) DeskView → Type 0
+  DeskRule = Rule content op_in reply_in kinds clients quota
 
   pub end_message_keeps_rule : (id : ℕ) (v : DeskView) → v.role ≡ role.Client → v.ended ≡ true
-      → Splits K id v v (end_message v)
+      → Splits DeskRule id v v (end_message v)
   end_message_keeps_rule id v cl over =
       sending_keeps_rule content op_in reply_in kinds clients quota id v (end_message v) refl
       (λ s k at j. let ok = mine k id cl at in
@@ -34,7 +34,7 @@ module _ {S O R : Type 0} (content : S → Content) (op_in : O → AnyOp) (reply
       (All-nil (HasLeft k.world))))
 
   pub notice_keeps_rule : (id : ℕ) (v : DeskView) (other : ℕ) (t : DeskView)
-      → Joins K id v other t (after_notice t.left v) empty_message
+      → Joins DeskRule id v other t (after_notice t.left v) empty_message
   notice_keeps_rule id v other t =
       receiving_keeps_rule content op_in reply_in kinds clients quota id v
       (after_notice t.left v) other t refl refl refl (λ s k at there. let old = k.seats id v at in

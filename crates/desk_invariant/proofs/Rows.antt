@@ -162,8 +162,8 @@ noting_ok kinds quota c x r w v l pass k miss ok =
 
 module _ {S O R : Type 0} (content : S → Content) (op_in : O → AnyOp) (reply_in : R → AnyReply) (kinds : List Kind)
     (clients quota : ℕ) where
-  abbrev K : State (Slot S O R) DeskView → Type 0
-  K = Rule content op_in reply_in kinds clients quota
+  abbrev DeskRule : State (Slot S O R) DeskView → Type 0
+  DeskRule = Rule content op_in reply_in kinds clients quota
 
   abbrev held_row : Held → ℕ
   held_row (held.Hand x l r q) = r
@@ -191,7 +191,7 @@ module _ {S O R : Type 0} (content : S → Content) (op_in : O → AnyOp) (reply
 
   pub look_at_row_keeps_rule : (slots id x r : ℕ) (m : Me (Slot S O R) DeskView) (l : List AnyEntry)
       → m.0.role ≡ role.Client → r < 32 → m.0.held ≡ held.Pass x l
-      → Allows K slots id m (row_place r) (λ f. f)
+      → Allows DeskRule slots id m (row_place r) (λ f. f)
       (play.looks_at_row content op_in reply_in (step slots (row_place r) 0 0 maybe.none) m)
   look_at_row_keeps_rule slots id x r m l cl inside pass s k deep at small =
       let w : World = k.world in let c : ℕ = m.0.number in let ok = mine k id cl at in
@@ -219,7 +219,7 @@ module _ {S O R : Type 0} (content : S → Content) (op_in : O → AnyOp) (reply
 
   pub pick_keeps_rule : (slots id x r : ℕ) (m : Me (Slot S O R) DeskView) (l : List AnyEntry) → m.0.role ≡ role.Client
       → r < 32 → m.0.held ≡ held.Pass x l
-      → Allows K slots id m (row_place r) (λ f. either (eqb f (1 + x)) (17 + x) f)
+      → Allows DeskRule slots id m (row_place r) (λ f. either (eqb f (1 + x)) (17 + x) f)
       (play.picks content op_in reply_in (step slots (row_place r) (1 + x) (17 + x) maybe.none) m)
   pick_keeps_rule slots id x r m l cl inside pass s k deep at small =
       let w : World = k.world in let c : ℕ = m.0.number in let ok = mine k id cl at in
@@ -302,7 +302,7 @@ module _ {S O R : Type 0} (content : S → Content) (op_in : O → AnyOp) (reply
       (p : Request O)
       (tl : List (ℕ × Slot S O R)) → m.0.role ≡ role.Client → m.0.held ≡ held.Hand x l r q
       → m.1 ≡ (16 + r, slot.Request p) ∷ tl → request_in op_in p ≡ q → q.object ≡ x → n ≡ 1 + x
-      → Allows K slots id m (row_place r) (λ _. n)
+      → Allows DeskRule slots id m (row_place r) (λ _. n)
       (λ _. play.puts_back content op_in reply_in (step slots (row_place r) n 0 maybe.none) m n)
   put_back_keeps_rule slots id x r n m l q p tl cl hand carried is on word s k deep at small =
       let w : World = k.world in let c : ℕ = m.0.number in let ok = mine k id cl at in let h =
@@ -382,7 +382,7 @@ module _ {S O R : Type 0} (content : S → Content) (op_in : O → AnyOp) (reply
       (tl : List (ℕ × Slot S O R)) → m.0.role ≡ role.Client → m.0.held ≡ held.Hand x l r q
       → m.1 ≡ (16 + r, slot.Answer b) ∷ tl → q.object ≡ x
       → IsLegalLog (kind_at m.0.kinds x) (l ++ logged r q (answer_in reply_in b))
-      → Allows K slots id m (row_place r) (λ _. 33)
+      → Allows DeskRule slots id m (row_place r) (λ _. 33)
       (λ _. play.answers content op_in reply_in (step slots (row_place r) 33 0 maybe.none) m 33)
   answer_keeps_rule slots id x r m l q b tl cl hand carried on legal s k deep at small =
       let w : World = k.world in let c : ℕ = m.0.number in let ok = mine k id cl at in

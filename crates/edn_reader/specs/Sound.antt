@@ -47,3 +47,15 @@ pub record IsUnreadable (text : List ℕ) (e : EdnFault) : Type 0 where
   pub not_memory : e.kind ≢ NoMemory
   pub too_long : (e.kind ≡ TooLong) ↔ (max_length < length text)
   pub nothing : e.kind ≢ TooLong → (ds : List Datum) → Spells ds text → ⊥
+
+-- What stops the reading of a text before its forms are known: the text is unreadable; or an
+-- allocation failed, and nothing is wrong up to the token at that place and with it.
+abbrev pub IsReadingFault : List ℕ → EdnFault → Type 0
+IsReadingFault text e =
+    (e.kind ≢ NoMemory → IsUnreadable text e)
+    × (e.kind ≡ NoMemory → IsShort text × IsSoundAt e.place text)
+
+-- The text is not too long, and spells forms in which this was found.
+abbrev pub SpellsWithFault : {F : Type 0} → (List Datum → F → Type 0) → List ℕ → F → Type 0
+SpellsWithFault IsFaultIn text fault =
+    IsShort text × (ds : List Datum) × Spells ds text × IsFaultIn ds fault

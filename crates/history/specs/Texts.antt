@@ -1,9 +1,8 @@
 -- What is wrong with a history's text, and how far it is read.
 use Rattle.std.specs.Prelude.{◌≡◌, ◌≢◌, ℕ, ◌+◌, ◌<◌, ◌⊎◌, List, length, take, Option, Some, None}
 use Rattle.edn_reader.specs.Datum.{Datum}
-use Rattle.edn_reader.specs.Sound.{IsShort, IsSoundAt, IsUnreadable}
+use Rattle.edn_reader.specs.Sound.{IsReadingFault, IsShort, IsSoundAt, SpellsWithFault}
 use Rattle.edn_reader.specs.Spells.{Spells}
-use Rattle.edn_reader.specs.declared.fault.FaultKind.TheVariants as edn_kind
 use Rattle.events.specs.declared.event.Event.{Event}
 use Rattle.history.specs.declared.seen.Seen.{Seen}
 use Rattle.history.specs.declared.fault.HistoryFault.{HistoryFault}
@@ -34,11 +33,8 @@ IsHistoryFaultIn ds f =
 -- The text is unreadable, or an allocation failed for a token; or it is short and spells forms in
 -- which this was found.
 abbrev pub IsHistoryTextFault : List ℕ → TextFault → Type 0
-IsHistoryTextFault text (Text e) =
-    (e.kind ≢ edn_kind.NoMemory → IsUnreadable text e)
-    × (e.kind ≡ edn_kind.NoMemory → IsShort text × IsSoundAt e.place text)
-IsHistoryTextFault text (Maps f) = IsShort text × (ds : List Datum) × Spells ds text
-    × IsHistoryFaultIn ds f
+IsHistoryTextFault text (Text e) = IsReadingFault text e
+IsHistoryTextFault text (Maps f) = SpellsWithFault IsHistoryFaultIn text f
 
 -- ---- the maps so far
 

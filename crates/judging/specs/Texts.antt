@@ -2,7 +2,7 @@
 -- nothing.
 use Rattle.std.specs.Prelude.{◌≡◌, ◌≢◌, ℕ, ◌⊎◌, List, map, Result, IfOk, IfErr}
 use Rattle.edn_reader.specs.Datum.{Datum}
-use Rattle.edn_reader.specs.Sound.{IsShort, IsSoundAt, IsUnreadable}
+use Rattle.edn_reader.specs.Sound.{IsShort, IsSoundAt, IsUnreadable, SpellsWithFault}
 use Rattle.edn_reader.specs.Spells.{Spells}
 use Rattle.edn_reader.specs.declared.fault.FaultKind.TheVariants as edn_kind
 use Rattle.history.specs.declared.fault.HistoryFaultKind.TheVariants as history_kind
@@ -72,11 +72,6 @@ IsNoMemory (CertificateForms f) = f.kind ≡ certificate_kind.NoMemory
 abbrev pub IsTextFailureOf : Fault → TextFailure → Type 0
 IsTextFailureOf fault (Faulty f) = (f ≡ fault) × ¬ (IsNoMemory fault)
 IsTextFailureOf fault NoMemory = IsNoMemory fault
-
--- The text is not too long, and spells forms of which this is the first fault.
-abbrev pub SpellsWithFault : {F : Type 0} → (List Datum → F → Type 0) → List ℕ → F → Type 0
-SpellsWithFault IsFirst text fault =
-    IsShort text × (ds : List Datum) × Spells ds text × IsFirst ds fault
 
 -- Nothing is wrong with the text of certificates as far as it was looked at: up to a token and with
 -- it, or, if it spells forms, up to one of them and with it.

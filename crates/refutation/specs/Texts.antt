@@ -1,10 +1,7 @@
 -- What is wrong with a text of reasons.
 use Rattle.std.specs.Prelude.{◌≡◌, ◌≢◌, ℕ, List}
 use Rattle.edn_reader.specs.Datum.{Datum}
-use Rattle.edn_reader.specs.Sound as edn_sound
-use Rattle.edn_reader.specs.Sound.{IsShort, IsUnreadable}
-use Rattle.edn_reader.specs.Spells.{Spells}
-use Rattle.edn_reader.specs.declared.fault.FaultKind.TheVariants as edn_kind
+use Rattle.edn_reader.specs.Sound.{IsReadingFault, SpellsWithFault}
 use Rattle.refutation.specs.Faults.{IsFirstFault, AreReasonsSoundBefore}
 use Rattle.refutation.specs.declared.fault.ReasonFault.{ReasonFault}
 use Rattle.refutation.specs.declared.fault.ReasonFaultKind.TheVariants.{NoMemory}
@@ -19,8 +16,5 @@ IsReasonFaultIn ds f =
 -- The text is unreadable, or an allocation failed for a token; or it is short and spells forms in
 -- which this was found.
 abbrev pub IsReasonTextFault : List ℕ → ReasonTextFault → Type 0
-IsReasonTextFault text (Text e) =
-    (e.kind ≢ edn_kind.NoMemory → IsUnreadable text e)
-    × (e.kind ≡ edn_kind.NoMemory → edn_sound.IsSoundAt e.place text)
-IsReasonTextFault text (Forms f) = IsShort text × (ds : List Datum) × Spells ds text
-    × IsReasonFaultIn ds f
+IsReasonTextFault text (Text e) = IsReadingFault text e
+IsReasonTextFault text (Forms f) = SpellsWithFault IsReasonFaultIn text f

@@ -1,10 +1,7 @@
 -- What is wrong with a text of claims.
 use Rattle.std.specs.Prelude.{◌≡◌, ◌≢◌, ℕ, List}
 use Rattle.edn_reader.specs.Datum.{Datum}
-use Rattle.edn_reader.specs.Sound as edn_sound
-use Rattle.edn_reader.specs.Sound.{IsShort, IsUnreadable}
-use Rattle.edn_reader.specs.Spells.{Spells}
-use Rattle.edn_reader.specs.declared.fault.FaultKind.TheVariants as edn_kind
+use Rattle.edn_reader.specs.Sound.{IsReadingFault, SpellsWithFault}
 use Rattle.verifying.specs.Faults.{IsFirstFault, AreClaimsSoundBefore}
 use Rattle.verifying.specs.declared.fault.ClaimFault.{ClaimFault}
 use Rattle.verifying.specs.declared.fault.ClaimFaultKind.TheVariants.{NoMemory}
@@ -20,8 +17,5 @@ IsClaimFaultIn ds f =
 -- The text is unreadable, or an allocation failed for a token; or it is short and spells forms in
 -- which this was found.
 abbrev pub IsClaimTextFault : List ℕ → ClaimTextFault → Type 0
-IsClaimTextFault text (Text e) =
-    (e.kind ≢ edn_kind.NoMemory → IsUnreadable text e)
-    × (e.kind ≡ edn_kind.NoMemory → edn_sound.IsSoundAt e.place text)
-IsClaimTextFault text (Forms f) = IsShort text × (ds : List Datum) × Spells ds text
-    × IsClaimFaultIn ds f
+IsClaimTextFault text (Text e) = IsReadingFault text e
+IsClaimTextFault text (Forms f) = SpellsWithFault IsClaimFaultIn text f
