@@ -7,7 +7,7 @@ use Rattle.model.specs.declared.Kind.TheVariants.{Queue}
 use Rattle.model.specs.declared.AnyOp.{AnyOp}
 use Rattle.model.specs.Objects.{kind_of}
 use Rattle.seq_objects.specs.declared.kinds.Kinds.{Kinds}
-use Rattle.clients.specs.declared.draws.Draws.{Draws}
+use Rattle.clients.specs.declared.call_numbers.Draws.{Draws}
 use Rattle.clients.specs.Workloads.{WorkCall, IsCall}
 use Rattle.seq_objects.specs.Kinds.{kind_in, kinds_of}
 use Rattle.clients.specs.Drawing.{draws_from, op_for, drawn_calls, pairs_from}

@@ -16,7 +16,7 @@ use Rattle.seq_objects.specs.declared.kinds.Kinds.{Kinds}
 use Rattle.seq_objects.specs.declared.kinds.Kinds.TheVariants.{One}
 use Rattle.seq_objects.specs.Kinds.{kind_in}
 use Rattle.model.specs.Objects.{kind_of}
-use Rattle.clients.specs.declared.draws.Draws.{Draws}
+use Rattle.clients.specs.declared.call_numbers.Draws.{Draws}
 use Rattle.clients.specs.declared.kinds.Operations.{Operations}
 use Rattle.clients.specs.declared.kinds.Operations.TheVariants.{Two, Three, Pair}
 use Rattle.clients.specs.Kinds.{operations_with}

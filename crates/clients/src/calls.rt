@@ -7,7 +7,7 @@ ghost use Rattle.clients.specs.Drawing.{drawn_calls, pairs_from, client_calls, s
 ghost use Rattle.clients.specs.Drawing as spec;
 ghost use Rattle.clients.specs.Workloads.{IsCall};
 
-use crate::draws::{draw, operation};
+use crate::call_numbers::{draw, operation};
 use crate::kinds::{Operations, operations_of};
 use model::AnyOp;
 use rand_pcg::Lcg64Xsh32;

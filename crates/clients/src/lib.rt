@@ -2,16 +2,16 @@
 //! and workloads, drawn from a seed, so that the same words give the same calls.
 #![tactic(auto)]
 
+mod call_numbers;
 mod calls;
-mod drawn;
-mod draws;
 mod kinds;
+mod log_room;
 mod meeting;
-mod room;
 mod run;
-mod work;
+mod seeded_workload;
 mod worker;
+mod workload;
 
-pub use drawn::workload;
 pub use run::{RunFault, run_workers};
-pub use work::Workload;
+pub use seeded_workload::workload;
+pub use workload::Workload;

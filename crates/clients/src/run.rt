@@ -7,8 +7,8 @@ ghost use Rattle.clients.specs.Made.{HasWorked, IsNew, IsDeskFor, IsDone, Closed
 ghost use Rattle.clients.specs.Made.{AreNew};
 
 use crate::Workload;
+use crate::log_room::reserve_logs;
 use crate::meeting::meet_and_retire;
-use crate::room::reserve_logs;
 use crate::worker::work;
 use model::Kind;
 use publication::{Client, Desk, Record};

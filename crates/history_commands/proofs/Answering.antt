@@ -12,10 +12,10 @@ use Rattle.certificate.specs.declared.Certificate.{Certificate}
 use Rattle.certificate.specs.Lines.{certificate_lines}
 use Rattle.certificate.specs.Denotes.{AreDistinct}
 use Rattle.checker.specs.Refusals.{AreValid}
-use Rattle.search.specs.declared.found.Search.{Search}
-use Rattle.search.specs.declared.found.CertificateOutcome.{CertificateOutcome}
-use Rattle.search.specs.declared.found.CertificateOutcome.TheVariants as found
-use Rattle.search.specs.declared.found.CertificateOutcome.TheVariants.{Impossible, OutOfSteps, TooLarge, NoMemory}
+use Rattle.search.specs.declared.certificate_search.Search.{Search}
+use Rattle.search.specs.declared.certificate_search.CertificateOutcome.{CertificateOutcome}
+use Rattle.search.specs.declared.certificate_search.CertificateOutcome.TheVariants as found
+use Rattle.search.specs.declared.certificate_search.CertificateOutcome.TheVariants.{Impossible, OutOfSteps, TooLarge, NoMemory}
 use Rattle.search.specs.Answers.{IsSearchAnswerOn, IsFound, certificate_found, certificates_found}
 use Rattle.history_commands.specs.Searches.{answer_line, outcome_line, finds_impossible, is_found, search_status}
 use Rattle.history_commands.specs.Searches.{AreSearched}

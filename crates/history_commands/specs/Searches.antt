@@ -10,12 +10,12 @@ use Rattle.certificate.specs.declared.Certificate.{Certificate}
 use Rattle.certificate.specs.Denotes.{AreDistinct}
 use Rattle.certificate.specs.Lines.{certificate_lines}
 use Rattle.checker.specs.Refusals.{AreValid}
-use Rattle.search.specs.declared.found.Search.{Search}
-use Rattle.search.specs.declared.found.CertificateOutcome.{CertificateOutcome}
-use Rattle.search.specs.declared.found.CertificateOutcome.TheVariants as found
-use Rattle.search.specs.declared.found.CertificateOutcome.TheVariants.{Impossible, OutOfSteps}
-use Rattle.search.specs.declared.found.CertificateOutcome.TheVariants.{TooLarge}
-use Rattle.search.specs.declared.found.CertificateOutcome.TheVariants.{NoMemory}
+use Rattle.search.specs.declared.certificate_search.Search.{Search}
+use Rattle.search.specs.declared.certificate_search.CertificateOutcome.{CertificateOutcome}
+use Rattle.search.specs.declared.certificate_search.CertificateOutcome.TheVariants as found
+use Rattle.search.specs.declared.certificate_search.CertificateOutcome.TheVariants.{Impossible, OutOfSteps}
+use Rattle.search.specs.declared.certificate_search.CertificateOutcome.TheVariants.{TooLarge}
+use Rattle.search.specs.declared.certificate_search.CertificateOutcome.TheVariants.{NoMemory}
 use Rattle.search.specs.Answers.{IsSearchAnswerOn}
 use Rattle.report.specs.declared.verdict.Verdict.{Verdict}
 use Rattle.report.specs.declared.verdict.Verdict.TheVariants as verdict

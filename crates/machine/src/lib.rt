@@ -5,14 +5,14 @@
 //! Tradeoff", SPAA 2010.
 #![tactic(auto)]
 
-mod looking;
 mod machine;
-mod making;
-mod running;
-mod serving;
+mod many_steps;
+mod new_machine;
+mod object_steps;
+mod queries;
+mod row_steps;
 mod step;
-mod taking;
 
 pub use machine::Machine;
-pub use running::{NoMemoryAt, Ran};
+pub use many_steps::{NoMemoryAt, Ran};
 pub use step::{Outcome, Step, StepFault};

@@ -16,7 +16,7 @@ ghost use Rattle.desk_invariant.specs.Views.{table_slots};
 
 use crate::client::{Client, Place};
 use crate::desk::{Desk, ENDS};
-use crate::making::SLOTS;
+use crate::new_desk::SLOTS;
 use crate::plays::{Ends, SeesEnd, SendsEnd, TakesNotice};
 use desk_invariant::{Journal, Slot};
 use recorder::{JournalEvent, LogEntry, Record};

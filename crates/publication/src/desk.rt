@@ -10,7 +10,7 @@ ghost use Rattle.desk_model.specs.declared.Request.{Request};
 ghost use Rattle.desk_model.specs.Limits.{max_clients};
 
 use crate::client::{Client, Hand, Pass};
-use crate::looking::look_and_exchange;
+use crate::one_try::look_and_exchange;
 use crate::plays::{Draws, LooksAtLock, LooksForAnswer, Posts, Returns, Takes, Wins};
 use atomic_table::Table;
 use desk_invariant::{Core, DeskRule, DeskView, Plan, Slot};

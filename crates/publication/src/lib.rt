@@ -10,12 +10,12 @@
 mod client;
 mod closing;
 mod desk;
-mod looking;
-mod making;
+mod list_walk;
 mod meeting;
+mod new_desk;
+mod one_try;
 mod pass;
 mod plays;
-mod walking;
 
 pub use client::{Client, Hand, Pass};
 pub use closing::{Retired, Unretired};

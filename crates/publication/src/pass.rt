@@ -13,7 +13,7 @@ ghost use Rattle.publication.specs.Calls.{state_after_pick, IfGot, IfNot};
 
 use crate::client::{Client, Hand, Pass};
 use crate::desk::{ANSWERED, CLOCK, Desk, PICKED, POSTED, Picked, ROWS};
-use crate::looking::look_and_exchange;
+use crate::one_try::look_and_exchange;
 use crate::plays::{Answers, LooksAtRow, Picks, PutsBack, Releases};
 use desk_invariant::{BoxedCore, Core, Slot};
 use desk_model::Request;

@@ -12,10 +12,10 @@ use Rattle.events.specs.Events.{kind_of_object, denoted}
 use Rattle.certificate.specs.declared.Certificate.{Certificate}
 use Rattle.checker.proofs.Collected.{Certifies, AreOnAll}
 use Rattle.search.specs.Outcomes.{HasNoValidOrder}
-use Rattle.search.specs.declared.found.Search.{Search}
-use Rattle.search.specs.declared.found.CertificateOutcome.{CertificateOutcome}
-use Rattle.search.specs.declared.found.CertificateOutcome.TheVariants.{Impossible, OutOfSteps, TooLarge, NoMemory}
-use Rattle.search.specs.declared.found.CertificateOutcome.TheVariants as found
+use Rattle.search.specs.declared.certificate_search.Search.{Search}
+use Rattle.search.specs.declared.certificate_search.CertificateOutcome.{CertificateOutcome}
+use Rattle.search.specs.declared.certificate_search.CertificateOutcome.TheVariants.{Impossible, OutOfSteps, TooLarge, NoMemory}
+use Rattle.search.specs.declared.certificate_search.CertificateOutcome.TheVariants as found
 use Rattle.search.specs.Answers.{certificate_found, IfFound, IsCertificateOf, IsSearchAnswer}
 
 -- an answer within this limit

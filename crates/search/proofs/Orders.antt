@@ -17,8 +17,8 @@ use Rattle.model.proofs.Lists.{pairs_from_all, pairs_filter, pairs_weaker, pairs
 use Rattle.events.specs.declared.operations.Invocation.{Invocation}
 use Rattle.events.specs.Operations.{calls_of}
 use Rattle.search.specs.Arranged.{as_call, call_at}
-use Rattle.search.specs.declared.finding.OrderOutcome.{OrderOutcome}
-use Rattle.search.specs.declared.finding.OrderOutcome.TheVariants.{Found}
+use Rattle.search.specs.declared.order_search.OrderOutcome.{OrderOutcome}
+use Rattle.search.specs.declared.order_search.OrderOutcome.TheVariants.{Found}
 use Rattle.search.specs.declared.level.Level.{Level}
 use Rattle.search.specs.Outcomes.{IfFound}
 use Rattle.search.specs.declared.trials.Trials.{Trials}

@@ -9,15 +9,15 @@ use Rattle.events.specs.Events.{kind_of_object, denoted}
 use Rattle.certificate.specs.declared.Certificate.{Certificate}
 use Rattle.search.specs.Outcomes.{max_operations}
 use Rattle.search.specs.Outcomes.{HasNoValidOrder}
-use Rattle.search.specs.declared.finding.OrderSearch.{OrderSearch}
-use Rattle.search.specs.declared.finding.OrderOutcome.{OrderOutcome}
-use Rattle.search.specs.declared.finding.OrderOutcome.TheVariants as outcome
-use Rattle.search.specs.declared.found.Search.{Search}
-use Rattle.search.specs.declared.found.CertificateOutcome.{CertificateOutcome}
-use Rattle.search.specs.declared.found.CertificateOutcome.TheVariants.{Impossible, OutOfSteps}
-use Rattle.search.specs.declared.found.CertificateOutcome.TheVariants.{TooLarge}
-use Rattle.search.specs.declared.found.CertificateOutcome.TheVariants.{NoMemory}
-use Rattle.search.specs.declared.found.CertificateOutcome.TheVariants as found
+use Rattle.search.specs.declared.order_search.OrderSearch.{OrderSearch}
+use Rattle.search.specs.declared.order_search.OrderOutcome.{OrderOutcome}
+use Rattle.search.specs.declared.order_search.OrderOutcome.TheVariants as outcome
+use Rattle.search.specs.declared.certificate_search.Search.{Search}
+use Rattle.search.specs.declared.certificate_search.CertificateOutcome.{CertificateOutcome}
+use Rattle.search.specs.declared.certificate_search.CertificateOutcome.TheVariants.{Impossible, OutOfSteps}
+use Rattle.search.specs.declared.certificate_search.CertificateOutcome.TheVariants.{TooLarge}
+use Rattle.search.specs.declared.certificate_search.CertificateOutcome.TheVariants.{NoMemory}
+use Rattle.search.specs.declared.certificate_search.CertificateOutcome.TheVariants as found
 
 -- the certificate that was found, if there is one
 abbrev pub certificate_found : CertificateOutcome → Option Certificate

@@ -9,7 +9,7 @@ ghost use Rattle.checker.specs.Refusals.{AreValid};
 ghost use Rattle.search.specs.Answers.{IsSearchAnswerOn, IsFound, certificates_found};
 
 use crate::TryFirst;
-use crate::found::{CertificateOutcome, Search};
+use crate::certificate_search::{CertificateOutcome, Search};
 use crate::object::search_by;
 use events::{History, split};
 use locality::linearizable_has_orders;

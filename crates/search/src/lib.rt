@@ -7,15 +7,15 @@
 #![tactic(auto)]
 
 mod all;
+mod certificate_search;
 mod dead;
 mod digest;
-mod finding;
-mod found;
 mod kept;
 mod kinds;
 mod level;
 mod not_done;
 mod object;
+mod order_search;
 mod pairs;
 mod reversible;
 mod step;
@@ -23,10 +23,10 @@ mod trials;
 mod walk;
 
 pub use all::{search_all, search_all_by};
-pub use finding::{OrderOutcome, OrderSearch, find_order, find_order_of_any_size};
-pub use found::{CertificateOutcome, Search};
+pub use certificate_search::{CertificateOutcome, Search};
 pub use kept::Kept;
 pub use object::{search, search_by};
+pub use order_search::{OrderOutcome, OrderSearch, find_order, find_order_of_any_size};
 pub use reversible::Reversible;
 pub use step::{Step, Undo};
 pub use trials::{TryFirst, call_count};

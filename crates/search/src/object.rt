@@ -6,7 +6,7 @@ ghost use Rattle.search.specs.Outcomes.{HasNoValidOrder, max_operations};
 ghost use Rattle.search.specs.Answers.{IfFound, IsCertificateOf, IsSearchAnswer};
 ghost use Rattle.search.specs.Answers.{search_for, outcome_for};
 
-use crate::found::{CertificateOutcome, Search};
+use crate::certificate_search::{CertificateOutcome, Search};
 use crate::{OrderOutcome, OrderSearch, TryFirst, find_order};
 use certificate::Certificate;
 use events::ObjectHistory;

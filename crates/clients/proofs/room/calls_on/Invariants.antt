@@ -1,7 +1,0 @@
-use Rattle.std.proofs.Common.{◌≤◌, ◌*◌}
-use Rattle.desk_model.specs.Limits.{max_calls}
-use Rattle.clients.proofs.room.calls_on.Given as goal
-
--- no client has more calls than a desk lets it make
-abbrev pub invariant-loop-client : goal.invariant-loop-client
-invariant-loop-client l = l.count ≤ l.client * max_calls
