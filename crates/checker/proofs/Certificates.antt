@@ -11,7 +11,8 @@ use Rattle.std.proofs.lemmas.Bool.{cases_eq}
 use Rattle.std.proofs.lemmas.List.{get_or_default, take_more, take_all}
 use Rattle.model.specs.declared.Kind.{Kind}
 use Rattle.model.specs.Orders.{Call, IsValidOrder, calls_on}
-use Rattle.model.proofs.Lists.{In, Pairs, in_append, in_left, in_middle, in_map, in_map_from, in_from_contains}
+use Rattle.model.specs.Lists.{In}
+use Rattle.model.proofs.Lists.{Pairs, in_append, in_left, in_middle, in_map, in_map_from, in_from_contains}
 use Rattle.model.proofs.Lists.{contains_from_in, in_from_get, all_at, all_from_in, pairs_from_all}
 use Rattle.events.specs.declared.event.Event.{Event}
 use Rattle.events.specs.Events.{IsNamed, kind_of_object, denoted}

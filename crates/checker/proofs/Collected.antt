@@ -7,7 +7,8 @@ use Rattle.std.proofs.lemmas.List.{map-append, take_more, take_all}
 use Rattle.std.proofs.lemmas.List.Elements.{All-push}
 use Rattle.model.specs.declared.Kind.{Kind}
 use Rattle.model.specs.Orders.{Call, calls_on, IsValidOrder}
-use Rattle.model.proofs.Lists.{In, Pairs, in_map, in_map_from, in_from_contains, contains_from_in, all_from_in}
+use Rattle.model.specs.Lists.{In}
+use Rattle.model.proofs.Lists.{Pairs, in_map, in_map_from, in_from_contains, contains_from_in, all_from_in}
 use Rattle.model.proofs.Lists.{all_at, all_from_pairs, pairs_from_all, pairs_map, pairs_from_map}
 use Rattle.events.specs.declared.event.Event.{Event}
 use Rattle.events.specs.Events.{IsNamed, kind_of_object, denoted}
@@ -20,6 +21,8 @@ use Rattle.checker.proofs.Certificates.{AreObjects, next_is}
 -- the certificates among answers, of which each has one or none
 abbrev pub collected : {A : Type 0} → (A → Option Certificate) → List (ℕ × A) → List Certificate
 collected certificate_of answers = filter_map (λ a. certificate_of a.1) answers
+
+-- ---- the certificates among answers
 
 -- each comes from an answer
 in_found : {A : Type 0} (certificate_of : A → Option Certificate) (answers : List (ℕ × A)) (c : Certificate)

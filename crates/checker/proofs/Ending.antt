@@ -12,7 +12,8 @@ use Rattle.model.specs.declared.AnyOp.{AnyOp}
 use Rattle.model.specs.declared.AnyReply.{AnyReply}
 use Rattle.model.specs.Objects.{Content, kind_with, next}
 use Rattle.model.specs.Orders.{Call, IsValidOrder}
-use Rattle.model.proofs.Lists.{In, in_from_contains, contains_from_in, all_from_in}
+use Rattle.model.specs.Lists.{In}
+use Rattle.model.proofs.Lists.{in_from_contains, contains_from_in, all_from_in}
 use Rattle.events.specs.declared.operations.End.{End}
 use Rattle.events.specs.declared.operations.End.TheVariants.{Returned, Pending, Failed}
 use Rattle.events.specs.declared.operations.Invocation.{Invocation}

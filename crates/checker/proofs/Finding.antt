@@ -12,7 +12,8 @@ use Rattle.std.specs.declared.cmp.Ordering.TheVariants.{Less, Equal, Greater}
 use Rattle.std.proofs.lemmas.List.{get_or_default}
 use Rattle.std.proofs.lemmas.Bool.{cases_order}
 use Rattle.model.specs.Orders.{Call}
-use Rattle.model.proofs.Lists.{In, Pairs, pairs_from_all}
+use Rattle.model.specs.Lists.{In}
+use Rattle.model.proofs.Lists.{Pairs, pairs_from_all}
 use Rattle.events.specs.declared.operations.Invocation.{Invocation}
 use Rattle.events.specs.declared.operations.End.TheVariants.{Returned, Failed}
 use Rattle.model.specs.declared.AnyOp.TheVariants.{Enqueue}

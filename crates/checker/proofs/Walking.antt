@@ -16,7 +16,8 @@ use Rattle.checker.specs.declared.refusal.OrderFault.TheVariants.{UnknownOperati
 use Rattle.checker.specs.declared.refusal.OrderFault.TheVariants.{WrongReply, Omitted}
 use Rattle.checker.specs.Faults.{call_with_number, after_call, content_after, IsGreatest, HasNumberAt, content_at}
 use Rattle.checker.specs.Faults.{IsFaultAt}
-use Rattle.model.proofs.Lists.{In, Pairs, in_append, pairs_append, in_from_contains, in_from_slice}
+use Rattle.model.specs.Lists.{In}
+use Rattle.model.proofs.Lists.{Pairs, in_append, pairs_append, in_from_contains, in_from_slice}
 
 -- ---- what holds of each two entries
 

@@ -16,7 +16,10 @@ use number_map::NumberMap;
 use std::alloc::{AllocError, Global};
 
 /// Returns the place of the certificate of each object.
-pub fn places(alloc: Global, certificates: &[Certificate]) -> Result<NumberMap<usize>, AllocError>
+pub fn certificate_places(
+    alloc: Global,
+    certificates: &[Certificate],
+) -> Result<NumberMap<usize>, AllocError>
     ensures { IfOk result (λ m. AreAllPlaces m certificates.now) }
 {
     let mut places = NumberMap::new(alloc);
@@ -108,7 +111,7 @@ pub fn check_all(
     let Ok(objects) = split(alloc, history) else {
         return Err(Refusal::NoMemory);
     };
-    let Ok(places) = places(alloc, certificates) else {
+    let Ok(places) = certificate_places(alloc, certificates) else {
         return Err(Refusal::NoMemory);
     };
     for object in &objects {

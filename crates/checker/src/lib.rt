@@ -8,7 +8,7 @@ mod place;
 mod refusal;
 mod walk;
 
-pub use all::{check_all, check_object_at, places, strange_object};
+pub use all::{certificate_places, check_all, check_object_at, strange_object};
 pub use laws::{one_first_fault, one_first_refusal};
 pub use object::check_object;
 pub use refusal::{OrderFault, Refusal};

@@ -63,7 +63,7 @@ fn refuse(object: u32, fault: OrderFault) -> Result<(), Refusal>
 }
 
 /// Checks the entries of an order one by one, from an empty object, and what the order leaves out.
-// Apart from `check_order`, so that what follows from these clauses is proved once, and not at each
+// A function of its own, so that what follows from these clauses is proved once, and not at each
 // return.
 fn check_entries<S: SeqObject<Op = AnyOp, Reply = AnyReply>>(
     alloc: Global,

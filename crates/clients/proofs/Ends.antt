@@ -22,7 +22,7 @@ use Rattle.publication.specs.Handles.{DeskSeen, Known}
 use Rattle.recorder.specs.Records.{Recorded, journal_at, log_at}
 use Rattle.clients.specs.Workloads.{Work, calls_at}
 use Rattle.clients.specs.Made.{MadeOrStopped, IsNew, IsDeskFor, IsDone, ClosedBy, HasMetClient}
-use Rattle.clients.specs.Made.{HasMadeNoCall, HasRunWork, HaveTold, Ran}
+use Rattle.clients.specs.Made.{HasMadeNoCall, HasRunWork, HaveTold, IsRunRecord}
 
 -- a client that has made no call
 pub is_new : (d : DeskSeen) (w : Work) (n : ℕ) (k : Known) → HasMadeNoCall d.id n k → IsDeskFor d w → n < length w.calls
@@ -114,7 +114,7 @@ module _ (d : DeskSeen) (w : Work) (k : Known) (r : Recorded AnyOp AnyReply) (de
             };
       }
 
-  pub ran : Ran w r
+  pub ran : IsRunRecord w r
   ran = record {
     journals = closed.journals ∙ desk.clients;
     logs = closed.logs ∙ ap length desk.kinds;

@@ -7,9 +7,9 @@ use Rattle.desk_model.specs.World.{AnyEvent, AnyAnswer, journal_of}
 use Rattle.desk_invariant.specs.declared.board.Own.TheVariants as own
 use Rattle.desk_invariant.specs.declared.board.DeskView.{DeskView}
 use Rattle.desk_invariant.specs.Views.{own_request, journal}
-use Rattle.combiner.specs.Waits.{Called, IsStillOutstanding}
+use Rattle.combiner.specs.Waits.{IsCallOver, IsStillOutstanding}
 use Rattle.clients.specs.Workloads.{WorkCall}
-use Rattle.clients.specs.Made.{Made, Worked}
+use Rattle.clients.specs.Made.{AreCallsMade, HasMadeCalls}
 
 -- an idle client made these calls, in order, and is idle again
 pub record HasMade (cs : List WorkCall) (v w : DeskView) : Type 0 where
@@ -19,11 +19,11 @@ pub record HasMade (cs : List WorkCall) (v w : DeskView) : Type 0 where
   pub calls : length w.done ≡ length v.done + length cs
   pub events : List AnyEvent
   pub journal : journal w ≡ journal v ++ events
-  pub made : Made cs events
+  pub made : AreCallsMade cs events
 
 -- one call more
-made_more : (cs : List WorkCall) (c : WorkCall) (es : List AnyEvent) (t u : ℕ) (a : AnyAnswer) → Made cs es
-    → Made (cs ++ c ∷ []) (es ++ Invoked t c.0 c.1 ∷ Returned u a ∷ [])
+made_more : (cs : List WorkCall) (c : WorkCall) (es : List AnyEvent) (t u : ℕ) (a : AnyAnswer) → AreCallsMade cs es
+    → AreCallsMade (cs ++ c ∷ []) (es ++ Invoked t c.0 c.1 ∷ Returned u a ∷ [])
 made_more [] c es t u a made = (t, u, a, [], ap (λ z. z ++ Invoked t c.0 c.1 ∷ Returned u a ∷ []) made, refl)
 made_more (d ∷ cs) c es t u a (t', u', b, rest, is, made) = (
   t',
@@ -35,7 +35,7 @@ made_more (d ∷ cs) c es t u a (t', u', b, rest, is, made) = (
 )
 
 pub one_made : (cs : List WorkCall) (c : WorkCall) (v w x : DeskView) (a : AnyAnswer) → HasMade cs v w
-    → Called w c.0 c.1 a x
+    → IsCallOver w c.0 c.1 a x
     → HasMade (cs ++ c ∷ []) v x
 one_made cs c v w x a k d = let n = k.calls in let m = d.calls in record {
   number = d.number ∙ k.number;
@@ -57,7 +57,7 @@ parts (x ∷ xs) (suc i) d h = ap (λ z. x ∷ z) (parts xs i d (omega arith))
 -- the call i is outstanding, after those that were made
 pub stopped : (cs : List WorkCall) (i : ℕ) (none : WorkCall) (v w x : DeskView) → i < length cs
     → HasMade (take i cs) v w
-    → IsStillOutstanding w (get_or cs i none).0 (get_or cs i none).1 x → Worked cs v x
+    → IsStillOutstanding w (get_or cs i none).0 (get_or cs i none).1 x → HasMadeCalls cs v x
 stopped cs i none v w x low k o = let u : DeskView = o.0 in let p = o.1 in let c : WorkCall = get_or cs i none in
     record {
       number = o.2.number ∙ (ap (λ z. z.number) p.knows ∙ k.number);

@@ -20,11 +20,11 @@ use Rattle.clients.specs.Workloads.{Work, WorkCall, calls_at, IsCall}
 use Rattle.desk_model.specs.Limits.{max_calls}
 
 -- the events are those of the calls, in order: the invocation of each, and its return
-abbrev pub Made : List WorkCall → List AnyEvent → Type 0
-Made [] es = es ≡ []
-Made (c ∷ cs) es =
+abbrev pub AreCallsMade : List WorkCall → List AnyEvent → Type 0
+AreCallsMade [] es = es ≡ []
+AreCallsMade (c ∷ cs) es =
     (t u : ℕ) × (a : AnyAnswer) × (rest : List AnyEvent)
-    × (es ≡ Invoked t c.0 c.1 ∷ Returned u a ∷ rest) × Made cs rest
+    × (es ≡ Invoked t c.0 c.1 ∷ Returned u a ∷ rest) × AreCallsMade cs rest
 
 -- These events are of the calls up to one, in order: the calls before it were made; of this one
 -- there is the invocation alone, and of the later ones nothing. A client stops in this way if an
@@ -36,13 +36,13 @@ pub record IsStopped (cs : List WorkCall) (es : List AnyEvent) : Type 0 where
   pub later : List WorkCall
   pub calls : cs ≡ front ++ call ∷ later
   pub events : List AnyEvent
-  pub made : Made front events
+  pub made : AreCallsMade front events
   pub ticket : ℕ
   pub last : es ≡ events ++ Invoked ticket call.0 call.1 ∷ []
 
 -- of all calls, or up to one that did not return
 abbrev pub MadeOrStopped : List WorkCall → List AnyEvent → Type 0
-MadeOrStopped cs es = Made cs es ⊎ IsStopped cs es
+MadeOrStopped cs es = AreCallsMade cs es ⊎ IsStopped cs es
 
 -- the client of this desk is idle, and may make these calls, which fit the desk
 pub record MayWork (d : DeskSeen) (c : Known) (cs : List WorkCall) : Type 0 where
@@ -53,7 +53,7 @@ pub record MayWork (d : DeskSeen) (c : Known) (cs : List WorkCall) : Type 0 wher
   pub fit : All (IsCall d.id.kinds) cs
 
 -- a client made these calls, in order, or stopped at one, which is outstanding
-pub record Worked (cs : List WorkCall) (v w : DeskView) : Type 0 where
+pub record HasMadeCalls (cs : List WorkCall) (v w : DeskView) : Type 0 where
   pub number : w.number ≡ v.number
   pub kinds : w.kinds ≡ v.kinds
   pub events : List AnyEvent
@@ -152,7 +152,7 @@ pub record HasRunWork (w : Work) (r : Recorded AnyOp AnyReply) (first : DeskView
   pub met : (x : ℕ) → x < length w.kinds → HaveMet x first knew (log_at r x)
 
 -- The record of a closed desk of the workload's objects and clients.
-pub record Ran (w : Work) (r : Recorded AnyOp AnyReply) : Type 0 where
+pub record IsRunRecord (w : Work) (r : Recorded AnyOp AnyReply) : Type 0 where
   pub journals : length r.journals ≡ length w.calls
   pub logs : length r.logs ≡ length w.kinds
   -- what client 0 knew of its calls at the end

@@ -3,7 +3,8 @@
 ghost use Rattle.std.specs.Prelude.{◌≡◌, ◌<◌, ◌≤◌, [], length, map, All, IfOk, IfErr, OnErr};
 ghost use Rattle.std.specs.Prelude.{vec_capacity};
 ghost use Rattle.model.specs.Objects.{empty, kind_with};
-ghost use Rattle.clients.specs.Made.{HasWorked, IsNew, IsDeskFor, IsDone, ClosedBy, Ran, HaveTold};
+ghost use Rattle.clients.specs.Made.{HasWorked, IsNew, IsDeskFor, IsDone, ClosedBy, IsRunRecord};
+ghost use Rattle.clients.specs.Made.{HaveTold};
 ghost use Rattle.clients.specs.Made.{AreNew};
 
 use crate::Workload;
@@ -60,15 +61,15 @@ impl<'a> Promise<Client<AnyObject>> for WorkerOf<'a> {
 /// room in the log of each object for all calls on it, so that no pass allocates memory for a log;
 /// no clause says that the room is kept. Client 0 runs in the calling thread, and each other in a
 /// thread of its own; then client 0 meets each other on each object. If an allocation fails in a
-/// client's call, the client stops, and the call is pending in the record. `Ran` lets a client stop
-/// at any call. The gate is called around each call.
+/// client's call, the client stops, and the call is pending in the record. `IsRunRecord` lets a
+/// client stop at any call. The gate is called around each call.
 pub fn run_workers<R: Threads + Wait + Sync, G: Gate>(
     rt: &R,
     alloc: Global,
     workload: &Workload,
     gate: &G,
 ) -> Result<Record<AnyObject>, RunFault>
-    ensures ran { IfOk result (Ran workload.now) }
+    ensures ran { IfOk result (IsRunRecord workload.now) }
     // No thread is started for a client alone.
     ensures alone { IfErr result (λ e. e ≡ RunFault.NoThread → 1 < length workload.now.calls) }
 {

@@ -3,9 +3,9 @@
 ghost use Rattle.std.specs.Prelude.{◌≡◌, ◌<◌, true, false, length};
 ghost use Rattle.desk_model.specs.World.{AnyAnswer};
 ghost use Rattle.desk_invariant.specs.declared.board.Own.TheVariants.{Idle};
-ghost use Rattle.combiner.specs.Waits.{Called, IsStillOutstanding};
+ghost use Rattle.combiner.specs.Waits.{IsCallOver, IsStillOutstanding};
 ghost use Rattle.clients.specs.Workloads.{IsCall};
-ghost use Rattle.clients.specs.Made.{MayWork, Worked, IsNew, HasWorked};
+ghost use Rattle.clients.specs.Made.{MayWork, HasMadeCalls, IsNew, HasWorked};
 
 use crate::Workload;
 use combiner::{CallFault, call};
@@ -41,7 +41,7 @@ fn make_all<R: Wait, G: Gate>(
 ) -> Client<AnyObject>
     requires { MayWork desk.now client calls.now }
     ensures desk { result.desk ≡ client.desk }
-    ensures worked { Worked calls.now client.knows result.knows }
+    ensures worked { HasMadeCalls calls.now client.knows result.knows }
 {
     let number = client.number();
     let mut client = client;
@@ -72,7 +72,7 @@ fn make<R: Wait>(
     requires fits { IsCall desk.now.id.kinds (object, op) }
     ensures desk { result.0.desk ≡ client.desk }
     ensures called { result.1 ≡ true
-        → (a : AnyAnswer) × Called client.knows object op a result.0.knows }
+        → (a : AnyAnswer) × IsCallOver client.knows object op a result.0.knows }
     ensures outstanding { result.1 ≡ false → IsStillOutstanding client.knows object op
         result.0.knows }
 {

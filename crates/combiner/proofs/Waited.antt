@@ -13,10 +13,10 @@ use Rattle.desk_invariant.specs.declared.board.Own.TheVariants as own
 use Rattle.desk_invariant.specs.Views.{journal, own_request, seen_of}
 use Rattle.publication.specs.Calls.{IsPosted, IsPollAnswer, IsPollMiss}
 use Rattle.combiner.specs.Passes.{KeepsCalls}
-use Rattle.combiner.specs.Waits.{Called, Returns, IsLogged}
+use Rattle.combiner.specs.Waits.{IsCallOver, IsWaitOver, IsLogged}
 use Rattle.combiner.proofs.Served.{seen_on, keeps_on, keeps_unpolled}
 
-pub returned : (v u w : DeskView) (a : AnyAnswer) → KeepsCalls v u → IsPollAnswer u a w → Returns v a w
+pub returned : (v u w : DeskView) (a : AnyAnswer) → KeepsCalls v u → IsPollAnswer u a w → IsWaitOver v a w
 returned v u w a k p =
     let done : length w.done ≡ length u.done + 1 =
     ap (λ (z : DeskView). length z.done) p.knows ∙ length-append u.done _ in record {
@@ -40,8 +40,8 @@ returned v u w a k p =
       };
     }
 
-pub called : (v u w : DeskView) (object : ℕ) (op : AnyOp) (a : AnyAnswer) → IsPosted v object op u → Returns u a w
-    → Called v object op a w
+pub called : (v u w : DeskView) (object : ℕ) (op : AnyOp) (a : AnyAnswer) → IsPosted v object op u → IsWaitOver u a w
+    → IsCallOver v object op a w
 called v u w object op a p r = record {
   invoked = p.ticket;
   returned = r.ticket;

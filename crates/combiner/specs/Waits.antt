@@ -25,7 +25,7 @@ pub record IsLogged (v : DeskView) (request : AnyRequest) (a : AnyAnswer) (retur
   pub later : All (λ e. e.ticket < returned) (seen_of w request.object)
 
 -- the outstanding call is over, with this answer
-pub record Returns (v : DeskView) (a : AnyAnswer) (w : DeskView) : Type 0 where
+pub record IsWaitOver (v : DeskView) (a : AnyAnswer) (w : DeskView) : Type 0 where
   pub ticket : ℕ
   pub number : w.number ≡ v.number
   pub kinds : w.kinds ≡ v.kinds
@@ -39,7 +39,8 @@ pub record Returns (v : DeskView) (a : AnyAnswer) (w : DeskView) : Type 0 where
 
 -- An idle client made one call, with this answer: its invocation and its return are the last events
 -- of the journal, and the client is idle. What it has seen goes on, and has the call.
-pub record Called (v : DeskView) (object : ℕ) (op : AnyOp) (a : AnyAnswer) (w : DeskView) : Type 0
+pub record IsCallOver (v : DeskView) (object : ℕ) (op : AnyOp) (a : AnyAnswer) (w : DeskView) :
+    Type 0
   where
     pub invoked : ℕ
     pub returned : ℕ
@@ -58,6 +59,6 @@ IsStillOutstanding v object op w = (u : DeskView) × IsPosted v object op u × K
 
 -- why the call on the object x was not answered: it was not posted, and the client is as it was; or
 -- an allocation failed
-abbrev pub Faulted : DeskSeen → Known → ℕ → AnyOp → CallFault → Known → Type 0
-Faulted d c x op (fault.Post e) k = (k ≡ c) × IsPostRefusal d c x op e
-Faulted d c x op fault.NoMemory k = IsStillOutstanding c.knows x op k.knows
+abbrev pub IsCallFault : DeskSeen → Known → ℕ → AnyOp → CallFault → Known → Type 0
+IsCallFault d c x op (fault.Post e) k = (k ≡ c) × IsPostRefusal d c x op e
+IsCallFault d c x op fault.NoMemory k = IsStillOutstanding c.knows x op k.knows

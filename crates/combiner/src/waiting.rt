@@ -3,7 +3,7 @@
 ghost use Rattle.std.specs.Prelude.{◌≡◌, ◌<◌, length, IfOk, IfErr};
 ghost use Rattle.desk_model.specs.Images.{answer_in};
 ghost use Rattle.combiner.specs.Passes.{KeepsCalls};
-ghost use Rattle.combiner.specs.Waits.{Called, Returns, Faulted};
+ghost use Rattle.combiner.specs.Waits.{IsCallOver, IsWaitOver, IsCallFault};
 
 use crate::passes::{Combined, combine};
 use crossbeam_utils::Backoff;
@@ -35,8 +35,9 @@ pub fn call<S: SeqObject, R: Wait>(
     ensures desk { result.0.desk ≡ client.desk }
     // The call is over, and what `poll` answered is its answer.
     ensures answered { IfOk result.1
-        (λ a. Called client.knows object (S.op_in op) (answer_in S.reply_in a) result.0.knows) }
-    ensures fault { IfErr result.1 (λ e. Faulted desk.now client object (S.op_in op) e result.0) }
+        (λ a. IsCallOver client.knows object (S.op_in op) (answer_in S.reply_in a) result.0.knows) }
+    ensures fault { IfErr result.1 (λ e. IsCallFault desk.now client object (S.op_in op) e
+        result.0) }
 {
     let mut client = client;
     if let Err(fault) = desk.post(&mut client, object, op) {
@@ -61,7 +62,7 @@ pub fn wait_for<S: SeqObject, R: Wait>(
     requires desk { client.desk ≡ desk.now.id }
     requires object { object < length desk.now.id.kinds }
     ensures desk { result.0.desk ≡ client.desk }
-    ensures returns { IfOk result.1 (λ a. Returns client.knows (answer_in S.reply_in a)
+    ensures returns { IfOk result.1 (λ a. IsWaitOver client.knows (answer_in S.reply_in a)
         result.0.knows) }
     // The call stays outstanding.
     ensures stays { IfErr result.1 (λ _. KeepsCalls client.knows result.0.knows) }

@@ -8,7 +8,7 @@ use Rattle.report.specs.Lines.{verdict_text}
 use Rattle.report.specs.declared.verdict.Verdict.{Verdict}
 use Rattle.report.specs.declared.verdict.Verdict.TheVariants.{Yes, No, Malformed, NoMemory}
 use Rattle.judging.specs.Verdicts.{IsYesUnlessMemory}
-use Rattle.clients.specs.Made.{Ran}
+use Rattle.clients.specs.Made.{IsRunRecord}
 use Rattle.command_line.specs.declared.asking.RunOptions.{RunOptions}
 use Rattle.history_commands.specs.Outputs.{status_of}
 use Rattle.history_commands.specs.declared.status.Status.{Status}
@@ -59,7 +59,7 @@ module _ (kinds : List Kind) (quota : ℕ) (journals : ℕ → List AnyEvent) (l
 -- ---- the record of a run
 
 module _ (o : RunOptions) where
-  sound_run : (r : _) → Ran (work_of o) r → HasSoundRecord r
+  sound_run : (r : _) → IsRunRecord (work_of o) r → HasSoundRecord r
   sound_run r ran = sound_as_it_is r (work_of o).kinds _ ran.sound
 
   pub run_accepted : (status : Status) (out : List ℕ) → IsRunOutput o status out → status ≡ status_is.Yes

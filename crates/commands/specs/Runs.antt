@@ -5,7 +5,7 @@ use Rattle.model.specs.declared.Kind.{Kind}
 use Rattle.seq_objects.specs.Kinds.{kinds_of}
 use Rattle.clients.specs.Workloads.{Work}
 use Rattle.clients.specs.Drawing.{client_calls}
-use Rattle.clients.specs.Made.{Ran}
+use Rattle.clients.specs.Made.{IsRunRecord}
 use Rattle.desk_model.specs.World.{AnyEntry, AnyEvent}
 use Rattle.desk_model.specs.Records.{IsSoundRecord}
 use Rattle.events.specs.declared.event.Event.{Event}
@@ -105,14 +105,14 @@ work_of o =
 -- is none.
 abbrev pub IsRunOutput : RunOptions → Status → List ℕ → Type 0
 IsRunOutput o status text =
-    ((r : Recorded AnyOp AnyReply) × Ran (work_of o) r
+    ((r : Recorded AnyOp AnyReply) × IsRunRecord (work_of o) r
     × IsReported (journals_of r) (logs_of r) [] status text)
     ⊎ HasNoThread o.clients status text
 
 -- the record of such a run, the certificates of which are accepted, and its lines
 pub record IsAcceptedRun (o : RunOptions) (out : List ℕ) : Type 0 where
   pub recorded : Recorded AnyOp AnyReply
-  pub ran : Ran (work_of o) recorded
+  pub ran : IsRunRecord (work_of o) recorded
   pub lines : IsAcceptedOutput (journals_of recorded) (logs_of recorded) [] out
 
 -- What a run gives: a yes comes with the record of such a run, the certificates of which are

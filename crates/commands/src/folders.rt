@@ -295,8 +295,9 @@ fn merge_output<F: ShardFiles>(
 }
 
 /// Verifies each of this many shards by its evidence, judges by them the full history, of which
-/// they are a split, writes the lines, and returns the exit status that `verify` of the full
-/// history would. `steps` is the step limit of searches for which the evidence names none.
+/// they are a split, writes the lines, and returns the status of the worst finding on a shard.
+/// That `verify` of the full history ends with the same status is only tested. `steps` is the step
+/// limit of searches for which the evidence names none.
 pub fn merge_shards<F: ShardFiles, S: Sink>(
     alloc: Global,
     files: &F,

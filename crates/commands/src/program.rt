@@ -31,12 +31,15 @@ fn no_output(alloc: Global) -> Output
 }
 
 /// Does the command on the bytes of its first and second file (empty if it has none), writes its
-/// output, and returns the exit status: 0 for yes, or if each object has a certificate; 1 for no,
-/// or if an object is impossible; 2 if a text other than evidence is malformed or a client of
-/// a schedule has not ended; 3 if an allocation failed, a thread could not be started, some
-/// object stays open, no reason shows that the history is not linearizable, or evidence is
-/// malformed; 4 if the output failed; 64 if the command is one on a folder, which is not
-/// done.
+/// output, and returns the exit status:
+///
+/// - 0: yes, or each object has a certificate;
+/// - 1: no, or an object is impossible;
+/// - 2: a text other than evidence is malformed, or a client of a schedule has not ended;
+/// - 3: an allocation failed, a thread could not be started, some object stays open, no reason
+///   shows that the history is not linearizable, or evidence is malformed;
+/// - 4: the output failed;
+/// - 64: the command is one on a folder, which is not done here.
 pub fn perform<R: Threads + Wait + Sync, S: Sink>(
     rt: &R,
     alloc: Global,
@@ -50,8 +53,8 @@ pub fn perform<R: Threads + Wait + Sync, S: Sink>(
         (S.sent sink.old) result (S.sent sink.new) (S.broken sink.new) }
 {
     match line {
-        // The program does not come here: it checks and verifies by `perform_over`. A caller that
-        // has both texts in memory does.
+        // The program never takes this branch: it checks and verifies by `perform_over`. This is
+        // for a caller that has both texts in memory.
         Line::Check { workers, .. } => check_bytes(rt, alloc, first, second, *workers, sink),
         Line::Search {
             steps,

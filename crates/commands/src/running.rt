@@ -10,7 +10,7 @@ ghost use Rattle.history_commands.specs.Comments.{comment_lines};
 ghost use Rattle.commands.specs.Runs.{IsReported, IsRunResult, IsTextOf, Says, journals_of};
 ghost use Rattle.commands.specs.Runs.{logs_of};
 ghost use Rattle.commands.specs.Runs.{work_of};
-ghost use Rattle.clients.specs.Made.{Ran};
+ghost use Rattle.clients.specs.Made.{IsRunRecord};
 
 use certificate::Certificate;
 use checker::check_all;
@@ -98,7 +98,7 @@ fn record_of<R: Threads + Wait + Sync>(
     alloc: Global,
     options: RunOptions,
 ) -> Result<Record<AnyObject>, RunFault>
-    ensures ran { IfOk result (Ran (work_of options)) }
+    ensures ran { IfOk result (IsRunRecord (work_of options)) }
     // A client alone needs no thread.
     ensures alone { IfErr result (λ e. e ≡ RunFault.NoThread → 1 < options.clients) }
 {

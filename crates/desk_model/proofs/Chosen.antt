@@ -5,7 +5,8 @@ use Rattle.std.proofs.Common.{◌≡◌, ◌≢◌, ℕ, ℤ, pos, ◌<◌, ◌=
 use Rattle.std.proofs.Common.{map, IfSome, refl, ap, sym, ◌∙◌, subst, eq-eqb, arith}
 use Rattle.model.specs.Objects.{Content, next}
 use Rattle.model.specs.Orders.{Call, RepliesAlong}
-use Rattle.model.proofs.Lists.{In, Pairs, pairs_weaker, pairs_map}
+use Rattle.model.specs.Lists.{In}
+use Rattle.model.proofs.Lists.{Pairs, pairs_weaker, pairs_map}
 use Rattle.model.proofs.Orders.{same_pos}
 use Rattle.desk_model.specs.World.{AnyEntry, entries_of_client, Replays}
 

@@ -3,7 +3,8 @@ use Rattle.std.proofs.Common.{◌≡◌, ℕ, ◌<◌, ◌==◌, inl, inr, List,
 use Rattle.std.proofs.lemmas.Bool.{eq-eqb, and_from}
 use Rattle.model.specs.Histories.{Inv, Res, process_of, IsSequential}
 use Rattle.model.specs.Orders.{Numbered, events, ProcessCall, calls_in}
-use Rattle.model.proofs.Lists.{In, Pairs}
+use Rattle.model.specs.Lists.{In}
+use Rattle.model.proofs.Lists.{Pairs}
 use Rattle.desk_model.specs.declared.Answer.TheVariants.{Reply, Refused}
 use Rattle.desk_model.specs.declared.JournalEvent.TheVariants.{Returned}
 use Rattle.desk_model.specs.World.{AnyRequest, AnyAnswer, AnyDone, invoked, journal_of, ticket_of}

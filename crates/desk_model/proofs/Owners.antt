@@ -2,7 +2,8 @@
 use Rattle.std.proofs.Common.{◌≡◌, ℕ, ◌<◌, List, Contains}
 use mathlib.Core.Logic.{dite}
 use native.Mathlib.Decide.{dec_lt}
-use Rattle.model.proofs.Lists.{In, all_at, contains_from_in}
+use Rattle.model.specs.Lists.{In}
+use Rattle.model.proofs.Lists.{all_at, contains_from_in}
 use Rattle.desk_model.specs.Sound.{ShareOut}
 
 module _ {count : ℕ} {lists : ℕ → List ℕ} (share : ShareOut count lists) where

@@ -4,7 +4,8 @@ use Rattle.std.proofs.Common.{eqb-true, eq-eqb, refl, ap, sym, ◌∙◌, subst,
 use Rattle.model.specs.declared.Kind.{Kind}
 use Rattle.model.specs.Objects.{empty}
 use Rattle.model.specs.Orders.{Numbered, Return, Call, ProcessCall, calls_in, calls_on, ReturnsBefore, IsValidOrder}
-use Rattle.model.proofs.Lists.{In, Pairs, in_filter, in_filter_passes, in_filter_from, in_map, in_map_from}
+use Rattle.model.specs.Lists.{In}
+use Rattle.model.proofs.Lists.{Pairs, in_filter, in_filter_passes, in_filter_from, in_map, in_map_from}
 use Rattle.model.proofs.Lists.{pairs_weaker, contains_from_in, all_from_in, all_at, all_from_pairs, in_right}
 use Rattle.desk_model.specs.declared.JournalEvent.TheVariants.{Invoked}
 use Rattle.desk_model.specs.World.{AnyEntry, World, kind_at, entries_of_client, logged, request_of, journal_in}

@@ -4,7 +4,8 @@ use Rattle.std.proofs.Common.{ap, sym, ◌∙◌, arith}
 use mathlib.Core.Logic.{dite}
 use native.Mathlib.Decide.{ℕ_discrete}
 use Rattle.std.proofs.lemmas.Bool.{eqb-true, eq-eqb, ne_eqb}
-use Rattle.model.proofs.Lists.{In, Pairs, in_filter, in_filter_passes, in_append, pairs_filter, pairs_weaker}
+use Rattle.model.specs.Lists.{In}
+use Rattle.model.proofs.Lists.{Pairs, in_filter, in_filter_passes, in_append, pairs_filter, pairs_weaker}
 use Rattle.model.proofs.Lists.{pairs_append, pairs_flat_map}
 use Rattle.model.proofs.Lists.{filter_all, filter_none, filter-flat_map, flat_map_same, batches, in_left, in_right}
 

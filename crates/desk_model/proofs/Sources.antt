@@ -5,7 +5,8 @@ use Rattle.std.proofs.Common.{Option, Some, None, IfSome, refl, ap, sym, ◌∙�
 use Rattle.std.proofs.lemmas.Option.{same_Some}
 use Rattle.model.specs.declared.AnyReply.{AnyReply}
 use Rattle.model.specs.Orders.{Return, Call, ProcessCall}
-use Rattle.model.proofs.Lists.{In, Pairs, in_append, in_map_from, pairs_append}
+use Rattle.model.specs.Lists.{In}
+use Rattle.model.proofs.Lists.{Pairs, in_append, in_map_from, pairs_append}
 use Rattle.desk_model.specs.declared.Answer.TheVariants.{Reply, Refused}
 use Rattle.desk_model.specs.declared.JournalEvent.TheVariants.{Invoked}
 use Rattle.desk_model.specs.World.{AnyEntry, AnyRequest, AnyAnswer, AnyDone, AnyEvent, Stage, answered, taken, logged}

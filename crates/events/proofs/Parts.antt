@@ -6,7 +6,8 @@ use Rattle.std.proofs.lemmas.Bool.{eqb-true, eq-eqb}
 use Rattle.model.specs.declared.AnyOp.{AnyOp}
 use Rattle.model.specs.declared.AnyReply.{AnyReply}
 use Rattle.model.specs.Objects.{kind_of}
-use Rattle.model.proofs.Lists.{In, Pairs, in_append, contains_from_in, all_from_in, all_from_pairs, pairs_from_all}
+use Rattle.model.specs.Lists.{In}
+use Rattle.model.proofs.Lists.{Pairs, in_append, contains_from_in, all_from_in, all_from_pairs, pairs_from_all}
 use Rattle.model.proofs.Lists.{in_left, in_right, in_middle, in_split}
 use Rattle.events.specs.declared.event.Action.{Action}
 use Rattle.events.specs.declared.event.Action.TheVariants.{Invoke, Ok, Fail, Info}

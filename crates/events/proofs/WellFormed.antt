@@ -9,7 +9,8 @@ use Rattle.model.specs.declared.AnyReply.{AnyReply}
 use Rattle.model.specs.Histories as model
 use Rattle.model.specs.Histories.{Inv, Res, by_process, matches, IsSequential}
 use Rattle.model.specs.Orders.{Numbered, events, IsHistory}
-use Rattle.model.proofs.Lists.{In, Pairs, in_append, pairs_from_all, all_from_pairs}
+use Rattle.model.specs.Lists.{In}
+use Rattle.model.proofs.Lists.{Pairs, in_append, pairs_from_all, all_from_pairs}
 use Rattle.events.specs.declared.event.Action.{Action}
 use Rattle.events.specs.declared.event.Action.TheVariants.{Invoke, Ok, Fail, Info}
 use Rattle.events.specs.declared.event.Event.{Event}

@@ -133,7 +133,7 @@ fn split<R: Host>(rt: &R, line: &SplitLine) -> io::Result<u8> {
         folder.remove(shards);
     }
     match done {
-        // Its lines are printed already, so nothing is said of memory.
+        // Its lines are printed already, so no line about memory is printed.
         Ok(status) if is_divided(status) && !is_whole => report_unwritten(rt, name, false),
         Ok(status) => Ok(status),
         Err(SplitFailure::Unread) => report_unreadable(rt, history, source.lacks_memory()),

@@ -3,7 +3,8 @@
 -- where they are not too many and name no great object, and no other forms have none.
 use Rattle.std.proofs.Common.{◌≡◌, ℕ, ◌<◌, ◌≤◌, ◌⊎◌, ◌↔◌, inl, inr, zero, suc, List, [], ◌∷◌, ◌++◌, length, All}
 use Rattle.std.proofs.Common.{refl, ap, sym, subst, arith, length-append}
-use Rattle.model.proofs.Lists.{In, all_from_in, all_at, in_middle, in_split}
+use Rattle.model.specs.Lists.{In}
+use Rattle.model.proofs.Lists.{all_from_in, all_at, in_middle, in_split}
 use Rattle.edn_reader.specs.Datum.{Datum}
 use Rattle.events.specs.declared.event.Event.{Event}
 use Rattle.history.specs.declared.fault.HistoryFaultKind.{HistoryFaultKind}

@@ -10,7 +10,8 @@ use Rattle.std.proofs.lemmas.List.{length-append, take_more, take_all}
 use Rattle.std.proofs.lemmas.List.Elements.{All-append}
 use Rattle.number_map.specs.Lookup.{value_of}
 use Rattle.model.specs.declared.Kind.{Kind}
-use Rattle.model.proofs.Lists.{In, in_from_contains, all_at, all_from_in}
+use Rattle.model.specs.Lists.{In}
+use Rattle.model.proofs.Lists.{in_from_contains, all_at, all_from_in}
 use Rattle.edn_reader.specs.Datum.{Datum}
 use Rattle.events.specs.Operations.{IsListed}
 use Rattle.history.specs.declared.seen.Process.{Process}

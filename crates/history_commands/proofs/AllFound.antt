@@ -3,7 +3,8 @@ use Rattle.std.proofs.Common.{arith, ◌≡◌, ◌∙◌, ◌&&◌, Bool, true,
 use Rattle.std.proofs.Common.{refl, ap, sym, subst, inl, inr}
 use Rattle.std.specs.List.{list_all, cons_option, filter_map}
 use Rattle.std.proofs.lemmas.List.{append-nil}
-use Rattle.model.proofs.Lists.{In, all_from_in}
+use Rattle.model.specs.Lists.{In}
+use Rattle.model.proofs.Lists.{all_from_in}
 use Rattle.certificate.specs.declared.Certificate.{Certificate}
 use Rattle.certificate.specs.Lines.{certificate_line, certificate_lines}
 use Rattle.history_commands.specs.Outputs.{status_by}

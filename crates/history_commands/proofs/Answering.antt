@@ -15,7 +15,8 @@ use Rattle.checker.specs.Refusals.{AreValid}
 use Rattle.search.specs.declared.certificate_search.Search.{Search}
 use Rattle.search.specs.declared.certificate_search.CertificateOutcome.{CertificateOutcome}
 use Rattle.search.specs.declared.certificate_search.CertificateOutcome.TheVariants as found
-use Rattle.search.specs.declared.certificate_search.CertificateOutcome.TheVariants.{Impossible, OutOfSteps, TooLarge, NoMemory}
+use Rattle.search.specs.declared.certificate_search.CertificateOutcome.TheVariants.{Impossible, OutOfSteps, TooLarge}
+use Rattle.search.specs.declared.certificate_search.CertificateOutcome.TheVariants.{NoMemory}
 use Rattle.search.specs.Answers.{IsSearchAnswerOn, IsFound, certificate_found, certificates_found}
 use Rattle.history_commands.specs.Searches.{answer_line, outcome_line, finds_impossible, is_found, search_status}
 use Rattle.history_commands.specs.Searches.{AreSearched}

@@ -1,7 +1,7 @@
 -- The worst finding: what it says of each finding, by cases of two and by induction on the list.
 use Rattle.std.proofs.Common.{arith, ◌≡◌, ◌⊎◌, inl, inr, List, [], ◌∷◌, ◌++◌, map, fold, refl, ap, sym, ◌∙◌}
 use Rattle.std.proofs.lemmas.List.{map_push}
-use Rattle.model.proofs.Lists.{In}
+use Rattle.model.specs.Lists.{In}
 use Rattle.history_commands.specs.Merged.{Answer, status_with, worse, worst}
 use Rattle.history_commands.specs.declared.finding.Finding.{Finding}
 use Rattle.history_commands.specs.declared.finding.Finding.TheVariants.{Certified, Refuted}

@@ -7,7 +7,8 @@ use Rattle.std.proofs.lemmas.List.Folds.{Any-from_list_any}
 use Rattle.std.proofs.lemmas.List.{flat_map_more, map_push}
 use Rattle.std.proofs.lemmas.List.Sorted.{Contains-permutation}
 use Rattle.model.specs.Orders.{calls_on}
-use Rattle.model.proofs.Lists.{In, all_at, all_from_in, contains_from_in, in_from_contains, in_left, in_right}
+use Rattle.model.specs.Lists.{In}
+use Rattle.model.proofs.Lists.{all_at, all_from_in, contains_from_in, in_from_contains, in_left, in_right}
 use Rattle.events.specs.declared.event.Event.{Event}
 use Rattle.events.specs.Events.{kind_of_object, denoted}
 use Rattle.checker.specs.Refusals.{AreValid}

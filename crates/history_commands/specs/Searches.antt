@@ -13,7 +13,8 @@ use Rattle.checker.specs.Refusals.{AreValid}
 use Rattle.search.specs.declared.certificate_search.Search.{Search}
 use Rattle.search.specs.declared.certificate_search.CertificateOutcome.{CertificateOutcome}
 use Rattle.search.specs.declared.certificate_search.CertificateOutcome.TheVariants as found
-use Rattle.search.specs.declared.certificate_search.CertificateOutcome.TheVariants.{Impossible, OutOfSteps}
+use Rattle.search.specs.declared.certificate_search.CertificateOutcome.TheVariants.{Impossible}
+use Rattle.search.specs.declared.certificate_search.CertificateOutcome.TheVariants.{OutOfSteps}
 use Rattle.search.specs.declared.certificate_search.CertificateOutcome.TheVariants.{TooLarge}
 use Rattle.search.specs.declared.certificate_search.CertificateOutcome.TheVariants.{NoMemory}
 use Rattle.search.specs.Answers.{IsSearchAnswerOn}

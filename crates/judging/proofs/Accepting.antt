@@ -10,7 +10,8 @@ use Rattle.certificate.specs.Denotes.{Reading, certificate_of, reading_of}
 use Rattle.certificate.specs.Denotes as certificate_meaning
 use Rattle.checker.specs.Refusals.{AreValid}
 use Rattle.model.specs.Orders.{IsValidOrder, calls_on}
-use Rattle.model.proofs.Lists.{In, all_at, all_from_in, in_from_contains, contains_from_in}
+use Rattle.model.specs.Lists.{In}
+use Rattle.model.proofs.Lists.{all_at, all_from_in, in_from_contains, contains_from_in}
 use Rattle.judging.specs.Texts.{DenotesHistory, DenotesCertificates}
 
 pub one_history : (text : List ℕ) (ds : List Datum) (es fs : List Event)

@@ -2,7 +2,8 @@
 use Rattle.std.proofs.Common.{◌≡◌, Bool, true, false, List, [], ◌∷◌, ◌++◌, All, inl, inr, refl}
 use Rattle.std.proofs.Common.{ap, sym, Result, Ok, Err, OnOk}
 use Rattle.model.specs.Orders.{ProcessCall, calls_in}
-use Rattle.model.proofs.Lists.{In, all_from_in, contains_from_in}
+use Rattle.model.specs.Lists.{In}
+use Rattle.model.proofs.Lists.{all_from_in, contains_from_in}
 use Rattle.events.specs.declared.event.Action.{Action}
 use Rattle.events.specs.declared.event.Action.TheVariants.{Invoke, Ok as Returned, Fail, Info}
 use Rattle.events.specs.declared.event.Event.{Event}

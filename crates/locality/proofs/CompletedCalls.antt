@@ -10,7 +10,7 @@ use Rattle.model.specs.declared.AnyReply.{AnyReply}
 use Rattle.model.specs.Histories.{Event, Inv, Res, process_of, is_invocation, by_process, matches, complete}
 use Rattle.model.specs.Histories.{IsSequential}
 use Rattle.model.specs.Orders.{Numbered, events, Return, ProcessCall, calls_in}
-use Rattle.model.proofs.Lists.{In}
+use Rattle.model.specs.Lists.{In}
 use Rattle.locality.proofs.ProcessHistories.{Turns, none, last, call, at, first, calls_in-call, complete-call}
 
 -- ---- operations with their replies

@@ -9,7 +9,8 @@ use Rattle.model.specs.declared.AnyReply.{AnyReply}
 use Rattle.model.specs.Histories.{Event, Inv, Res, process_of, object_of, is_invocation, by_process, by_object, matches}
 use Rattle.model.specs.Histories.{complete, invokes, responds}
 use Rattle.model.specs.Orders.{Numbered, events, Return, ProcessCall}
-use Rattle.model.proofs.Lists.{In, Pairs, in_filter_passes, filter-filter, filter_same, filter_none, filter-flat_map}
+use Rattle.model.specs.Lists.{In}
+use Rattle.model.proofs.Lists.{Pairs, in_filter_passes, filter-filter, filter_same, filter_none, filter-flat_map}
 use Rattle.model.proofs.Lists.{flat_map_same, flat_map_filter, in_right}
 use Rattle.locality.proofs.Entries.{done}
 use Rattle.locality.proofs.ProcessHistories.{part, late, added, dones}

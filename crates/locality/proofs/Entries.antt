@@ -9,7 +9,8 @@ use Rattle.model.specs.declared.AnyReply.{AnyReply}
 use Rattle.model.specs.Histories.{Event, Inv, Res, IsSequential}
 use Rattle.model.specs.Linearizable.{RepliesFrom}
 use Rattle.model.specs.Orders.{Return, Call, ProcessCall, ReturnsBefore, RepliesBy, IsValidOrderOf}
-use Rattle.model.proofs.Lists.{In, Pairs, in_map, in_map_from, pairs_weaker, in_from_contains, all_at}
+use Rattle.model.specs.Lists.{In}
+use Rattle.model.proofs.Lists.{Pairs, in_map, in_map_from, pairs_weaker, in_from_contains, all_at}
 use Rattle.model.proofs.Lists.{pairs_from_all, pairs_from_map}
 use Rattle.locality.proofs.Merge.{one_number}
 use Rattle.model.proofs.Orders.{max_either}

@@ -13,7 +13,8 @@ use Rattle.model.specs.Histories.{Event, process_of, is_invocation, by_process, 
 use Rattle.model.specs.Histories.{IsWellFormed, IsEquivalent, Operation, IsOperation, Precedes}
 use Rattle.model.specs.Linearizable.{IsLegal, IsLinearizableFor}
 use Rattle.model.specs.Orders.{Numbered, events, Return, ProcessCall, calls_in, IsHistory}
-use Rattle.model.proofs.Lists.{In, Pairs, in_filter, in_filter_passes, in_filter_from, pairs_filter, pairs_weaker}
+use Rattle.model.specs.Lists.{In}
+use Rattle.model.proofs.Lists.{Pairs, in_filter, in_filter_passes, in_filter_from, pairs_filter, pairs_weaker}
 use Rattle.model.proofs.Lists.{filter-filter, filter_same, flat_map_filter, below_split, length_filter_le, in_flat_map}
 use Rattle.model.proofs.Lists.{all_from_in}
 use Rattle.locality.specs.Locality.{HasValidOrderOf}

@@ -4,7 +4,8 @@ use Rattle.std.proofs.Common.{filter, ap, sym, ◌∙◌, arith}
 use Rattle.std.specs.List.{flat_map}
 use Rattle.std.proofs.lemmas.List.Folds.{flat_map-map}
 use Rattle.std.proofs.lemmas.Bool.{eqb-true, eq-eqb, and_parts, and_from, cases_order}
-use Rattle.model.proofs.Lists.{In, Pairs, in_filter, in_filter_passes, in_filter_from, pairs_filter, pairs_weaker}
+use Rattle.model.specs.Lists.{In}
+use Rattle.model.proofs.Lists.{Pairs, in_filter, in_filter_passes, in_filter_from, pairs_filter, pairs_weaker}
 use Rattle.model.proofs.Lists.{filter_all, filter_none, filter-flat_map, flat_map_same, flat_map_filter, in_flat_map}
 use Rattle.model.proofs.Lists.{same_single, batches, pairs_flat_map, pairs_map, in_map_from}
 

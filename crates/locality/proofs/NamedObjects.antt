@@ -5,7 +5,8 @@ use Rattle.std.proofs.lemmas.Bool.{eqb-true}
 use Rattle.model.specs.Specification.{Specification}
 use Rattle.model.specs.Orders.{Numbered, events, ProcessCall, calls_in, IsHistory, IsValidOrderOf}
 use Rattle.model.specs.Linearizable.{IsLinearizableFor}
-use Rattle.model.proofs.Lists.{In, in_filter, in_filter_passes, all_at}
+use Rattle.model.specs.Lists.{In}
+use Rattle.model.proofs.Lists.{in_filter, in_filter_passes, all_at}
 use Rattle.locality.specs.Locality.{HasValidOrderOf}
 use Rattle.locality.proofs.Linearization.{locality_lem}
 

@@ -7,7 +7,8 @@ use Rattle.std.proofs.lemmas.List.Elements.{filter-append, recursion_from_All}
 use Rattle.std.proofs.lemmas.Bool.{eqb-true, eq-eqb, and_parts, and_from, or_parts, not_from_false}
 use Rattle.model.specs.Histories.{Event, Inv, Res, process_of, is_invocation, by_process, matches, is_pending}
 use Rattle.model.specs.Histories.{IsSequential, IsWellFormed}
-use Rattle.model.proofs.Lists.{In, Pairs, in_filter, in_filter_passes, in_filter_from, pairs_filter, all_from_in}
+use Rattle.model.specs.Lists.{In}
+use Rattle.model.proofs.Lists.{Pairs, in_filter, in_filter_passes, in_filter_from, pairs_filter, all_from_in}
 use Rattle.model.proofs.Lists.{all_at, all_from_pairs, pairs_from_all}
 use Rattle.locality.specs.Completions.{IsPendingIn, AnswersPending}
 use Rattle.locality.proofs.Cuts.{any_of_process}

@@ -10,7 +10,8 @@ use Rattle.model.specs.Histories.{Event, Inv, Res, process_of, is_invocation, by
 use Rattle.model.specs.Histories.{IsSequential, invokes, responds}
 use Rattle.model.specs.Orders.{Numbered, events, Return, ProcessCall, response_in, response_of, begins, calls_in}
 use Rattle.model.specs.Orders.{IsHistory}
-use Rattle.model.proofs.Lists.{In, Pairs, pairs_filter, pairs_from_all, in_filter_passes}
+use Rattle.model.specs.Lists.{In}
+use Rattle.model.proofs.Lists.{Pairs, pairs_filter, pairs_from_all, in_filter_passes}
 use Rattle.locality.proofs.Entries.{number_of, done}
 
 -- ---- the events of one process, in turns

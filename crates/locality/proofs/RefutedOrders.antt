@@ -18,7 +18,8 @@ use Rattle.model.specs.Objects.{Content, queue, next, empty}
 use Rattle.model.specs.Linearizable.{IsLinearizable}
 use Rattle.model.specs.Orders.{Numbered, events, Return, Call, calls_on, IsHistory, ReturnsBefore, RepliesAlong}
 use Rattle.model.specs.Orders.{IsValidOrder}
-use Rattle.model.proofs.Lists.{In, Pairs, in_from_contains, all_at, pairs_from_all, in_map_from, in_map}
+use Rattle.model.specs.Lists.{In}
+use Rattle.model.proofs.Lists.{Pairs, in_from_contains, all_at, pairs_from_all, in_map_from, in_map}
 use Rattle.locality.specs.WorkedHistories.{invoke, invoked_while_pending, returned_unasked, returned_elsewhere}
 use Rattle.locality.specs.WorkedHistories.{numbered_backwards, enqueued_then_dequeued, overlapping_enqueues}
 use Rattle.locality.specs.WorkedHistories.{dequeued_out_of_turn, pending_overtakes_returned, mutex_passed_on}

@@ -14,7 +14,8 @@ use Rattle.model.specs.Histories.{complete, invokes, responds, Operation, IsOper
 use Rattle.model.specs.Linearizable.{RepliesFrom, IsLinearizableFor}
 use Rattle.model.specs.Orders.{Numbered, events, Return, Call, ProcessCall, begins, calls_in, calls_on, IsHistory}
 use Rattle.model.specs.Orders.{ReturnsBefore, RepliesBy}
-use Rattle.model.proofs.Lists.{In, Pairs, in_filter, in_filter_passes, in_filter_from, pairs_filter, pairs_map}
+use Rattle.model.specs.Lists.{In}
+use Rattle.model.proofs.Lists.{Pairs, in_filter, in_filter_passes, in_filter_from, pairs_filter, pairs_map}
 use Rattle.model.proofs.Lists.{filter-filter, filter_all, filter_none, in_map, in_map_from, contains_from_in}
 use Rattle.model.proofs.Lists.{all_from_in, all_from_pairs, in_left, in_middle, in_split}
 use Rattle.locality.specs.Locality.{HasValidOrderOf}

@@ -12,7 +12,8 @@ use Rattle.model.specs.Histories.{Event, process_of, is_invocation, by_process, 
 use Rattle.model.specs.Linearizable.{IsLinearizable}
 use Rattle.model.specs.Orders.{Numbered, events, Return, Call, ProcessCall, calls_in, IsHistory, ReturnsBefore}
 use Rattle.model.specs.Orders.{RepliesAlong, IsValidOrder}
-use Rattle.model.proofs.Lists.{In, Pairs, filter_none, pairs_map, pairs_weaker, all_from_in, all_from_pairs}
+use Rattle.model.specs.Lists.{In}
+use Rattle.model.proofs.Lists.{Pairs, filter_none, pairs_map, pairs_weaker, all_from_in, all_from_pairs}
 use Rattle.locality.specs.Locality.{HasValidOrder}
 use Rattle.locality.proofs.ProcessHistories.{is_back}
 use Rattle.locality.proofs.OneKind.{named_kinds}

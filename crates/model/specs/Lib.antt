@@ -1,3 +1,4 @@
+pub mod Lists
 pub mod Specification
 pub mod Kinds
 pub mod Objects

@@ -18,7 +18,8 @@ use Rattle.std.proofs.lemmas.Map.Keys.{sorted_head, sorted_tail}
 use Rattle.std.proofs.lemmas.Map.Lookups.{exact_unsigned}
 use Rattle.std.proofs.lemmas.Map.Views.{All-found, btree_map_get_iff}
 use Rattle.model.specs.Orders.{calls_on}
-use Rattle.model.proofs.Lists.{In, Pairs, in_append, in_left, in_middle, in_map, in_map_from, pairs_map}
+use Rattle.model.specs.Lists.{In}
+use Rattle.model.proofs.Lists.{Pairs, in_append, in_left, in_middle, in_map, in_map_from, pairs_map}
 use Rattle.model.proofs.Lists.{pairs_weaker, pairs_from_map}
 use Rattle.model.proofs.Lists.{in_from_contains, contains_from_in, all_at, all_from_in, all_from_pairs}
 use Rattle.events.specs.declared.event.Event.{Event}

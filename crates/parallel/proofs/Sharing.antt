@@ -8,7 +8,8 @@ use Rattle.std.proofs.Math.Nat.{lt_of_mul-lt-mul_right, mul-lt-mul_of_pos_right,
 use Rattle.std.proofs.lemmas.Bool.{cases_order}
 use Rattle.std.proofs.lemmas.List.{get_or_default, take_all}
 use Rattle.std.proofs.lemmas.List.Elements.{All-push, Contains-push, Contains-append_left}
-use Rattle.model.proofs.Lists.{In, all_from_in}
+use Rattle.model.specs.Lists.{In}
+use Rattle.model.proofs.Lists.{all_from_in}
 use Rattle.model.proofs.Lists.{all_at}
 use Rattle.events.specs.declared.event.Event.{Event}
 use Rattle.events.specs.Operations.{ObjectCalls, calls_of}

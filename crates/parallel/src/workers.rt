@@ -12,7 +12,7 @@ ghost use Rattle.parallel.specs.Shares.{max_workers};
 use crate::gathering::split_by_workers;
 use crate::share::{RefusedObject, check_share, least};
 use certificate::Certificate;
-use checker::{Refusal, places, strange_object};
+use checker::{Refusal, certificate_places, strange_object};
 use events::{History, ObjectHistory};
 use seq_objects::Gate;
 use std::alloc::Global;
@@ -36,7 +36,7 @@ fn check_objects<R: Threads + Sync, G: Gate>(
     ensures answer { (es : List Event) → AreAll es objects.now
         → IsCheckAnswer es certificates.now result }
 {
-    let Ok(places) = places(alloc, certificates) else {
+    let Ok(places) = certificate_places(alloc, certificates) else {
         return Err(Refusal::NoMemory);
     };
     let count = objects.len().clamp(1, workers as usize);

@@ -13,7 +13,8 @@ use Rattle.model.specs.declared.AnyReply.{AnyReply}
 use Rattle.model.specs.Objects.{Content, queue, stack, heap, empty}
 use Rattle.model.specs.Objects.{with_value, next}
 use Rattle.model.specs.Orders.{Call, Return, ReturnsBefore, RepliesAlong, IsValidOrder}
-use Rattle.model.proofs.Lists.{In, Pairs, in_filter, in_filter_passes, in_filter_from, filter_all, pairs_filter}
+use Rattle.model.specs.Lists.{In}
+use Rattle.model.proofs.Lists.{Pairs, in_filter, in_filter_passes, in_filter_from, filter_all, pairs_filter}
 use Rattle.model.proofs.Lists.{contains_from_in, all_from_in}
 use Rattle.model.proofs.Lists.{all_from_pairs, pairs_map}
 use Rattle.projection.specs.Parts.{reply_of, takes_out, ended_before}

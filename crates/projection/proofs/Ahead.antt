@@ -16,7 +16,8 @@ use Rattle.model.specs.declared.AnyReply.{AnyReply}
 use Rattle.model.specs.declared.AnyReply.TheVariants.{Value, Swapped, NotSwapped, Flag}
 use Rattle.model.specs.Objects.{queue, stack, kind_of, empty}
 use Rattle.model.specs.Orders.{Call, Return, ReturnsBefore, RepliesAlong, IsValidOrder}
-use Rattle.model.proofs.Lists.{In, Pairs, in_append, in_left, in_split, in_from_contains, all_at}
+use Rattle.model.specs.Lists.{In}
+use Rattle.model.proofs.Lists.{Pairs, in_append, in_left, in_split, in_from_contains, all_at}
 use Rattle.model.proofs.Lists.{pairs_from_all, pairs_weaker}
 use Rattle.projection.specs.Parts.{ended_before}
 use Rattle.projection.specs.Kinds.Containers.{puts_in, is_removal}

@@ -4,7 +4,7 @@ use Rattle.std.proofs.Common.{◌≡◌, ◌⊎◌, inl, inr, ◌<◌, ◌&&◌,
 use Rattle.std.proofs.Common.{None, IfSome, refl, arith}
 use Rattle.std.proofs.Common.{ap, ◌∙◌, List, [], ◌∷◌}
 use Rattle.std.specs.List.{list_all}
-use Rattle.model.proofs.Lists.{In}
+use Rattle.model.specs.Lists.{In}
 use Rattle.std.specs.Prelude.{ℤ}
 use Rattle.std.specs.Ordering.{int_eq}
 use Rattle.std.proofs.lemmas.Int.{ints}

@@ -22,7 +22,8 @@ use Rattle.model.specs.Objects.{Content, queue, stack, heap, register, table, mu
 use Rattle.model.specs.Objects.{contains_value, next}
 use Rattle.model.specs.Objects.{inserted_if, is_absent, has_value}
 use Rattle.model.specs.Orders.{Call, Return, ReturnsBefore, RepliesAlong, IsValidOrder}
-use Rattle.model.proofs.Lists.{In, Pairs, all_at}
+use Rattle.model.specs.Lists.{In}
+use Rattle.model.proofs.Lists.{Pairs, all_at}
 use Rattle.projection.specs.declared.counting.Counted.{Counted}
 use Rattle.projection.specs.declared.counting.Counted.TheVariants.{Value, Entry, NoEntry, Held, Free}
 use Rattle.projection.specs.Parts.{reply_of, ended_before}

@@ -9,7 +9,8 @@ use Rattle.model.specs.declared.AnyOp.{AnyOp}
 use Rattle.model.specs.declared.AnyReply.{AnyReply}
 use Rattle.model.specs.Objects.{kind_of}
 use Rattle.model.specs.Orders.{Call, Return}
-use Rattle.model.proofs.Lists.{In, all_from_in, all_at, all_from_pairs, pairs_from_all}
+use Rattle.model.specs.Lists.{In}
+use Rattle.model.proofs.Lists.{all_from_in, all_at, all_from_pairs, pairs_from_all}
 use Rattle.events.specs.declared.operations.End.{End}
 use Rattle.events.specs.declared.operations.End.TheVariants.{Returned, Pending, Failed}
 use Rattle.events.specs.declared.operations.Invocation.{Invocation}

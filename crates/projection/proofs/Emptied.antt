@@ -13,7 +13,8 @@ use Rattle.model.specs.declared.AnyReply.TheVariants.{Value}
 use Rattle.model.specs.Objects.{Content, heap}
 use Rattle.model.specs.Objects.{empty, next}
 use Rattle.model.specs.Orders.{Call, Return, RepliesAlong}
-use Rattle.model.proofs.Lists.{In, Pairs, in_left, in_middle}
+use Rattle.model.specs.Lists.{In}
+use Rattle.model.proofs.Lists.{Pairs, in_left, in_middle}
 use Rattle.projection.specs.Parts.{reply_of, takes_out}
 use Rattle.projection.specs.Kinds.Containers.{puts_in, is_removal}
 use Rattle.projection.specs.Ahead.{may_take}

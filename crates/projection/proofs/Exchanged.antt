@@ -9,7 +9,8 @@ use Rattle.model.specs.declared.AnyOp.{AnyOp}
 use Rattle.model.specs.declared.AnyReply.{AnyReply}
 use Rattle.model.specs.Objects.{Content, next, kind_of}
 use Rattle.model.specs.Orders.{Call, Return, ReturnsBefore, RepliesAlong}
-use Rattle.model.proofs.Lists.{In, Pairs, pairs_weaker}
+use Rattle.model.specs.Lists.{In}
+use Rattle.model.proofs.Lists.{Pairs, pairs_weaker}
 use Rattle.projection.specs.Parts.{reply_of, is_kept_value, takes_out, is_pending_removal, put_count, taken_count}
 use Rattle.projection.specs.Kinds.Containers.{is_removal}
 use Rattle.projection.specs.Kinds.Keeping.{fits}

@@ -4,7 +4,7 @@ use Rattle.std.proofs.Common.{refl, ap, sym, ◌∙◌, subst}
 use Rattle.model.specs.declared.AnyReply.{AnyReply}
 use Rattle.model.specs.Objects.{Content}
 use Rattle.model.specs.Orders.{Call, Return, RepliesAlong}
-use Rattle.model.proofs.Lists.{In}
+use Rattle.model.specs.Lists.{In}
 use Rattle.projection.specs.Parts.{reply_of}
 use Rattle.projection.specs.Kinds.Keeping.{fits}
 use Rattle.projection.proofs.Simulation.{Stepped, Replied, Simulates}

@@ -11,7 +11,8 @@ use Rattle.model.specs.declared.AnyReply.{AnyReply}
 use Rattle.model.specs.declared.AnyReply.TheVariants.{Value}
 use Rattle.model.specs.Objects.{Content, queue, stack, next}
 use Rattle.model.specs.Orders.{Call, ReturnsBefore, RepliesAlong}
-use Rattle.model.proofs.Lists.{In, Pairs}
+use Rattle.model.specs.Lists.{In}
+use Rattle.model.proofs.Lists.{Pairs}
 use Rattle.projection.specs.Parts.{takes_out}
 use Rattle.projection.specs.Kinds.Containers.{puts_in}
 use Rattle.projection.specs.Ahead.{first_put}

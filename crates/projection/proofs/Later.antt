@@ -11,7 +11,8 @@ use Rattle.model.specs.declared.AnyOp.{AnyOp}
 use Rattle.model.specs.declared.AnyReply.{AnyReply}
 use Rattle.model.specs.Objects.{kind_of}
 use Rattle.model.specs.Orders.{Call, Return, IsValidOrder}
-use Rattle.model.proofs.Lists.{In, Pairs, in_from_contains, contains_from_in, all_from_in, all_at, pairs_from_all}
+use Rattle.model.specs.Lists.{In}
+use Rattle.model.proofs.Lists.{Pairs, in_from_contains, contains_from_in, all_from_in, all_at, pairs_from_all}
 use Rattle.events.specs.declared.operations.End.{End}
 use Rattle.events.specs.declared.operations.End.TheVariants.{Returned, Pending, Failed}
 use Rattle.events.specs.declared.operations.Invocation.{Invocation}

@@ -6,7 +6,8 @@ use Rattle.model.specs.declared.Kind.{Kind}
 use Rattle.model.specs.declared.AnyReply.{AnyReply}
 use Rattle.model.specs.Objects.{Content, empty, next}
 use Rattle.model.specs.Orders.{Call, Return, ReturnsBefore, RepliesAlong, IsValidOrder}
-use Rattle.model.proofs.Lists.{In, contains_from_in, all_from_in, all_from_pairs}
+use Rattle.model.specs.Lists.{In}
+use Rattle.model.proofs.Lists.{contains_from_in, all_from_in, all_from_pairs}
 use Rattle.model.proofs.Lists.{pairs_map}
 use Rattle.projection.proofs.Ordered.{in_calls, in_entries, named_apart, in_time_order}
 use Rattle.projection.proofs.Simulation.{pick, in_pick, pairs_pick}

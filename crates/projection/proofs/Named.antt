@@ -9,7 +9,8 @@ use Rattle.std.proofs.lemmas.Bool.{eqb-true}
 use Rattle.model.specs.declared.AnyOp.{AnyOp}
 use Rattle.model.specs.declared.AnyReply.{AnyReply}
 use Rattle.model.specs.Orders.{Call, Return}
-use Rattle.model.proofs.Lists.{In, Pairs, in_from_contains, pairs_from_all}
+use Rattle.model.specs.Lists.{In}
+use Rattle.model.proofs.Lists.{Pairs, in_from_contains, pairs_from_all}
 use Rattle.projection.specs.declared.cutting.Cut.{Cut}
 use Rattle.projection.specs.declared.cutting.Cut.TheVariants.{From, Until, Without, Keep, Cell, Entry}
 use Rattle.projection.specs.declared.kinds.Place.{Place}

@@ -3,7 +3,8 @@
 use Rattle.std.proofs.Common.{◌≢◌, ℤ, pos, ◌<◌, List, AllPairs, Contains, IsSome, ap, subst, arith}
 use Rattle.model.specs.declared.Kind.{Kind}
 use Rattle.model.specs.Orders.{Call, ReturnsBefore, IsValidOrder}
-use Rattle.model.proofs.Lists.{In, Pairs, in_from_contains, all_at, pairs_from_all, pairs_weaker, pairs_from_map}
+use Rattle.model.specs.Lists.{In}
+use Rattle.model.proofs.Lists.{Pairs, in_from_contains, all_at, pairs_from_all, pairs_weaker, pairs_from_map}
 
 -- calls in the order of their numbers differ
 pub calls_apart : (calls : List Call) → AllPairs (λ a b. a.number < b.number) calls → Pairs (λ x y. x ≢ y) calls

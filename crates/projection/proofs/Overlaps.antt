@@ -16,7 +16,7 @@ use Rattle.model.specs.declared.AnyReply.TheVariants.{Value, Swapped, Flag}
 use Rattle.model.specs.Objects.{Content, register, empty}
 use Rattle.model.specs.Objects.{next, kind_of}
 use Rattle.model.specs.Orders.{Call, Return, ReturnsBefore, RepliesAlong}
-use Rattle.model.proofs.Lists.{In}
+use Rattle.model.specs.Lists.{In}
 use Rattle.projection.specs.Parts.{ended_before, written_before, write_call, pending_call, overlapping, call_later}
 use Rattle.projection.specs.Parts.{returned_call}
 use Rattle.projection.specs.Kinds.Starts.{key_of, leaves, written}

@@ -15,7 +15,8 @@ use Rattle.model.specs.declared.AnyReply.{AnyReply}
 use Rattle.model.specs.declared.AnyReply.TheVariants.{Value}
 use Rattle.model.specs.Objects.{Content, empty, next, kind_of}
 use Rattle.model.specs.Orders.{Call, Return, ReturnsBefore, RepliesAlong, IsValidOrder}
-use Rattle.model.proofs.Lists.{In, Pairs, in_append, in_left, in_right, in_split, in_map, in_map_from}
+use Rattle.model.specs.Lists.{In}
+use Rattle.model.proofs.Lists.{Pairs, in_append, in_left, in_right, in_split, in_map, in_map_from}
 use Rattle.model.proofs.Lists.{in_from_contains, contains_from_in}
 use Rattle.model.proofs.Lists.{all_from_in, all_at, all_from_pairs, pairs_weaker, pairs_map}
 use Rattle.model.proofs.Lists.{pairs_append}

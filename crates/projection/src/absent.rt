@@ -94,7 +94,7 @@ fn cut_operations(
 /// that the value definitely was not in the queue, stack or heap; `None`: there are fewer.
 ///
 /// An error: an allocation failed.
-pub fn without(
+pub fn part_without(
     alloc: Global,
     history: &ObjectHistory,
     value: i64,

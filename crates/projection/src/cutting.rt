@@ -6,11 +6,11 @@ ghost use Rattle.events.specs.Operations.{calls_of};
 ghost use Rattle.projection.specs.Cuts.{IsPart, Names, NamesPart, kind_cut, part_kind};
 ghost use Rattle.projection.specs.CutOperations.{has_failed};
 
-use crate::absent::without;
-use crate::cells::{cell, entry};
-use crate::keeping::{Values, keep};
-use crate::prefix::until;
-use crate::suffix::from;
+use crate::absent::part_without;
+use crate::cells::{cell_part, entry_part};
+use crate::keeping::{Values, closed_part};
+use crate::prefix::prefix_until;
+use crate::suffix::suffix_from;
 use events::{End, Invocation, ObjectHistory};
 use std::alloc::{AllocError, Global};
 use std::collections::BTreeSet;
@@ -92,21 +92,21 @@ fn cut_by(
     // This does nothing. It says that the numbers of the operations rise.
     history.ops();
     match cut {
-        Cut::From(number) => from(alloc, history, *number),
-        Cut::Until(number) => Ok(Some(until(alloc, history, *number)?)),
-        Cut::Without { value, before } => without(alloc, history, *value, *before),
-        Cut::Keep { values, numbers } => keep(alloc, history, values, numbers),
+        Cut::From(number) => suffix_from(alloc, history, *number),
+        Cut::Until(number) => Ok(Some(prefix_until(alloc, history, *number)?)),
+        Cut::Without { value, before } => part_without(alloc, history, *value, *before),
+        Cut::Keep { values, numbers } => closed_part(alloc, history, values, numbers),
         Cut::Cell {
             values,
             other,
             numbers,
-        } => Ok(Some(cell(alloc, history, values, *other, numbers)?)),
+        } => Ok(Some(cell_part(alloc, history, values, *other, numbers)?)),
         Cut::Entry {
             key,
             values,
             other,
             numbers,
-        } => Ok(Some(entry(alloc, history, *key, values, *other, numbers)?)),
+        } => Ok(Some(entry_part(alloc, history, *key, values, *other, numbers)?)),
     }
 }
 

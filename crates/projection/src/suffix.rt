@@ -178,14 +178,14 @@ fn start_at(operations: &[Invocation], number: u32) -> Option<Start>
     start_by(operations, operation)
 }
 
-/// The part that begins with the call of this number. The call returned, its reply tells what it
-/// left, and at a map each call is on its key, or at a set on its element; `None`: it is not so.
+/// The part that begins with the call of this number. Returns None unless the call returned, its
+/// reply tells what it left, and each call is on its key (of a map) or its element (of a set).
 /// The part leaves out each call that returned before it. Of those that overlap it, if it left a
 /// value, a write becomes a write, and so does a swap that was not refused. Any other is pending;
 /// if it left nothing, all of them are.
 ///
 /// An error: an allocation failed.
-pub fn from(
+pub fn suffix_from(
     alloc: Global,
     history: &ObjectHistory,
     number: u32,

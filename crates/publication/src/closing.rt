@@ -53,8 +53,8 @@ pub struct Unretired<S: SeqObject> {
 
 impl<S: SeqObject> Desk<S> {
     /// Ends a client, and leaves its journal with the desk. A call that is outstanding may still be
-    /// answered; the journal has its invocation, and no return. `close` names no client of whose
-    /// end the last one was told, and its record has the journal that was told of.
+    /// answered; the journal has its invocation, and no return. If the last client was told of this
+    /// client's end, `close` does not return it as `Unretired`, and the record has its journal.
     pub fn retire(&self, client: Client<S>) -> Retired<S>
         requires { client.desk ≡ self.now.id }
         ensures { result

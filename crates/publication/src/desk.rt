@@ -134,8 +134,8 @@ impl<S: SeqObject> Desk<S> {
         self.clients
     }
 
-    /// Whether there is such an object, of this kind.
-    fn has_kind(&self, object: u32, kind: Kind) -> Result<(), Post>
+    /// Refuses a call on an object that is not there (P3), or is of another kind (P4).
+    fn check_kind(&self, object: u32, kind: Kind) -> Result<(), Post>
         ensures ok { OnOk result ((object < length self.now.id.kinds)
             × (kind ≡ kind_at self.now.id.kinds object)) }
         ensures err { IfErr result (IsNotOfKind self.now.id.kinds object kind) }
@@ -149,8 +149,8 @@ impl<S: SeqObject> Desk<S> {
         Ok(())
     }
 
-    /// Whether the client may make this call: if not, the first of P1 to P4 that holds.
-    fn may_post(&self, client: &Client<S>, object: u32, op: &S::Op) -> Result<(), Post>
+    /// Refuses a call that the client may not make, by the first of P1 to P4 that holds.
+    fn check_post(&self, client: &Client<S>, object: u32, op: &S::Op) -> Result<(), Post>
         requires { client.now.desk ≡ self.now.id }
         ensures may { OnOk result (MayPost client.now) }
         ensures there { OnOk result ((object < length self.now.id.kinds)
@@ -164,7 +164,7 @@ impl<S: SeqObject> Desk<S> {
         if member.calls >= member.quota {
             return Err(Post::Spent);
         }
-        self.has_kind(object, S::kind_of(op))
+        self.check_kind(object, S::kind_of(op))
     }
 
     /// Posts a call: its invocation, with its ticket, is the last event of the journal. If it is
@@ -182,7 +182,7 @@ impl<S: SeqObject> Desk<S> {
         ensures refused { IfErr result (λ e. (client.new ≡ client.old)
             × IsPostRefusal self.now client.old object (S.op_in op) e) }
     {
-        if let Err(fault) = self.may_post(client, object, &op) {
+        if let Err(fault) = self.check_post(client, object, &op) {
             return Err(fault);
         }
         let slot = ROWS + client.number as usize;

@@ -5,7 +5,7 @@ use Rattle.std.proofs.lemmas.Bool.{eq-eqb}
 use Rattle.model.specs.declared.Kind.{Kind}
 use Rattle.model.specs.declared.AnyOp.{AnyOp}
 use Rattle.model.specs.Orders.{Numbered, Return, ProcessCall, calls_in}
-use Rattle.model.proofs.Lists.{In}
+use Rattle.model.specs.Lists.{In}
 use Rattle.locality.proofs.ProcessHistories.{first, calls_in-call}
 use Rattle.desk_model.specs.declared.Answer.TheVariants.{Reply, Refused}
 use Rattle.desk_model.specs.declared.JournalEvent.TheVariants.{Invoked, Returned}

@@ -4,7 +4,8 @@ use Rattle.std.proofs.Common.{◌≡◌, ℕ, ◌<◌, ◌==◌, List, map, filt
 use Rattle.std.proofs.Common.{eq-eqb, arith}
 use Rattle.model.specs.declared.Kind.{Kind}
 use Rattle.model.specs.Orders.{Return, ProcessCall, calls_in, calls_on}
-use Rattle.model.proofs.Lists.{In, Pairs, in_filter, in_filter_from, in_map_from, in_from_contains, all_at}
+use Rattle.model.specs.Lists.{In}
+use Rattle.model.proofs.Lists.{Pairs, in_filter, in_filter_from, in_map_from, in_from_contains, all_at}
 use Rattle.model.proofs.Lists.{all_from_in, all_from_pairs, pairs_from_all, pairs_from_map}
 use Rattle.locality.proofs.ProcessHistories.{part, calls_in-part}
 use Rattle.desk_model.specs.declared.JournalEvent.TheVariants.{Invoked}

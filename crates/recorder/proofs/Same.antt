@@ -1,7 +1,8 @@
 -- Lists in which numbers rise are the same where they have the same elements.
 use Rattle.std.proofs.Common.{◌≡◌, ℕ, ◌<◌, ◌==◌, inl, inr, List, [], ◌∷◌, filter, refl, ap, sym, ◌∙◌, subst, arith}
 use Rattle.std.proofs.lemmas.Bool.{eq-eqb}
-use Rattle.model.proofs.Lists.{In, Pairs, in_filter, in_filter_from}
+use Rattle.model.specs.Lists.{In}
+use Rattle.model.proofs.Lists.{Pairs, in_filter, in_filter_from}
 
 -- what is in both lists, except for the equal first elements, stands after them
 among_later : {X : Type 0} (f : X → ℕ) (x y z : X) (xs ys : List X) → ((w : X) → In w xs → f x < f w) → x ≡ y → In z xs

@@ -13,7 +13,8 @@ use Rattle.model.specs.declared.AnyReply.TheVariants.{Value, Swapped, NotSwapped
 use Rattle.model.specs.Objects.{Content, queue, stack, heap, register, table, mutex, elements, count, owner}
 use Rattle.model.specs.Objects.{empty, contains_value, has_value, is_absent, is_i64, stepped, next}
 use Rattle.model.specs.Orders.{Call, Return, RepliesAlong, IsValidOrder}
-use Rattle.model.proofs.Lists.{In, in_from_contains, all_at}
+use Rattle.model.specs.Lists.{In}
+use Rattle.model.proofs.Lists.{in_from_contains, all_at}
 use Rattle.std.specs.FinMap as map
 use Rattle.std.specs.FinSet as set
 use Rattle.events.specs.Events.{HasShape}

@@ -12,7 +12,8 @@ use Rattle.model.specs.Histories.{Event, Inv, Res, process_of, by_process, IsSeq
 use Rattle.model.specs.Linearizable.{IsLinearizable}
 use Rattle.model.specs.Orders.{Numbered, events, Return, Call, ProcessCall, response_in, response_of, begins}
 use Rattle.model.specs.Orders.{calls_in, calls_on, IsHistory}
-use Rattle.model.proofs.Lists.{In, Pairs, in_filter, in_filter_from, in_map, pairs_filter, pairs_map, pairs_weaker}
+use Rattle.model.specs.Lists.{In}
+use Rattle.model.proofs.Lists.{Pairs, in_filter, in_filter_from, in_map, pairs_filter, pairs_map, pairs_weaker}
 use Rattle.model.proofs.Lists.{all_from_in, all_from_pairs, pairs_from_all}
 use Rattle.locality.specs.Locality.{HasValidOrder}
 use Rattle.locality.proofs.Entries.{number_of}

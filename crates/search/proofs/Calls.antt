@@ -13,7 +13,8 @@ use Rattle.model.specs.declared.AnyOp.{AnyOp}
 use Rattle.model.specs.declared.AnyOp.TheVariants.{Dequeue}
 use Rattle.model.specs.Objects.{kind_of}
 use Rattle.model.specs.Orders.{Call, Return}
-use Rattle.model.proofs.Lists.{In, in_filter, in_filter_passes, in_filter_from, in_map, in_map_from}
+use Rattle.model.specs.Lists.{In}
+use Rattle.model.proofs.Lists.{in_filter, in_filter_passes, in_filter_from, in_map, in_map_from}
 use Rattle.model.proofs.Lists.{contains_from_in, filter-filter, filter_same, all_from_in, all_at}
 use Rattle.events.specs.declared.operations.End.{End}
 use Rattle.events.specs.declared.operations.End.TheVariants.{Returned, Pending}

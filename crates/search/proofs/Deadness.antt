@@ -6,7 +6,8 @@ use Rattle.std.proofs.lemmas.Option.{same_Some}
 use Rattle.model.specs.declared.AnyReply.{AnyReply}
 use Rattle.model.specs.Objects.{Content, next}
 use Rattle.model.specs.Orders.{Call, Return, ReturnsBefore, RepliesAlong}
-use Rattle.model.proofs.Lists.{In, Pairs}
+use Rattle.model.specs.Lists.{In}
+use Rattle.model.proofs.Lists.{Pairs}
 use Rattle.search.specs.Continuations.{IsLeft, IsCandidate, Continues, IsDead, IsDeadAt, Describes, IsDeadPair}
 
 -- what the call does is determined

@@ -5,7 +5,7 @@ use Rattle.std.proofs.Common.{◌≡◌, ◌≢◌, ℕ, zero, suc, ◌<◌, ◌
 use Rattle.std.proofs.Common.{ap, sym, ◌∙◌, arith}
 use Rattle.std.proofs.lemmas.List.{length-set, get_or-set_same, get_or-set_other, set-get_or}
 use Rattle.std.proofs.lemmas.Bool.{cases_eq, cases_order}
-use Rattle.model.proofs.Lists.{In}
+use Rattle.model.specs.Lists.{In}
 use Rattle.search.specs.Continuations.{IsLeft, Describes}
 use Rattle.search.specs.Links.{IsSlot, IsStop, IsFilledGap, IsForth, IsBack, Linked, next_without, before_without}
 use Rattle.search.specs.Links.{next_with, before_with, AreWithin, Lists}

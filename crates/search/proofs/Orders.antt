@@ -11,7 +11,8 @@ use Rattle.model.specs.declared.Kind.{Kind}
 use Rattle.model.specs.declared.AnyReply.{AnyReply}
 use Rattle.model.specs.Objects.{Content, empty}
 use Rattle.model.specs.Orders.{Call, Return, ReturnsBefore, RepliesAlong, IsValidOrder}
-use Rattle.model.proofs.Lists.{In, Pairs, in_map, in_map_from, in_from_contains, contains_from_in, in_from_get}
+use Rattle.model.specs.Lists.{In}
+use Rattle.model.proofs.Lists.{Pairs, in_map, in_map_from, in_from_contains, contains_from_in, in_from_get}
 use Rattle.model.proofs.Lists.{all_from_in, all_at, all_from_pairs}
 use Rattle.model.proofs.Lists.{pairs_from_all, pairs_filter, pairs_weaker, pairs_map, pairs_from_map}
 use Rattle.events.specs.declared.operations.Invocation.{Invocation}
@@ -136,7 +137,7 @@ valid_from kind calls n call rest order a h eo =
       replies = m.replies;
     }
 
--- ---- and back
+-- ---- from a valid order to places
 
 pub none_valid : (kind : Kind) (calls : List Call) (n : ℕ) (call : ℕ → Call) → AreListed calls n call
     → IsDead n call [] (empty kind) → (order : List ℤ) → IsValidOrder kind calls order → ⊥
@@ -170,7 +171,7 @@ nothing_valid kind calls pending = record {
     go None h i = absurd (cc i)
     go (Some r) h i = h r refl
 
--- ---- as a search has them
+-- ---- the order that a search found
 
 pub places_within : (t : Trials) (levels : List Level)
     → Continues (length t.items.items) (call_at t.items.items) [] (empty t.kind) (places levels)

@@ -5,7 +5,7 @@ use Rattle.std.proofs.Common.{inr, List, [], ◌∷◌, Option, Some, None, is_s
 use Rattle.std.specs.List.{list_any}
 use Rattle.std.proofs.lemmas.Bool.{cases_eq, eqb-true, eq-eqb, ne_eqb, or_cases, or_left, or_right}
 use Rattle.model.specs.Orders.{Call, Return}
-use Rattle.model.proofs.Lists.{In}
+use Rattle.model.specs.Lists.{In}
 use Rattle.search.specs.Arranged.{owes, count_below}
 use Rattle.search.specs.Continuations.{IsLeft, NoneReturned}
 

@@ -14,7 +14,8 @@ use Rattle.search.specs.declared.order_search.OrderOutcome.{OrderOutcome}
 use Rattle.search.specs.declared.order_search.OrderOutcome.TheVariants as outcome
 use Rattle.search.specs.declared.certificate_search.Search.{Search}
 use Rattle.search.specs.declared.certificate_search.CertificateOutcome.{CertificateOutcome}
-use Rattle.search.specs.declared.certificate_search.CertificateOutcome.TheVariants.{Impossible, OutOfSteps}
+use Rattle.search.specs.declared.certificate_search.CertificateOutcome.TheVariants.{Impossible}
+use Rattle.search.specs.declared.certificate_search.CertificateOutcome.TheVariants.{OutOfSteps}
 use Rattle.search.specs.declared.certificate_search.CertificateOutcome.TheVariants.{TooLarge}
 use Rattle.search.specs.declared.certificate_search.CertificateOutcome.TheVariants.{NoMemory}
 use Rattle.search.specs.declared.certificate_search.CertificateOutcome.TheVariants as found

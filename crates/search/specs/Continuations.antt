@@ -6,7 +6,7 @@ use Rattle.std.specs.Prelude.{◌≡◌, ◌≢◌, ℕ, ◌<◌, List, [], ◌�
 use Rattle.model.specs.declared.AnyReply.{AnyReply}
 use Rattle.model.specs.Objects.{Content, next}
 use Rattle.model.specs.Orders.{Call, Return, ReturnsBefore}
-use Rattle.model.proofs.Lists.{In}
+use Rattle.model.specs.Lists.{In}
 
 -- the place is one whose call is not done
 abbrev pub IsLeft : ℕ → List ℕ → ℕ → Type 0

@@ -1,7 +1,7 @@
 -- The linked list of the places that are left.
 use Rattle.std.specs.Prelude.{◌≡◌, ℕ, zero, suc, ◌<◌, ◌≤◌, ◌⊎◌, List, [], ◌∷◌, length, slice_set}
 use Rattle.std.specs.Prelude.{get_or}
-use Rattle.model.proofs.Lists.{In}
+use Rattle.model.specs.Lists.{In}
 use Rattle.search.specs.Continuations.{IsLeft}
 
 -- slot 0, or the one after a place that is left

@@ -3,7 +3,8 @@ use Rattle.std.specs.Prelude.{ℕ, ℤ, ⊤, List}
 use Rattle.model.specs.declared.Kind.{Kind}
 use Rattle.model.specs.Orders.{Call, IsValidOrder}
 use Rattle.search.specs.declared.order_search.OrderOutcome.{OrderOutcome}
-use Rattle.search.specs.declared.order_search.OrderOutcome.TheVariants.{Found, Impossible, OutOfSteps}
+use Rattle.search.specs.declared.order_search.OrderOutcome.TheVariants.{Found, Impossible}
+use Rattle.search.specs.declared.order_search.OrderOutcome.TheVariants.{OutOfSteps}
 use Rattle.search.specs.declared.order_search.OrderOutcome.TheVariants.{TooLarge, NoMemory}
 
 -- the most operations that `find_order` takes on, those that failed apart

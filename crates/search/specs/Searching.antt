@@ -3,7 +3,7 @@ use Rattle.std.specs.Prelude.{◌≡◌, ℕ, ℤ, pos, ◌<◌, ◌≤◌, ◌�
 use Rattle.std.specs.Prelude.{length, map, reverse}
 use Rattle.model.specs.Objects.{Content, empty}
 use Rattle.model.specs.Orders.{Call, Return}
-use Rattle.model.proofs.Lists.{In}
+use Rattle.model.specs.Lists.{In}
 use Rattle.search.specs.Undoing.{reversible_content, content_kept, undone}
 use Rattle.search.specs.declared.step.Step.{Step}
 use Rattle.search.specs.declared.level.Level.{Level}

@@ -32,8 +32,8 @@ impl QueueOp {
     }
 }
 
-/// A queue, in a ring. Each operation takes constant time, a growth aside. The reply is the value
-/// that went in or out.
+/// A queue, in a ring. Each operation takes constant time, except when the ring grows. The
+/// reply is the value that went in or out.
 #[derive(Debug, Drop)]
 pub struct Queue {
     values: VecDeque<i64>,

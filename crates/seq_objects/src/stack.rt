@@ -31,8 +31,8 @@ impl StackOp {
     }
 }
 
-/// A stack. Each operation takes constant time, a growth aside. The reply is the value that went on
-/// top or came off.
+/// A stack. Each operation takes constant time, except when it grows. The reply is the value that
+/// went on top or came off.
 #[derive(Debug, Drop)]
 pub struct Stack {
     // from the bottom on

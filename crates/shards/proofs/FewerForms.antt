@@ -7,7 +7,8 @@ use Rattle.std.specs.List.{cons_option}
 use Rattle.std.proofs.lemmas.List.{append-nil}
 use Rattle.std.proofs.lemmas.List.Elements.{filter_map-append}
 use Rattle.std.proofs.lemmas.Option.{same_Some}
-use Rattle.model.proofs.Lists.{In, in_filter_passes, in_middle}
+use Rattle.model.specs.Lists.{In}
+use Rattle.model.proofs.Lists.{in_filter_passes, in_middle}
 use Rattle.edn_reader.specs.Datum.{Datum}
 use Rattle.history.specs.Maps.{ClientMap, client_of, clients}
 use Rattle.history.specs.Faults.{ClientFault, IsMapFault, IsFaultlessAtAnyLength}

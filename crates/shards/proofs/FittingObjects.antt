@@ -2,7 +2,8 @@
 -- map, since an event is that of a map.
 use Rattle.std.proofs.Common.{◌≡◌, ℕ, ◌+◌, ◌/◌, ◌<◌, inl, inr, List, [], ◌∷◌, All, Option, Some, None}
 use Rattle.std.proofs.Common.{refl, ap, sym, ◌∙◌, subst}
-use Rattle.model.proofs.Lists.{In, all_at, in_append, in_from_contains, in_map}
+use Rattle.model.specs.Lists.{In}
+use Rattle.model.proofs.Lists.{all_at, in_append, in_from_contains, in_map}
 use Rattle.edn_reader.specs.Datum.{Datum}
 use Rattle.events.specs.declared.event.Action.{Action}
 use Rattle.events.specs.declared.event.Event.{Event}

@@ -10,7 +10,8 @@ use Rattle.std.proofs.lemmas.List.Folds.{list_any_none}
 use Rattle.std.proofs.lemmas.List.Kept.{AllPairs-from_increasing}
 use Rattle.std.proofs.lemmas.List.Sorted.{Contains-permutation, IsPermutation-sym}
 use Rattle.std.proofs.lemmas.Map.Keys.{IsDistinct-IsPermutation, IsDistinct-push, IsStrictlyIncreasing-from_distinct}
-use Rattle.model.proofs.Lists.{In, in_append, in_left, in_right, in_from_contains, contains_from_in, in_map}
+use Rattle.model.specs.Lists.{In}
+use Rattle.model.proofs.Lists.{in_append, in_left, in_right, in_from_contains, contains_from_in, in_map}
 use Rattle.model.proofs.Lists.{in_map_from, all_from_in, all_from_pairs, pairs_from_all, pairs_map}
 use Rattle.number_map.specs.Lookup.{value_of}
 use Rattle.number_map.specs.declared.NumberMap.{NumberMap}

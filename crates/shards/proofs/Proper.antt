@@ -8,7 +8,8 @@ use Rattle.std.proofs.lemmas.Bool.{eq-eqb}
 use Rattle.model.specs.declared.Kind.{Kind}
 use Rattle.model.specs.declared.AnyOp.{AnyOp}
 use Rattle.model.specs.Objects.{kind_of}
-use Rattle.model.proofs.Lists.{In, in_filter, in_left, in_middle, in_split, contains_from_in, in_from_contains}
+use Rattle.model.specs.Lists.{In}
+use Rattle.model.proofs.Lists.{in_filter, in_left, in_middle, in_split, contains_from_in, in_from_contains}
 use Rattle.model.proofs.Lists.{pairs_filter, all_from_pairs, pairs_from_all}
 use Rattle.events.specs.declared.event.Action.{Action}
 use Rattle.events.specs.declared.event.Action.TheVariants.{Invoke, Ok, Fail, Info}

@@ -5,7 +5,8 @@ use Rattle.std.proofs.Common.{inl, length, get_or, drop, decimal, refl, ap, sym,
 use Rattle.std.specs.List.{list_all}
 use Rattle.std.proofs.lemmas.Bool.{and_parts}
 use Rattle.std.proofs.lemmas.List.{append-nil, drop_all, drop_more}
-use Rattle.model.proofs.Lists.{In, all_at, all_from_in, in_right}
+use Rattle.model.specs.Lists.{In}
+use Rattle.model.proofs.Lists.{all_at, all_from_in, in_right}
 use Rattle.edn_reader.specs.Bytes.{is_digit}
 use Rattle.edn_reader.specs.Spells.{value_after}
 use Rattle.edn_reader.proofs.Decimals.{decimal_is}

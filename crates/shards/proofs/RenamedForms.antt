@@ -6,7 +6,8 @@ use Rattle.std.specs.List.{cons_option}
 use Rattle.std.proofs.lemmas.Bool.{eqb-true}
 use Rattle.std.proofs.lemmas.List.{map-append}
 use Rattle.std.proofs.lemmas.List.Elements.{All-head, All-tail}
-use Rattle.model.proofs.Lists.{In, in_filter, in_filter_passes, in_right, in_split}
+use Rattle.model.specs.Lists.{In}
+use Rattle.model.proofs.Lists.{in_filter, in_filter_passes, in_right, in_split}
 use Rattle.edn_reader.specs.Datum.{Datum}
 use Rattle.events.specs.declared.event.Action.{Action}
 use Rattle.events.specs.declared.event.Event.{Event}

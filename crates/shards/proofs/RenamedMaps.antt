@@ -4,7 +4,8 @@
 use Rattle.std.proofs.Common.{arith, ◌≡◌, ℕ, ◌==◌, inl, inr, List, [], ◌∷◌, ◌++◌, find, reverse, Option, Some, None}
 use Rattle.std.proofs.Common.{option_map, option_and_then, refl, ap, sym, ◌∙◌, subst, append_assoc}
 use Rattle.std.proofs.lemmas.List.{reverse-append}
-use Rattle.model.proofs.Lists.{In, in_middle, in_left, contains_from_in, in_from_contains}
+use Rattle.model.specs.Lists.{In}
+use Rattle.model.proofs.Lists.{in_middle, in_left, contains_from_in, in_from_contains}
 use Rattle.seq_objects.specs.Values.{op_with, reply_with}
 use Rattle.events.specs.declared.event.Action.TheVariants.{Invoke, Ok}
 use Rattle.history.specs.Maps.{ClientMap, MapType, invoke, ok, fail, info, op_in, plain_value, reply_in}

@@ -8,7 +8,8 @@ use Rattle.model.specs.declared.Kind.{Kind}
 use Rattle.model.specs.declared.AnyOp.{AnyOp}
 use Rattle.model.specs.Objects.{any}
 use Rattle.model.specs.Orders.{Call, ProcessCall, calls_in, calls_on, IsValidOrderOf}
-use Rattle.model.proofs.Lists.{In, in_filter_from, in_map, in_map_from, all_from_in, all_from_pairs, pairs_from_all}
+use Rattle.model.specs.Lists.{In}
+use Rattle.model.proofs.Lists.{in_filter_from, in_map, in_map_from, all_from_in, all_from_pairs, pairs_from_all}
 use Rattle.model.proofs.Lists.{pairs_map, contains_from_in}
 use Rattle.locality.specs.Locality.{HasValidOrder}
 use Rattle.locality.proofs.OneKind.{named_kinds, orders_of_kinds}

@@ -9,7 +9,7 @@ use Rattle.model.specs.Histories as model
 use Rattle.model.specs.Histories.{by_object}
 use Rattle.model.specs.Linearizable.{InSpecification, IsLinearizable}
 use Rattle.model.specs.Orders.{Numbered, events}
-use Rattle.model.proofs.Lists.{In}
+use Rattle.model.specs.Lists.{In}
 use Rattle.events.specs.declared.event.Action.{Action}
 use Rattle.events.specs.declared.event.Event.{Event}
 use Rattle.events.specs.Events.{next_event, is_fail, fails, denoted_by, denoted, kind_by, kind_of_object}

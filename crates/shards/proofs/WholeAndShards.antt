@@ -4,7 +4,8 @@ use Rattle.std.proofs.Common.{◌≡◌, ◌↔◌, ℕ, ◌==◌, Bool, true, f
 use Rattle.std.proofs.Common.{refl, ap, sym, ◌∙◌, subst}
 use Rattle.std.proofs.lemmas.Bool.{eq-eqb, ne_eqb}
 use Rattle.model.specs.Orders.{ProcessCall, calls_in, calls_on}
-use Rattle.model.proofs.Lists.{In, in_filter_from, in_map_from, all_from_in}
+use Rattle.model.specs.Lists.{In}
+use Rattle.model.proofs.Lists.{in_filter_from, in_map_from, all_from_in}
 use Rattle.locality.specs.Locality.{HasValidOrder}
 use Rattle.locality.proofs.OneKind.{locality_of_kinds, named_kinds, orders_of_kinds}
 use Rattle.events.specs.declared.event.Event.{Event}

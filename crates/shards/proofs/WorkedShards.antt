@@ -8,7 +8,8 @@ use Rattle.model.specs.declared.AnyOp.TheVariants.{Enqueue}
 use Rattle.model.specs.declared.AnyReply.TheVariants.{Value}
 use Rattle.model.specs.Objects.{kind_of, queue}
 use Rattle.model.specs.Orders.{ProcessCall, calls_in, calls_on, IsValidOrder}
-use Rattle.model.proofs.Lists.{In, Pairs, in_map_from, all_from_in, all_from_pairs}
+use Rattle.model.specs.Lists.{In}
+use Rattle.model.proofs.Lists.{Pairs, in_map_from, all_from_in, all_from_pairs}
 use Rattle.locality.specs.Locality.{HasValidOrder}
 use Rattle.locality.proofs.OneKind.{named_kinds}
 use Rattle.locality.proofs.WrittenOut.{valid_order}

@@ -1,7 +1,8 @@
 -- The text of a shard spells its maps: each map with a line feed after it, by the law that texts with a
 -- line feed between them spell what both spell.
 use Rattle.std.proofs.Common.{ℕ, Bool, inl, inr, List, [], ◌∷◌, filter, map, All, refl}
-use Rattle.model.proofs.Lists.{In, in_filter, in_filter_passes, all_at}
+use Rattle.model.specs.Lists.{In}
+use Rattle.model.proofs.Lists.{in_filter, in_filter_passes, all_at}
 use Rattle.edn_reader.specs.Spells.{Spells}
 use Rattle.edn_reader.proofs.Joined.{joined_spell, nothing_spelled}
 use Rattle.shards.specs.Forms.{is_on}

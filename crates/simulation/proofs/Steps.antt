@@ -4,7 +4,8 @@ use Rattle.std.proofs.Common.{◌≡◌, ◌≢◌, ℕ, ◌+◌, ◌<◌, List,
 use Rattle.std.proofs.Common.{None, refl, ap, sym, ◌∙◌, subst, arith}
 use Rattle.std.proofs.lemmas.List.{map-append, take_more, drop_more, take-append-drop, length-map, length-take-le}
 use Rattle.std.proofs.lemmas.List.{take-map}
-use Rattle.model.proofs.Lists.{In, in_middle, in_map, in_map_from, all_from_in}
+use Rattle.model.specs.Lists.{In}
+use Rattle.model.proofs.Lists.{in_middle, in_map, in_map_from, all_from_in}
 use Rattle.edn_reader.specs.Datum.{Datum}
 use Rattle.edn_reader.specs.View.{view, views}
 use Rattle.edn_reader.specs.declared.form.Form.{Form}

@@ -8,7 +8,8 @@ use Rattle.model.specs.declared.AnyOp.{AnyOp}
 use Rattle.model.specs.Objects.{kind_of}
 use Rattle.model.specs.Histories.{process_of}
 use Rattle.model.specs.Orders.{Numbered, IsValidOrder, calls_on}
-use Rattle.model.proofs.Lists.{In, in_map, in_map_from, in_from_contains, contains_from_in, all_at, all_from_in}
+use Rattle.model.specs.Lists.{In}
+use Rattle.model.proofs.Lists.{in_map, in_map_from, in_from_contains, contains_from_in, all_at, all_from_in}
 use Rattle.model.proofs.Lists.{pairs_from_all}
 use Rattle.desk_model.specs.World as world
 use Rattle.desk_model.specs.World.{AnyEntry, AnyEvent}

@@ -3,7 +3,8 @@
 use Rattle.std.proofs.Common.{◌≡◌, ◌↔◌, ℕ, ℤ, pos, ◌+◌, ◌<◌, List, [], ◌∷◌, ◌++◌, length, map, take, get_or, All}
 use Rattle.std.proofs.Common.{AllPairs, Contains, refl, ap, sym, ◌∙◌, subst}
 use Rattle.std.proofs.lemmas.List.{map-append, take_more}
-use Rattle.model.proofs.Lists.{In, in_from_get, in_map_from, in_from_contains, contains_from_in, all_at}
+use Rattle.model.specs.Lists.{In}
+use Rattle.model.proofs.Lists.{in_from_get, in_map_from, in_from_contains, contains_from_in, all_at}
 use Rattle.model.proofs.Lists.{all_from_in, pairs_from_all, all_from_pairs, pairs_map, pairs_from_map}
 use Rattle.model.specs.declared.AnyOp.{AnyOp}
 use Rattle.model.specs.declared.AnyReply.{AnyReply}

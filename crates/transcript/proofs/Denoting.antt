@@ -5,7 +5,8 @@ use Rattle.std.proofs.lemmas.List.Elements.{filter-append}
 use Rattle.std.proofs.lemmas.Bool.{eqb-true, eq-eqb}
 use Rattle.model.specs.Histories.{Inv, Res, process_of}
 use Rattle.model.specs.Orders.{Numbered}
-use Rattle.model.proofs.Lists.{In, filter_all, filter_none}
+use Rattle.model.specs.Lists.{In}
+use Rattle.model.proofs.Lists.{filter_all, filter_none}
 use Rattle.locality.proofs.ProcessHistories.{part}
 use Rattle.desk_model.specs.declared.Answer.TheVariants.{Reply, Refused}
 use Rattle.desk_model.specs.declared.JournalEvent.TheVariants.{Invoked, Returned}

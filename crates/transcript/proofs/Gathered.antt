@@ -11,7 +11,8 @@ use Rattle.std.proofs.lemmas.List.Elements.{filter-append}
 use Rattle.std.proofs.lemmas.List.Sorted.{IsPermutation-map, IsPermutation-sym, Contains-permutation}
 use Rattle.std.proofs.lemmas.Map.Keys.{IsDistinct-from_apart, IsDistinct-IsPermutation, apart_from_distinct}
 use Rattle.std.proofs.lemmas.Bool.{eqb-true, eq-eqb, ne_eqb}
-use Rattle.model.proofs.Lists.{in_left, in_right, In, Pairs, in_append, in_filter, in_filter_passes, in_filter_from}
+use Rattle.model.specs.Lists.{In}
+use Rattle.model.proofs.Lists.{in_left, in_right, Pairs, in_append, in_filter, in_filter_passes, in_filter_from}
 use Rattle.model.proofs.Lists.{in_map_from, in_from_contains, contains_from_in, pairs_append, pairs_filter}
 use Rattle.model.proofs.Lists.{pairs_weaker, pairs_from_all, pairs_from_map, pairs_map, all_from_pairs, filter_all}
 use Rattle.model.proofs.Lists.{filter_none}

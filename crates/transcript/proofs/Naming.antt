@@ -2,7 +2,8 @@
 use Rattle.std.proofs.Common.{◌≡◌, ℕ, ◌==◌, inl, inr, List, [], ◌∷◌, Contains, refl, sym, subst}
 use Rattle.std.proofs.lemmas.Bool.{eq-eqb}
 use Rattle.model.specs.declared.AnyOp.{AnyOp}
-use Rattle.model.proofs.Lists.{In, in_filter, in_filter_from, in_from_contains, contains_from_in}
+use Rattle.model.specs.Lists.{In}
+use Rattle.model.proofs.Lists.{in_filter, in_filter_from, in_from_contains, contains_from_in}
 use Rattle.desk_model.specs.declared.JournalEvent.TheVariants.{Invoked, Returned}
 use Rattle.desk_model.specs.World.{AnyEvent}
 use Rattle.events.specs.declared.event.Action.TheVariants.{Invoke}

@@ -7,7 +7,8 @@ use Rattle.std.proofs.lemmas.List.{get_or_past, take_all}
 use Rattle.std.proofs.lemmas.List.Elements.{All-more}
 use Rattle.model.specs.declared.AnyOp.{AnyOp}
 use Rattle.model.specs.declared.AnyReply.{AnyReply}
-use Rattle.model.proofs.Lists.{In, in_filter_from, all_from_in}
+use Rattle.model.specs.Lists.{In}
+use Rattle.model.proofs.Lists.{in_filter_from, all_from_in}
 use Rattle.edn_reader.specs.Bytes.{is_name}
 use Rattle.edn_reader.specs.Text.{InProfile}
 use Rattle.seq_objects.specs.Functions.{name_of}

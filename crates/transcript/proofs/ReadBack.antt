@@ -8,7 +8,8 @@ use Rattle.std.proofs.lemmas.Option.{same_Some}
 use Rattle.std.proofs.lemmas.List.{reverse-append, map-append, length-map}
 use Rattle.model.specs.declared.AnyOp.{AnyOp}
 use Rattle.model.specs.Objects.{kind_of}
-use Rattle.model.proofs.Lists.{In, Pairs, in_map, in_map_from, in_filter, in_filter_from, in_from_contains, in_split}
+use Rattle.model.specs.Lists.{In}
+use Rattle.model.proofs.Lists.{Pairs, in_map, in_map_from, in_filter, in_filter_from, in_from_contains, in_split}
 use Rattle.model.proofs.Lists.{in_left, in_middle, all_at, all_from_in, pairs_from_all}
 use Rattle.edn_reader.specs.Datum.{Datum, DatumFits, max_open}
 use Rattle.edn_reader.specs.Text.{InProfile}

@@ -7,7 +7,8 @@ use Rattle.std.proofs.Math.ListN as ListN
 use Rattle.std.proofs.lemmas.List.{get_or-map, append-nil, at_drop_all}
 use Rattle.model.specs.declared.AnyOp.{AnyOp}
 use Rattle.model.specs.declared.AnyReply.{AnyReply}
-use Rattle.model.proofs.Lists.{In, in_map, in_map_from, in_filter, in_from_get, all_at}
+use Rattle.model.specs.Lists.{In}
+use Rattle.model.proofs.Lists.{in_map, in_map_from, in_filter, in_from_get, all_at}
 use Rattle.desk_model.specs.declared.JournalEvent.{JournalEvent}
 use Rattle.desk_model.specs.World.{AnyEntry, AnyEvent, ticket_of}
 use Rattle.desk_model.specs.Images.{event_in}

@@ -3,13 +3,14 @@ use Rattle.std.proofs.lemmas.Result.{IfErr-weaker}
 use Rattle.std.proofs.lemmas.List.FromFn.{length-map-range_with_len}
 use Rattle.clients.specs.Drawing.{client_calls}
 use Rattle.clients.specs.Workloads.{Work}
-use Rattle.clients.specs.Made.{Ran}
+use Rattle.clients.specs.Made.{IsRunRecord}
 use Rattle.commands.proofs.running.record_of.Goals as goal
 
 pub returns-clause-ran : goal.returns-clause-ran
 returns-clause-ran g c =
     let h = c.in_ok-workload.ensures in
-    subst (λ (w : Work). IfOk c.run_workers.result (Ran w)) (λ i. record { kinds = h.kinds i; calls = h.calls i })
+    subst (λ (w : Work). IfOk c.run_workers.result (IsRunRecord w))
+    (λ i. record { kinds = h.kinds i; calls = h.calls i })
     c.run_workers.ensures.ran
 
 pub returns-clause-alone : goal.returns-clause-alone

@@ -11,10 +11,11 @@ returns-in-From-clause-one c =
     let h = c.args.history.now in
     let rising = pairs_from_all (λ x y. x.number < y.number) (calls_of h.ops)
     (rising_calls h.ops c.ops.ensures.kept.rising) in
-    from_one c.args.cut.now c.in-From.number (calls_of h.ops) c.from.result c.in-From.is rising c.from.ensures.calls
+    from_one c.args.cut.now c.in-From.number (calls_of h.ops) c.suffix_from.result c.in-From.is rising
+    c.suffix_from.ensures.calls
 
 pub returns-in-Without-clause-named : goal.returns-in-Without-clause-named
 returns-in-Without-clause-named c =
     without_named c.args.cut.now c.in-Without.value _ c.in-Without.before
-    (calls_of c.args.history.now.ops) c.without.result c.in-Without.is
-    (to_z-of_z w64 c.in-Without.value (search rules)) c.without.ensures.calls
+    (calls_of c.args.history.now.ops) c.part_without.result c.in-Without.is
+    (to_z-of_z w64 c.in-Without.value (search rules)) c.part_without.ensures.calls

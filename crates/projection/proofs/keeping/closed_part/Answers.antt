@@ -7,7 +7,7 @@ use Rattle.projection.specs.Cuts.{keeps_number, IsClosedPart, IsPart}
 use Rattle.projection.specs.CutOperations.{is_kept_call}
 use Rattle.projection.proofs.CutOperations.{same_history}
 use Rattle.projection.proofs.Kept.{kept_history, kept_calls_of, kept_shows}
-use Rattle.projection.proofs.keeping.keep.Goals as goal
+use Rattle.projection.proofs.keeping.closed_part.Goals as goal
 
 pub is_closed-requires : goal.is_closed-requires
 is_closed-requires c = subst (λ (os : List Invocation). AllPairs (λ a b. a.number < b.number) os)

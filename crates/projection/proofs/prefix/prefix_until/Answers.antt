@@ -7,7 +7,7 @@ use Rattle.projection.specs.Cuts.{IsPart}
 use Rattle.projection.specs.CutOperations.{operation_before}
 use Rattle.projection.proofs.CutOperations.{same_history}
 use Rattle.projection.proofs.Before.{before_history, before_calls, before_shows}
-use Rattle.projection.proofs.prefix.until.Goals as goal
+use Rattle.projection.proofs.prefix.prefix_until.Goals as goal
 
 pub new-requires : goal.new-requires
 new-requires c =

@@ -9,7 +9,7 @@ use Rattle.projection.specs.Cuts.{IsPart}
 use Rattle.projection.specs.CutOperations.{operation_from}
 use Rattle.projection.proofs.CutOperations.{same_history}
 use Rattle.projection.proofs.Later.{from_history, from_calls, from_shows}
-use Rattle.projection.proofs.suffix.from.Goals as goal
+use Rattle.projection.proofs.suffix.suffix_from.Goals as goal
 
 pub new-requires : goal.new-requires
 new-requires c =

@@ -1,6 +1,6 @@
 use Rattle.std.proofs.Common.{get_or, ap}
 use Rattle.checker.proofs.Certificates.{one_placed, all_placed}
-use Rattle.checker.proofs.all.places.Goals as goal
+use Rattle.checker.proofs.all.certificate_places.Goals as goal
 
 pub loop-k-preserved : goal.loop-k-preserved
 loop-k-preserved c =

@@ -9,7 +9,7 @@ use Rattle.projection.specs.Cuts.{IsPart}
 use Rattle.projection.specs.CutOperations.{is_late}
 use Rattle.projection.proofs.CutOperations.{same_history}
 use Rattle.projection.proofs.AbsentValues.{late_history, late_calls_of, late_shows}
-use Rattle.projection.proofs.absent.without.Goals as goal
+use Rattle.projection.proofs.absent.part_without.Goals as goal
 
 pub new-requires : goal.new-requires
 new-requires c =

@@ -1,0 +1,7 @@
+-- What is in a list.
+use Rattle.std.specs.Prelude.{◌≡◌, ◌⊎◌, ⊥, List, [], ◌∷◌}
+
+-- the element is in the list
+abbrev pub In : {X : Type 0} → X → List X → Type 0
+In x [] = ⊥
+In x (y ∷ ys) = (x ≡ y) ⊎ In x ys
