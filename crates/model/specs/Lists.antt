@@ -1,5 +1,5 @@
 -- What is in a list.
-use Rattle.std.specs.Prelude.{◌≡◌, ◌⊎◌, ⊥, List, [], ◌∷◌}
+use Rattle.std.specs.Prelude.{◌≡◌, ◌⊎◌, List, [], ◌∷◌}
 
 -- the element is in the list
 abbrev pub In : {X : Type 0} → X → List X → Type 0
