@@ -38,7 +38,7 @@ use Rattle.history.proofs.Laws.{kind_of_op}
 use Rattle.desk_model.specs.declared.JournalEvent.TheVariants.{Invoked, Returned}
 use Rattle.desk_model.specs.World.{AnyEntry, AnyEvent, ticket_of}
 use Rattle.desk_model.specs.Sound.{ShareOut}
-use Rattle.recorder.specs.Histories.{AreEventsOf, IsRecord, events_of, max_tickets, events_of_forms as journal_events}
+use Rattle.recorder.specs.Histories.{AreEventsOf, IsRecord, events_of, max_tickets, events_of_journal as journal_events}
 use Rattle.recorder.proofs.Same.{same_by_parts}
 use Rattle.recorder.proofs.Journals.{InTurn, none, last, call, numbers_of}
 use Rattle.transcript.specs.declared.line.Call.{Call}
