@@ -10,8 +10,8 @@ mod meeting;
 mod run;
 mod seeded_workload;
 mod worker;
-mod workload;
+mod workloads;
 
 pub use run::{RunFault, run_workers};
 pub use seeded_workload::workload;
-pub use workload::Workload;
+pub use workloads::Workload;

@@ -7,7 +7,7 @@ ghost use Rattle.seq_objects.specs.Kinds.{kinds_of};
 ghost use Rattle.clients.specs.Drawing.{client_calls};
 
 use crate::calls::calls_of;
-use crate::workload::Workload;
+use crate::workloads::Workload;
 use model::Kind;
 use seq_objects::Kinds;
 use std::alloc::{AllocError, Global};

@@ -1,7 +1,7 @@
 use Rattle.std.proofs.Common.{◌<◌, ◌∙◌, length, All, [], subst, sym}
 use Rattle.clients.specs.Workloads.{Work, IsCall}
 use Rattle.clients.proofs.DrawnCalls.{at_items}
-use Rattle.clients.proofs.workload.Workload.calls.Goals as goal
+use Rattle.clients.proofs.workloads.Workload.calls.Goals as goal
 
 pub returns-clause-fit : goal.returns-clause-fit
 returns-clause-fit c =
