@@ -6,7 +6,8 @@
 
 A history is that of a run of N clients up to a crash: K of them are pending then, some with and some without effect. What the
 object contained is kept, lost, or partly kept. New processes go on, and in the end one of them empties it. Values differ, or are
-drawn below 2, 10 or 100. There are fewer than C calls before the crash, and a third of that after it. DIR gets N.edn and N.json, which says what was drawn.
+drawn below 2, 10 or 100. There are fewer than C calls before the crash, and a third of that after it. DIR gets N.edn and N.json,
+which says what was drawn.
 
 `measure` runs `PROGRAM find` on each and checks what it says by itself: an order is run on the object. A reason is cut out anew;
 a count is counted anew, and a part that was searched is searched anew, by another search. The truth of what is kept is known: it

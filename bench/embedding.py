@@ -24,8 +24,8 @@ COMMANDS = ("check", "judge")
 # Of a short history: calls that are timed together, and how often in a round.
 CALLS, TIMES = 20, 200
 ROWS = ("the call alone", "with its texts read from files", "the program")
-# The most that the middle of the rounds' ratios to the program may be. The program reads its files too, so a call alone must not take longer. With its
-# texts read it does the same work as the program, and the middle moves by up to 2 % from run to run.
+# The most that the middle of the rounds' ratios to the program may be. The program reads its files too, so a call alone must not take longer.
+# With its texts read it does the same work as the program, and the middle moves by up to 2 % from run to run.
 MOST = {ROWS[0]: 1.0, ROWS[1]: 1.02}
 
 
@@ -57,7 +57,8 @@ def least_and_middle(values, scale, digits):
 
 def cells(times, scale, digits):
     """The cells of a row: of the processor's time, and of the time by the clock, the least and the middle."""
-    return f"{least_and_middle([own + kernel for _, own, kernel in times], scale, digits)} | {least_and_middle([clock for clock, _, _ in times], scale, digits)}"
+    of_processor, by_clock = [own + kernel for _, own, kernel in times], [clock for clock, _, _ in times]
+    return " | ".join(least_and_middle(those, scale, digits) for those in (of_processor, by_clock))
 
 
 def short(timer, folder, rounds):
@@ -109,7 +110,8 @@ def main(folder, program=None, rounds=9):
     for (command, row), found in long(timer, program, folder, int(rounds)).items():
         middle = statistics.median(found)
         is_slower |= middle > MOST[row]
-        print(f"{command}, {row}: {middle:.3f} of the program's processor time, at most {MOST[row]}; rounds from {min(found):.3f} to {max(found):.3f}")
+        rounds_from_to = f"rounds from {min(found):.3f} to {max(found):.3f}"
+        print(f"{command}, {row}: {middle:.3f} of the program's processor time, at most {MOST[row]}; {rounds_from_to}")
     print(f"The library is {'slower' if is_slower else 'no slower'} than the program.")
     return int(is_slower)
 

@@ -4,8 +4,8 @@
     reasons.py PROGRAM PLAIN DIR.. [--runs N] [--seconds S] [--plain-seconds S] [--together]
 
 DIR is a folder of plant.py with the name KIND-CALLS-ATONCE-VALUES, where VALUES is `once` or a number. `PROGRAM judge FILE` and
-`PLAIN find FILE` run in turn, N times, but once where a run takes a second, and the least processor time of each counts. Each may take as many seconds of
-it as given. Answers are kept in DIR/answers.json, so that a run that was stopped can go on.
+`PLAIN find FILE` run in turn, N times, but once where a run takes a second, and the least processor time of each counts. Each may take as
+many seconds of it as given. Answers are kept in DIR/answers.json, so that a run that was stopped can go on.
 
 What `judge` says is checked by tests/edge/verify/reasons.py: the operations are of the history and have no valid order, or the count is exceeded.
 Broken are the histories of which one of the two gives a reason; linearizable those for which one of the two found an order; of the others

@@ -50,7 +50,8 @@ def changed_while_proved(program, report):
     """A proved library is out of date if its crate, or one that it uses, was changed since its proof began."""
     for changed in ((), ("high",), ("low",)):
         is_current = is_taken_for_current(changed)
-        report.equal(f"building: a library is current if {' '.join(changed) or 'nothing'} was changed while it was proved", f"{not changed}\n", is_current)
+        name = f"building: a library is current if {' '.join(changed) or 'nothing'} was changed while it was proved"
+        report.equal(name, f"{not changed}\n", is_current)
 
 
 def not_built(program):

@@ -15,7 +15,7 @@ sys.path[:0] = [f"{ROOT}/scripts", f"{ROOT}/docs/scripts", f"{ROOT}/bench"]
 import contract_list  # noqa: E402
 import lines_to_believe  # noqa: E402
 import reasons  # noqa: E402
-from crates_list import dependencies as listed, with_below  # noqa: E402
+from crates_list import dependencies, with_below  # noqa: E402
 
 PAGES = [
     f"{base}/{file}"
@@ -31,6 +31,18 @@ def read(path):
         return file.read()
 
 
+def is_in_python(name, text):
+    """Whether a file is in Python, by its ending or its first line."""
+    return name.endswith(".py") or "python3" in text.partition("\n")[0]
+
+
+def names_in_python():
+    """The files of the repository that are in Python, modules and scripts."""
+    listed = subprocess.run(["git", "ls-files"], cwd=ROOT, capture_output=True, text=True, check=True).stdout.split("\n")
+    may_be = [name for name in listed if re.fullmatch(r"[^.]+(\.py)?", name)]
+    return [name for name in may_be if is_in_python(name, read(f"{ROOT}/{name}"))]
+
+
 def documents(program, report):
     """What scripts of docs/ find is what the pages say. CONTRIBUTING names each file of tests/edge."""
     ran = subprocess.run([f"{ROOT}/docs/scripts/crate_tables.py", "--check"], capture_output=True, text=True)
@@ -38,8 +50,8 @@ def documents(program, report):
     ran = subprocess.run([f"{ROOT}/docs/scripts/contract_list.py"], capture_output=True, text=True)
     report.equal("documents: docs/scripts/contract_list.py reads each clause", (0, ""), (ran.returncode, ran.stderr))
     ran = subprocess.run([f"{ROOT}/docs/scripts/lost_clauses.py", "HEAD"], capture_output=True, text=True)
-    is_well = ran.returncode == 0 and re.search(r"^\d{3} clauses of HEAD, \d+ of which are not here word for word; \d+ new requires$", ran.stdout, re.M)
-    report.holds("documents: docs/scripts/lost_clauses.py reads the clauses of the last commit", is_well, ran)
+    counts = re.search(r"^\d{3} clauses of HEAD, \d+ of which are not here word for word; \d+ new requires$", ran.stdout, re.M)
+    report.holds("documents: docs/scripts/lost_clauses.py reads the clauses of the last commit", ran.returncode == 0 and counts, ran)
     ran = subprocess.run([f"{ROOT}/docs/scripts/lines_to_believe.py"], capture_output=True, text=True)
     counted = re.findall(r"^(\w+)\D+(\d+)", ran.stdout, re.M)
     report.equal("documents: three counts of lines to believe", ["history", "judge", "reason"], [name for name, _ in counted], ran.stderr)
@@ -85,13 +97,16 @@ def rows_of_several():
 
 
 def definition_of(name):
-    """The pattern of a definition in specs/, maybe in a module with parameters or in a mutual block. There its clauses distinguish it from a field."""
+    """The pattern of a definition in specs/, maybe in a module with parameters or in a mutual block. There its clauses distinguish it from a
+    field."""
     return rf"^ *(?:(?:abbrev|unfoldable) pub (?:\w+ )?|pub (?:record|data) ){name}(?= |$)|^( *)pub {name} : .*\n(?:\1 .*\n)*\1{name} "
 
 
 def is_defined_in(crate, name, file="**/*"):
     """Whether a file of specs/ of a crate defines a name, or any of them or a type of its code."""
-    sources = [(definition_of(name), f"specs/{file}.antt")] + ([(rf"^pub(?:\(crate\))? (?:struct|enum) {name}\b", "src/**/*.rt")] if file == "**/*" else [])
+    sources = [(definition_of(name), f"specs/{file}.antt")]
+    if file == "**/*":
+        sources.append((rf"^pub(?:\(crate\))? (?:struct|enum) {name}\b", "src/**/*.rt"))
     paths = ((pattern, path) for pattern, files in sources for path in glob.glob(f"{ROOT}/crates/{crate}/{files}", recursive=True))
     return any(re.search(pattern, read(path), re.M) for pattern, path in paths)
 
@@ -149,7 +164,7 @@ def definitions_of_clauses(program, report):
     defined, page = lines_to_believe.crates_of_names(), read(f"{ROOT}/docs/definitions.md")
     explained = {name for quoted in re.findall(r"`([^`\n]+)`", page) for name in re.findall(r"\w+", quoted)}
     used = set()
-    for crate in listed():
+    for crate in dependencies():
         if not crate.endswith("_tests") and os.path.exists(f"{ROOT}/crates/{crate}/src/lib.rt"):
             words = {word for _, _, clauses in contract_list.functions(crate) for clause in clauses for word in re.findall(r"\b[A-Z]\w*", clause[3])}
             used |= {word for word in words if defined.get(word, set()) & set(with_below(crate))}
@@ -218,7 +233,7 @@ def scripts():
         for name in (os.path.relpath(f"{base}/{it}", ROOT) for it in files):
             if not name.endswith((".md", ".png", ".edit", ".pyc")) and name != "tests/edge/documents.py":
                 text = read(f"{ROOT}/{name}")
-                yield name, said_in_python(text) if name.endswith(".py") or "python3" in text.partition("\n")[0] else said_in_code(text)
+                yield name, said_in_python(text) if is_in_python(name, text) else said_in_code(text)
 
 
 def messages_and_comments():
@@ -265,6 +280,8 @@ WIDTHS = {
     "crates/*/proofs/**/*.antt": 120, "crates/*/specs/**/*.antt": 100, "crates/*/src/**/*.rt": 100, "docs/*.md": 150, "README.md": 150,
     "CHANGELOG.md": 150,
 }
+# And of files in Python, some of which have names without an ending.
+WIDTH_OF_PYTHON = 150
 # What cannot be divided: a name that the kit made, an attribute, which rt fmt writes on one line, and a text.
 ONE_NAME = re.compile(r"use \S+\{\S+\}$| *#\[tactic\(.*\)\]$| *b?\"([^\"\\]|\\.)*\"[,;]?$")
 # A row of a table, or a line that is one link.
@@ -282,14 +299,20 @@ def lines_with_numbers(path):
             yield number, line
 
 
-def widths(program, report):
-    """No line of a proof has more than 120 characters, of a definition or of code more than 100, and of prose more than 150."""
+def files_with_widths():
+    """The names of the sorts of files, each with its files and the most characters of their lines."""
     for files, most in WIDTHS.items():
-        paths = sorted(glob.glob(f"{ROOT}/{files}", recursive=True))
+        yield files, sorted(glob.glob(f"{ROOT}/{files}", recursive=True)), most
+    yield "in Python", [f"{ROOT}/{name}" for name in names_in_python()], WIDTH_OF_PYTHON
+
+
+def widths(program, report):
+    """No line of a proof has more than 120 characters, of a definition or of code more than 100, and of prose or of Python more than 150."""
+    for files, paths, most in files_with_widths():
         report.holds(f"widths: there are files {files}", paths)
-        found = ((path, number, len(line)) for path in paths for number, line in lines_with_numbers(path))
-        wide = [f"{os.path.relpath(path, ROOT)}:{number}: {width}" for path, number, width in found if width > most]
-        report.equal(f"widths: lines of {files} with more than {most} characters", [], wide)
+        counted = ((path, number, len(line)) for path in paths for number, line in lines_with_numbers(path))
+        wide = [f"{os.path.relpath(path, ROOT)}:{number}: {width}" for path, number, width in counted if width > most]
+        report.equal(f"widths: lines of files {files} with more than {most} characters", [], wide)
 
 
 def head_of(text):
@@ -364,12 +387,12 @@ OF_USERS = ("callers/python/", "callers/dask/", "docs/record_queue.py")
 
 def usages(program, report):
     """Each script in Python says its usage, so that what it imports is there, and refuses another word. Those with argparse do so with 2."""
-    listed = subprocess.run(["git", "ls-files"], cwd=ROOT, capture_output=True, text=True, check=True).stdout.split("\n")
-    texts = {it: read(f"{ROOT}/{it}") for it in listed if re.fullmatch(r"[^.]+(\.py)?", it) and not it.startswith(OF_USERS)}
-    by_argparse = [it for it, text in texts.items() if re.search("^import argparse", text, re.M)]
-    scripts = sorted({*by_argparse, *(it for it, text in texts.items() if "python3" in text.partition("\n")[0])})
-    report.holds("usages: there are some", len(scripts) >= 20, scripts)
-    for script in scripts:
+    texts = {name: read(f"{ROOT}/{name}") for name in names_in_python() if not name.startswith(OF_USERS)}
+    by_argparse = [name for name, text in texts.items() if re.search("^import argparse", text, re.M)]
+    run_by_name = [name for name, text in texts.items() if "python3" in text.partition("\n")[0]]
+    programs = sorted({*by_argparse, *run_by_name})
+    report.holds("usages: there are some", len(programs) >= 20, programs)
+    for script in programs:
         for word, status in (("--help", 0), ("-h", 0), ("--no-such-word", 2 if script in by_argparse else 64)):
             ran = subprocess.run([sys.executable, f"{ROOT}/{script}", word], capture_output=True, text=True)
             report.equal(f"usages: {script} {word}", (status, status == 0, status != 0), (ran.returncode, bool(ran.stdout), bool(ran.stderr)), ran)

@@ -200,7 +200,8 @@ def rewritten(text, form):
 
 def histories(maps):
     """The maps in each form, after each of what may come before, and how many come before."""
-    return [(earlier(number, before) + "".join(f"{rewritten(it, form)}\n" for it in maps), number) for form in FORMS for number, before in BEFORE]
+    texts = ["".join(f"{rewritten(map_text, form)}\n" for map_text in maps) for form in FORMS]
+    return [(earlier(number, before) + text, number) for text in texts for number, before in BEFORE]
 
 
 def judged(program, texts):
@@ -339,10 +340,12 @@ def long_orders():
         yield history, f"{{:object 0, :order [{' '.join([entry] * 20_000)}]}}\n"
 
 
-def costs_less(program, report, rows):
-    """Whether a check of texts takes at most 0.75 times the instructions that it takes where a space is after each brace of one of them."""
+def costs_less(program, report, pairs):
+    """Whether a check of the first texts of a pair takes at most 0.75 times the instructions that it takes for the second ones, where a space is
+    after each brace of one text."""
     if not shutil.which("valgrind"):
         return "valgrind is missing"
+    rows = [texts for pair in pairs for texts in pair]
 
     def cost(number, history, certificates):
         files = [program.write(f"{name}.{number}.edn", text) for name, text in (("usual", history), ("order", certificates))]
@@ -356,12 +359,14 @@ def costs_less(program, report, rows):
 
 def cost_of_usual_maps(program, report):
     """A check of maps in a usual order, also with an unknown key at the end, costs less than one of maps with a space after each brace."""
-    return costs_less(program, report, [it for history, order in usual_histories() for it in ((history, order), (history.replace("{", "{ "), order))])
+    pairs = [((history, order), (history.replace("{", "{ "), order)) for history, order in usual_histories()]
+    return costs_less(program, report, pairs)
 
 
 def cost_of_usual_orders(program, report):
     """A check with a certificate in the usual form costs less than with one in another form."""
-    return costs_less(program, report, [it for history, order in long_orders() for it in ((history, order), (history, order.replace("{", "{ ")))])
+    pairs = [((history, order), (history, order.replace("{", "{ "))) for history, order in long_orders()]
+    return costs_less(program, report, pairs)
 
 
 PARTS = (cost_of_usual_maps, cost_of_usual_orders, good_histories, bad_histories, faulty_histories, broken_texts, orders_in_each_form)

@@ -361,7 +361,8 @@ FALSIFIED = {
             (" 32</text>", " 33</text>"),
             ("32 maps left out, with 15 operations", "32 maps left out, with 14 operations"),
             (
-                '<g class="gap"><title>32 maps left out, with 15 operations</title><rect x="163" y="18" width="36" height="58"/><text x="181" y="12">⋯ 32</text></g>',
+                '<g class="gap"><title>32 maps left out, with 15 operations</title><rect x="163" y="18" width="36" height="58"/>'
+                '<text x="181" y="12">⋯ 32</text></g>',
                 "",
             ),
         ),
@@ -381,8 +382,8 @@ FALSIFIED = {
         ),
         "tried": (
             (
-                '<tr><th scope="row">1</th><td></td><td><code>held</code></td><td><a class="ref" href="#o766"><b>#766</b> <code>acquire</code></a></td>'
-                "<td>is not possible</td></tr>",
+                '<tr><th scope="row">1</th><td></td><td><code>held</code></td><td><a class="ref" href="#o766"><b>#766</b> '
+                "<code>acquire</code></a></td><td>is not possible</td></tr>",
                 "",
             ),
             ("<td><code>held</code></td>", "<td><code>free</code></td>"),
@@ -460,7 +461,10 @@ FALSIFIED_PAST_END = {
     "sentences points rows": (("the sum has more than 64 bits", "the sum has more than 63 bits"),),
 }
 FALSIFIED_LOCK = {
-    "sentences": (("is unlocked only by its owner", "is locked only while it is free"), ("the lock is held there, by", "the lock is free there, since")),
+    "sentences": (
+        ("is unlocked only by its owner", "is locked only while it is free"),
+        ("the lock is held there, by", "the lock is free there, since"),
+    ),
     "boxes": (('y="19">3</text>', 'y="19">4</text>'),),
     "rows": (("<td><code>3</code></td>", "<td><code>held</code></td>"),),
     "legend": (("</svg> releases</li>", "</svg> takes out</li>"),),
@@ -469,8 +473,8 @@ FALSIFIED_LOCK = {
 FALSIFIED_LOCK_RELEASED = {
     "tried": (
         (
-            '<tr><th scope="row">2</th><td></td><td><code>held by another</code></td><td><a class="ref" href="#o2"><b>#2</b> <code>unlock 1</code></a></td>'
-            "<td>is not possible</td></tr>\n",
+            '<tr><th scope="row">2</th><td></td><td><code>held by another</code></td><td><a class="ref" href="#o2"><b>#2</b> '
+            "<code>unlock 1</code></a></td><td>is not possible</td></tr>\n",
             "",
         ),
         ("<span>Every order breaks. All 3 ways", "<span>Every order breaks. Both ways"),

@@ -151,7 +151,11 @@ BUSY = text_writers.lines(
     text_writers.invoke(0, "write", 3),
     text_writers.ok(0, "read", 1),
 )
-NOT_CLOSED = "{:process 0, :type :invoke, :f :enqueue, :value 1}\n{:process 0, :type :ok, :f :enqueue, :value 1\n{:process 0, :type :invoke, :f :dequeue}\n"
+NOT_CLOSED = text_writers.lines(
+    "{:process 0, :type :invoke, :f :enqueue, :value 1}",
+    "{:process 0, :type :ok, :f :enqueue, :value 1",
+    "{:process 0, :type :invoke, :f :dequeue}",
+)
 MIXED = ("queue", "stack", "heap", "register", "map") * 2
 
 
@@ -351,7 +355,8 @@ def hostile():
     )
     yield Case("long numbers of processes", both, text_writers.order(0, 2))
     yield Case("a faulty map of a process with a long number", both + text_writers.lines(text_writers.ok(GREATEST - 1, "pop", 1)))
-    bad = f"; {said}\n{{:process 0, :type :invoke, :f :pop, :note {said[:-1]}\x1b\t<b>\"}}\n{{:process 0, :type :invoke, :f :pop, :note {said[:-1]}\x1b\t<b>\"}}\n"
+    invoked_with_note = f"{{:process 0, :type :invoke, :f :pop, :note {said[:-1]}\x1b\t<b>\"}}"
+    bad = text_writers.lines(f"; {said}", invoked_with_note, invoked_with_note)
     yield Case("a faulty map with markup", bad, shows=shows)
     yield Case("a fault in a line of markup", f"{{:process {said} <b>}}\n", shows=("</script><script>alert(1)</script>&amp;",))
     yield Case("a text that is not UTF-8", b"{:process 0, :note \"\xff<b>\"}", shows=("\\xff<b>",))

@@ -179,8 +179,11 @@ def mismatch(rng, made):
     call = rng.choice(outstanding(before_of(made.maps, at), at))
     f = other_function(rng, made.kind, call.f)
     faulty = text_writers.ok(call.process, f, REPLIES.get(f), 0)
-    said = f" completes an operation of process {call.process}, but with another :f or :object than ⟨{call.number}|{label_of(call)}⟩, which is outstanding."
-    return whole(rng, "H7", made.maps, at, faulty, said, (call.number, "What the process invoked, event "))
+    sentence = (
+        f" completes an operation of process {call.process}, but with another :f or :object than ⟨{call.number}|{label_of(call)}⟩, "
+        "which is outstanding."
+    )
+    return whole(rng, "H7", made.maps, at, faulty, sentence, (call.number, "What the process invoked, event "))
 
 
 def after_info(rng, made):

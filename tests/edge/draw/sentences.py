@@ -546,12 +546,14 @@ FORMS = {
     "twice_released": rf"Between event (\d+) and event (\d+) the mutex was released twice, by {REF} and {REF}, and no acquire ran in between.",
     "wrong_turn": rf"{REF} returned \(event (\d+)\) before {REF} was invoked, so (-?\d+) went in before (-?\d+). But {REF} took (-?\d+) out, "
     rf"and nothing invoked before event (\d+) took (-?\d+) out(?:\.|: only then {REF} began\.)",
-    "lost": rf"{REF} (?:found nothing|took (-?\d+) out)\. But (\d+) (lesser )?values? (?:was|were) (in the \w+ before that|in the heap before -?\d+ was found|"
-    r"enqueued before -?\d+|pushed on -?\d+), and (none of them|at most (\d+) of them) can have been taken out by then: (.*)\.",
+    "lost": rf"{REF} (?:found nothing|took (-?\d+) out)\. But (\d+) (lesser )?values? (?:was|were) (in the \w+ before that|"
+    r"in the heap before -?\d+ was found|enqueued before -?\d+|pushed on -?\d+), "
+    r"and (none of them|at most (\d+) of them) can have been taken out by then: (.*)\.",
     "first_event": r"Event (\d+) is the first that leaves no order\.",
     "first_events": r"The first event that leaves no order is one from event (\d+) to event (\d+)\. They were not all tried\.",
     "left_open": r"No order was found for object (\d+), and none was excluded: ([\w ]+). So the history is not decided.",
-    "longest": r"The longest order that was found for this page has ([\d ]+) of ([\d ]+) operations?\. (It has each operation that returned, but the judge did not find it\.|After it comes .*\.)",
+    "longest": r"The longest order that was found for this page has ([\d ]+) of ([\d ]+) operations?\. "
+    r"(It has each operation that returned, but the judge did not find it\.|After it comes .*\.)",
     "too_often": r"(-?\d+) was \w+ (once|twice|[\d ]+ times)(?:, by (.*))?, and \w+ (once|twice|[\d ]+ times)(?:, by (.*))?\. No other ([\w-]+) of "
     r"(-?\d+) was invoked before event (\d+).",
 }

@@ -345,7 +345,8 @@ def tries_of(calls, other, recorded):
 def leaves_nothing(call):
     """Whether the object is empty, or free, after a call, by its reply."""
     removes = call.f in ("del", "dissoc", "clear", "remove", *HOLDS.values())
-    return removes or call.f == "contains" and call.reply is False or call.f in ("dequeue", "pop", "extract-min", "read", "get") and call.reply is None
+    finds_nothing = call.f in ("dequeue", "pop", "extract-min", "read", "get") and call.reply is None
+    return removes or call.f == "contains" and call.reply is False or finds_nothing
 
 
 def prior_content(shown, since):

@@ -26,7 +26,8 @@ PAGES = (
         "no",
         (
             '<a class="skiplink" href="#fault">Go to the fault</a>',
-            ". But #0 returned at event 1, before #2 was invoked at event 2. An operation that returned before another began must stand before it.</p>",
+            ". But #0 returned at event 1, before #2 was invoked at event 2. "
+            "An operation that returned before another began must stand before it.</p>",
             '<path class="line" d="M139 35h10V77H190"/>',
             '<a class="pt bad" href="#r0-2"',
             "<td>returned at event 1, before #2 was invoked</td>",
@@ -102,7 +103,8 @@ FAULTS = (
         "{:process 0, :type :ok, :f :read, :value 1}\n",
         False,
         (
-            '<p class="say">The text can be read, but it is no history. Event 6 invokes an operation of process 0, and <a class="ref" href="#o4"><b>#4</b> <code>read → ?</code></a> of that process is still outstanding.</p>',
+            '<p class="say">The text can be read, but it is no history. Event 6 invokes an operation of process 0, and '
+            '<a class="ref" href="#o4"><b>#4</b> <code>read → ?</code></a> of that process is still outstanding.</p>',
             '<tr class="at"><th>7</th><td><mark>{:process 0, :type :invoke, :f :write, :value 3}</mark></td></tr><tr><th>8</th>',
             "<figcaption>The operation that is outstanding, event 4</figcaption>",
             'viewBox="0 0 341 80" width="511" height="120"',
@@ -117,7 +119,8 @@ FAULTS = (
         "{:process 0, :type :invoke, :f :enqueue, :value 2}\n",
         False,
         (
-            'Event 2 is of process 0, which the :info at event 1 closed: <a class="ref" href="#o0"><b>#0</b> <code>enqueue 1 → ?</code></a> may have happened or not, so what it does next must be of another process.</p>',
+            'Event 2 is of process 0, which the :info at event 1 closed: <a class="ref" href="#o0"><b>#0</b> <code>enqueue 1 → ?</code></a> '
+            "may have happened or not, so what it does next must be of another process.</p>",
             "<figcaption>The :info that closed the process, event 1</figcaption>",
             'viewBox="0 0 302 54" width="453" height="81"',
             '<text class="num on" x="180" y="12">2</text>',

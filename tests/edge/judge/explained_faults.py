@@ -73,7 +73,11 @@ OF_CODES = (
         f"{READ}\n{{:process 0, :type :info, :f :read}}\n{READ}",
         "; event 2, line 3: event 1 is the :info of process 0, which has no events after it: its thread goes on as another process",
     ),
-    ("H9 at map 1000000", "{:process :x}\n" * 1_000_001, "; event 1000000, line 1000001: a history has at most 1,000,000 events; fcbench split divides a longer one"),
+    (
+        "H9 at map 1000000",
+        "{:process :x}\n" * 1_000_001,
+        "; event 1000000, line 1000001: a history has at most 1,000,000 events; fcbench split divides a longer one",
+    ),
     ("E1 at byte 7", b"; first\xff", "; line 1: \\xff: the text is not UTF-8"),
     ("E1 at byte 1", b"\x1f\x8b\x08\x00", "; line 1: the file is compressed: decompress it with zcat first"),
     ("E9 at byte 0", "\ufeff{:process 0}", "; line 1: a byte order mark: remove it"),

@@ -128,7 +128,8 @@ def standard_input(program, report):
     ran = subprocess.run(program.line(("import", "-")), input=STORE.encode(), capture_output=True, cwd=program.folder, check=False)
     report.equal("import -: standard input", (0, TEXT, b""), (ran.returncode, ran.stdout, ran.stderr))
     path = program.write("store.edn.gz", gzip.compress(STORE.encode()))
-    report.answers("import: gzip", program.run("import", path), "", 4, f"fcbench: cannot read {path}: the file is compressed: decompress it with zcat first\n")
+    refused = f"fcbench: cannot read {path}: the file is compressed: decompress it with zcat first\n"
+    report.answers("import: gzip", program.run("import", path), "", 4, refused)
     path = program.write("queue.edn", WRONGLY_EMPTY.format(":error :gone"))
     ran = program.run("import", "--initial", "0", path)
     report.equal(

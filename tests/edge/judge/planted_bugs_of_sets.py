@@ -1,7 +1,8 @@
 """Bugs that are planted in long histories of a set: how many operations judge lists of each.
 
 A history has 4,000 calls on 100 elements, 16 of them at once, of which two in a hundred are pending. Each call takes effect at a moment that
-is drawn, on a set that is right except for one call. The bug counts where a second look, at the calls on its element alone, shows that no order is valid."""
+is drawn, on a set that is right except for one call. The bug counts where a second look, at the calls on its element alone, shows that no order
+is valid."""
 import random
 
 from ..brute_force import has_order
@@ -96,7 +97,8 @@ def bugs_of_sets(program, report):
             explained, _ = explained_in(ran.out)
             counted += 1
             shown += len(explained) == 1 and len(explained[0][1]) <= MOST_OPERATIONS
-        report.holds(f"judge: {bug}: of {counted} bugs {shown} are shown by {MOST_OPERATIONS} operations", counted > 20 and shown >= LEAST_SHARE * counted)
+        name = f"judge: {bug}: of {counted} bugs {shown} are shown by {MOST_OPERATIONS} operations"
+        report.holds(name, counted > 20 and shown >= LEAST_SHARE * counted)
 
 
 PARTS = (bugs_of_sets,)

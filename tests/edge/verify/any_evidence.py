@@ -62,7 +62,8 @@ def short_histories():
             made = histories.made(kind, f"evidence {seed}", calls=3 + seed % 4, processes=2, values=2)
             maps = made.maps if seed % 3 == 0 or kind in FREED else exchanged(made.maps, seed)
             if kind in FREED and seed % 3:
-                maps = [*maps, *[call for _ in range(2) for call in (invoke(99, *FREED[kind], 0), ok(99, FREED[kind][0], None, 0))]]
+                freed_once = [invoke(99, *FREED[kind], 0), ok(99, FREED[kind][0], None, 0)]
+                maps = [*maps, *freed_once * 2]
             text = lines(*maps)
             yield text, has_order(text)
 
