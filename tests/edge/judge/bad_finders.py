@@ -14,6 +14,7 @@ from ..verify import worked_evidence
 from ..verify.reasons import why_not_explained
 from ..running import at_once
 from ..text_writers import certificate, lines, one_process, order
+from ..worked_rows import yes
 
 # A judgement whose finder goes on after it closed its output takes less, in seconds, on a slow machine too: the finder would go on for 1,000.
 SOON = 300
@@ -21,12 +22,14 @@ SOON = 300
 
 @dataclass(frozen=True)
 class Judged:
-    """A history, the status that it has, and evidence that shows so."""
+    """A history, the status that it has, evidence that shows so, and what judge then prints: all of it of a yes and of a malformed history, and of
+    the others nothing, since the lines of a no are the reasons of the finder."""
 
     name: str
     text: str
     status: int
     evidence: str
+    out: str = ""
 
     def statuses(self, shows):
         """The statuses that judge may end with, where the evidence shows this of the history."""
@@ -40,16 +43,16 @@ class Judged:
 OLD_VALUE = one_process(("write", 1, 1), ("write", 2, 2), ("read", None, 1))
 ALL_STEPS = worked_evidence.searched("return", 1000)
 HISTORIES = (
-    Judged("enqueues that overlap", worked_rows.OVERLAPPING, 0, order(1, 0, 4)),
-    Judged("two queues", worked_rows.TWO_QUEUES, 0, worked_rows.TWO_ORDERS),
-    Judged("a mutex that is passed on", worked_rows.MUTEX, 0, order(0, 3, 2)),
-    Judged("a heap", worked_rows.HEAP, 0, order(*range(0, 14, 2))),
-    Judged("a register", worked_rows.REGISTER, 0, order(0, 2, 4, 6)),
-    Judged("a map", worked_rows.MAP, 0, order(0, 2, 4, 6, 8)),
-    Judged("a pending enqueue", worked_rows.PENDING, 0, order(0, 1)),
-    Judged("a search that finds an order", worked_rows.RETURNS_CROSSED, 0, ALL_STEPS),
-    Judged("no object", "", 0, ""),
-    Judged("a malformed history", worked_rows.AFTER_INFO, 2, order(0)),
+    Judged("enqueues that overlap", worked_rows.OVERLAPPING, 0, order(1, 0, 4), worked_rows.THREE_YES),
+    Judged("two queues", worked_rows.TWO_QUEUES, 0, worked_rows.TWO_ORDERS, worked_rows.QUEUES_YES),
+    Judged("a mutex that is passed on", worked_rows.MUTEX, 0, order(0, 3, 2), worked_rows.MUTEX_YES),
+    Judged("a heap", worked_rows.HEAP, 0, order(*range(0, 14, 2)), yes(7, 1, "heap: 1 objects, 7 operations")),
+    Judged("a register", worked_rows.REGISTER, 0, order(0, 2, 4, 6), yes(4, 1, "register: 1 objects, 4 operations")),
+    Judged("a map", worked_rows.MAP, 0, order(0, 2, 4, 6, 8), yes(5, 1, "map: 1 objects, 5 operations")),
+    Judged("a pending enqueue", worked_rows.PENDING, 0, order(0, 1), worked_rows.QUEUE_YES),
+    Judged("a search that finds an order", worked_rows.RETURNS_CROSSED, 0, ALL_STEPS, worked_rows.QUEUE_YES),
+    Judged("no object", "", 0, "", yes(0, 0)),
+    Judged("a malformed history", worked_rows.AFTER_INFO, 2, order(0), "malformed history: H8 at map 2\n"),
     Judged("the second of three values", worked_rows.THREE_VALUES, 1, worked_rows.TWO_OF_THREE + "\n"),
     Judged("a value taken twice", worked_evidence.TWICE, 1, worked_evidence.COUNTED + "\n"),
     Judged("a queue of two that is wrong", worked_rows.ONE_OF_TWO, 1, "{:object 0, :cuts []}\n" + lines(certificate(1, 0))),
@@ -186,15 +189,12 @@ def is_gone(path):
 
 
 def why_wrong(program, it, ran):
-    """What is wrong with an answer, or None. A yes is that of check; a no gives reasons that hold; else a message says why there is no answer."""
-    if ran.status == 0:
-        said = program.run("check", f"finder.{it.status}.edn", f"finder.{it.status}.edn") if not it.text else None
-        is_yes = ran.out.startswith(b"yes: ") and (said is None or said.out == ran.out)
-        return None if is_yes else f"no yes: {ran}"
+    """What is wrong with an answer, or None. A yes has the counts of the history, whatever the evidence, and a malformed history its fault; a no
+    gives reasons that hold; else a message says why there is no answer."""
+    if ran.status in (0, 2):
+        return None if ran.out == it.out.encode() else f"not {it.out!r}: {ran}"
     if ran.status == 1:
         return why_not_explained(program, it.text, ran)
-    if ran.status == 2:
-        return None if ran.out.startswith(b"malformed history: ") else f"no fault: {ran}"
     lines_of_open = rb"(; object \d+: (open|out of steps after \d+)\n)+|malformed evidence: [EKN]\d+ at (byte|form) \d+\n"
     return None if re.fullmatch(lines_of_open, ran.out) else f"no message: {ran}"
 
@@ -217,7 +217,6 @@ def look(program, report, name, shows, it, ran, says=b""):
 
 def wrong_evidence(program, report):
     """Judgements with finders that print wrong evidence and then end."""
-    program.write("finder.0.edn", "")
     cases = list(scripts_of_wrong_evidence(program))
     found = at_once(lambda case: judged(program, case[1], case[3]), cases)
     for (name, _, shows, it), ran in zip(cases, found):
@@ -229,7 +228,6 @@ def wrong_evidence(program, report):
 
 def dying_finders(program, report):
     """Judgements with finders that are killed, or end too early."""
-    program.write("finder.0.edn", "")
     cases = [(name, *of, it, finder(program, f"dying.{number}.{at}", of[0], it.evidence))
              for number, (name, of) in enumerate(DYING.items()) for at, it in enumerate(HISTORIES)]
     for (name, _, shows, says, it, _), ran in zip(cases, at_once(lambda case: judged(program, case[-1], case[-2]), cases)):
@@ -270,7 +268,6 @@ def endless_finders(program, report):
 
 def finders_that_cannot_start(program, report):
     """If the finder is missing, may not be run, or is another program, there is no evidence, and standard error says why."""
-    program.write("finder.0.edn", "")
     program.write("finder.text", "{:object 0, :order [1 0 4]}")
     os.makedirs(f"{program.folder}/finder.folder", exist_ok=True)
     missing = b"the finder cannot be started, so there is no evidence"
