@@ -10,13 +10,24 @@ from ..verify.reasons import IMPOSSIBLE, TOLD, maps_of, value_of
 from .sentences import FEW_NAMED, FORMS, Said, Walked, grouped, key_of, label_of, number_in, why_bars_false
 from ..text_writers import value
 
-# The most events of an object that is drawn whole, and how many of a larger one without a focus are drawn.
-WHOLE, FIRST, MOST = 160, 160, 400
+# The most events of an object that is drawn whole.
+WHOLE = 160
+# How many events of a larger object are drawn where nothing in it is the focus.
+FIRST = 160
+# The most events of an object that are drawn.
+MOST = 400
 # The events before and after each of the focus, where the pairs before are too many.
 AROUND = ((20, 10), (10, 5), (5, 2), (2, 1), (1, 0), (0, 0))
-HOLE, LANES, ALONE = 7, 24, 12
-# The most rows of tried orders, the operations of a part that are tried, and the steps.
-TRIED, MOST_TRIED, STEPS = 24, 64, 2000
+# The most events between two that are drawn which are drawn too, and not left out.
+HOLE = 7
+# The most processes that have a lane.
+LANES = 24
+# The most rows of the table of tried orders.
+TRIED = 24
+# The most operations of a part whose orders are tried.
+MOST_TRIED = 64
+# The most steps that are taken to try them.
+STEPS = 2000
 # The most operations of a reason that are drawn alone.
 MOST_ALONE = 200
 # Of a reason with this many operations all orders are tried.
