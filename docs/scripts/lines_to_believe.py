@@ -1,13 +1,14 @@
 #!/usr/bin/env python3
 """Counts the lines of definitions that a clause of a contract names, itself or through another definition.
 
-    docs/scripts/lines_to_believe.py [NAME]
+    docs/scripts/lines_to_believe.py [--list] [NAME]
     docs/scripts/lines_to_believe.py --twice
 
 NAME is a definition of specs/, as judging.Texts.IsLinearizableText. With no NAME it prints the counts that README.md and
 docs/definitions.md give. Comments, blank lines and imports do not count, nor do enums and structs of the code, which it counts
 apart, nor the words of the standard library. Words that come from proofs/ do not count either: those that are met are listed.
-With --twice it lists the names that several crates define, each with these crates."""
+With --list each definition follows with the number of its lines, and then each type of the code. With --twice it lists the names
+that several crates define, each with these crates."""
 import collections
 import glob
 import os
@@ -193,12 +194,15 @@ def crates_of_names():
     return crates
 
 
-def main(names):
-    if names == ["--twice"]:
-        for name, those in sorted(crates_of_names().items()):
-            if len(those) > 1:
-                print(f"{name}: {', '.join(sorted(those))}")
-        return
+def print_twice():
+    """Prints the names that several crates define, each with these crates."""
+    for name, those in sorted(crates_of_names().items()):
+        if len(those) > 1:
+            print(f"{name}: {', '.join(sorted(those))}")
+
+
+def print_counts(names, lists):
+    """Prints the counts for these names, or for the clauses if there are none, and the definitions too if asked for."""
     known = modules()
     for clause, begin in ({"": names} if names else CLAUSES).items():
         seen, declared, unread = closure(known, begin)
@@ -206,11 +210,26 @@ def main(names):
         print(f"{clause or ' '.join(names)}: {lines} lines in {len(seen)} definitions, and {len(declared)} types of the code")
         if unread:
             print(f"  not counted, from proofs: {', '.join(sorted(unread))}")
-        if os.environ.get("VERBOSE"):
+        if lists:
             for path, name in sorted(seen):
-                print(f"  {path}.{name} {len(known[path].lines[name])}")
-            print(sorted(declared))
+                print(f"  {path}.{name}: {len(known[path].lines[name])}")
+            for path in sorted(declared):
+                print(f"  {path}: a type of the code")
+
+
+def are_known(arguments):
+    """Whether these are arguments of the script."""
+    names = arguments[1:] if arguments[:1] == ["--list"] else arguments
+    return arguments == ["--twice"] or not names or len(names) == 1 and names[0].count(".") == 2
+
+
+def main(arguments):
+    if arguments == ["--twice"]:
+        print_twice()
+    else:
+        lists = arguments[:1] == ["--list"]
+        print_counts(arguments[1:] if lists else arguments, lists)
 
 
 if __name__ == "__main__":
-    main(arguments_or_exit(__doc__, lambda arguments: arguments in ([], ["--twice"]) or len(arguments) == 1 and arguments[0].count(".") == 2))
+    main(arguments_or_exit(__doc__, are_known))
