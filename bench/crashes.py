@@ -327,17 +327,17 @@ def judged(program, folder, number, limit):
 
 def measure(program, folder, limit):
     count = sum(name.endswith(".edn") for name in os.listdir(folder))
-    found = [judged(program, folder, number, limit) for number in range(count)]
+    rows = [judged(program, folder, number, limit) for number in range(count)]
     print("| kind | values | kept: yes | lost: no | yes | partly: no | yes | open | operations of a no: middle, most | longest time |")
     print("|---|---|---|---|---|---|---|---|---|---|")
     for kind in PUT:
         for values in VALUES:
-            own = [it for it in found if it["kind"] == kind and it["values"] == values]
-            sizes = sorted(it["size"] for it in own if it["size"] is not None)
-            of = lambda fate, answer: sum(it["fate"] == fate and it["answer"] == answer for it in own)
+            own = [row for row in rows if row["kind"] == kind and row["values"] == values]
+            sizes = sorted(row["size"] for row in own if row["size"] is not None)
+            of = lambda fate, answer: sum(row["fate"] == fate and row["answer"] == answer for row in own)
             cells = [kind, "each once" if values == "once" else values, of("kept", "yes"), of("lost", "no"), of("lost", "yes"),
-                     of("partly", "no"), of("partly", "yes"), sum(it["answer"] == "open" for it in own),
-                     "%d, %d" % (sizes[len(sizes) // 2], sizes[-1]) if sizes else "-", "%.2f s" % max(it["seconds"] for it in own)]
+                     of("partly", "no"), of("partly", "yes"), sum(row["answer"] == "open" for row in own),
+                     "%d, %d" % (sizes[len(sizes) // 2], sizes[-1]) if sizes else "-", "%.2f s" % max(row["seconds"] for row in own)]
             print("| %s |" % " | ".join(map(str, cells)))
 
 

@@ -108,8 +108,8 @@ def words_of(module, name):
     found, shared = [], set()
 
     def refer(word, bound):
-        for it in {word, word.strip(".")}:
-            target = None if it.partition(".")[0] in bound else module.target(it, name)
+        for spelled in {word, word.strip(".")}:
+            target = None if spelled.partition(".")[0] in bound else module.target(spelled, name)
             if target:
                 found.append(target)
 
@@ -161,7 +161,7 @@ def walk(part, bound, refer):
 
 def closure(known, names):
     """The definitions that these name, the types of the code among them, and the words that come from proofs/."""
-    left = [(f"{crate}.specs.{module}", name) for crate, module, name in (it.split(".") for it in names)]
+    left = [(f"{crate}.specs.{module}", name) for crate, module, name in (dotted.split(".") for dotted in names)]
     seen, declared, unread = set(), set(), set()
     while left:
         path, name = left.pop()

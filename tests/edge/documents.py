@@ -63,7 +63,7 @@ def documents(program, report):
             report.holds(f"documents: {page} has the count for {name}, {count}", re.search(rf"\b{count}\b", text))
     index = read(f"{ROOT}/docs/CONTRIBUTING.md").partition("## The tests in `tests/edge`\n")[2].partition("\n## ")[0]
     files = sorted(glob.glob(f"{ROOT}/tests/edge/**/*.py", recursive=True))
-    lacks = [it for it in map(os.path.basename, files) if it != "__init__.py" and not re.search(rf"[`/]{re.escape(it)}`", index)]
+    lacks = [file for file in map(os.path.basename, files) if file != "__init__.py" and not re.search(rf"[`/]{re.escape(file)}`", index)]
     report.equal("documents: files of tests/edge that CONTRIBUTING does not name", [], lacks)
 
 
@@ -92,8 +92,8 @@ def rows_of_several():
     """The rows of the table of docs/definitions.md on names that mean different things: the names, and the crates."""
     crates = set(os.listdir(f"{ROOT}/crates"))
     table = read(f"{ROOT}/docs/definitions.md").partition("| name | what it is, by crate |\n|---|---|\n")[2].partition("\n\n")[0]
-    for names, said in re.findall(r"^\| (.*?) \| (.*) \|$", table, re.M):
-        yield re.findall(r"`(\w+)`", names), crates & set(re.findall(r"`(\w+)`", said))
+    for names, cell in re.findall(r"^\| (.*?) \| (.*) \|$", table, re.M):
+        yield re.findall(r"`(\w+)`", names), crates & set(re.findall(r"`(\w+)`", cell))
 
 
 def definition_of(name):
@@ -142,21 +142,21 @@ def names_of_rows(program, report):
     report.holds("names_of_rows: there are some", count >= 900, count)
     report.equal("names_of_rows: not defined where docs/definitions.md says", [], strange)
     for page in PAGES:
-        named = [(it[:-1].replace(".", "/"), name) for it, name in re.findall(r"`((?:[A-Z]\w*\.)+)(\w+)`", read(page)) if name != "antt"]
-        files = {it for it, _ in named if glob.glob(f"{ROOT}/crates/*/specs/{it}.antt")}
-        strange = [f"{it} {name}" for it, name in named if it in files and not is_defined_in("*", name, it)]
+        named = [(module[:-1].replace(".", "/"), name) for module, name in re.findall(r"`((?:[A-Z]\w*\.)+)(\w+)`", read(page)) if name != "antt"]
+        files = {module for module, _ in named if glob.glob(f"{ROOT}/crates/*/specs/{module}.antt")}
+        strange = [f"{module} {name}" for module, name in named if module in files and not is_defined_in("*", name, module)]
         report.equal(f"names_of_rows: not defined where {os.path.relpath(page, ROOT)} says", [], strange)
 
 
 def clauses_by_function():
     """The names of the clauses of each public function, by the name of the function."""
-    found = {}
+    clauses_of = {}
     for crate in sorted(os.listdir(f"{ROOT}/crates")):
         if not os.path.exists(f"{ROOT}/crates/{crate}/src/lib.rt"):
             continue
         for name, _, clauses in contract_list.functions(crate):
-            found.setdefault(name.rpartition("::")[2], set()).update(clause[1].rstrip() for clause in clauses if clause[1])
-    return found
+            clauses_of.setdefault(name.rpartition("::")[2], set()).update(clause[1].rstrip() for clause in clauses if clause[1])
+    return clauses_of
 
 
 def definitions_of_clauses(program, report):
@@ -188,7 +188,7 @@ def named_clauses(program, report):
     sources = glob.glob(f"{ROOT}/crates/*/src/**/*.rt", recursive=True)
     named = {name for path in sources for name in re.findall(r"\b(?:ensures|requires) (\w+) \{", read(path))}
     # The changelog tells what was there.
-    for page in [it for it in PAGES if not it.endswith("CHANGELOG.md")]:
+    for page in [page for page in PAGES if not page.endswith("CHANGELOG.md")]:
         for names, function in re.findall(r"((?:`[\w.]+`(?: \([^()]*\))?(?:, | and )?)+) of `(\w+)`", read(page)):
             for name in re.findall(r"`([\w.]+)`", re.sub(r"\([^()]*\)", "", names)):
                 record, _, part = name.rpartition(".")
@@ -204,13 +204,13 @@ def named_clauses(program, report):
 def words_to_avoid():
     """The words in the first columns of the two tables of CONTRIBUTING."""
     tables = read(f"{ROOT}/docs/CONTRIBUTING.md").split("| avoid | write |\n")[1:]
-    return [re.findall(r"^\| ([^|]+?) \|", it.partition("\n\n")[0], re.M) for it in tables]
+    return [re.findall(r"^\| ([^|]+?) \|", table.partition("\n\n")[0], re.M) for table in tables]
 
 
 def said_in_python(text):
     """The comments and the strings of a text in Python: its names may be any."""
     kinds = (tokenize.COMMENT, tokenize.STRING)
-    return "\n".join(it.string for it in tokenize.generate_tokens(io.StringIO(text).readline) if it.type in kinds)
+    return "\n".join(token.string for token in tokenize.generate_tokens(io.StringIO(text).readline) if token.type in kinds)
 
 
 def strings(lines):
@@ -229,17 +229,17 @@ def scripts():
     for base, folders, files in os.walk(ROOT):
         top = os.path.relpath(base, ROOT)
         others = {".git", "out", "target", "__pycache__"} | ({"crates", "examples"} if top == "." else set())
-        folders[:] = [it for it in folders if it not in others]
-        for name in (os.path.relpath(f"{base}/{it}", ROOT) for it in files):
-            if not name.endswith((".md", ".png", ".edit", ".pyc")) and name != "tests/edge/documents.py":
-                text = read(f"{ROOT}/{name}")
-                yield name, said_in_python(text) if is_in_python(name, text) else said_in_code(text)
+        folders[:] = [folder for folder in folders if folder not in others]
+        for file in (os.path.relpath(f"{base}/{name}", ROOT) for name in files):
+            if not file.endswith((".md", ".png", ".edit", ".pyc")) and file != "tests/edge/documents.py":
+                text = read(f"{ROOT}/{file}")
+                yield file, said_in_python(text) if is_in_python(file, text) else said_in_code(text)
 
 
 def messages_and_comments():
     """Of each file of the libraries and programs its messages, or None, and its comments. Tests have no messages."""
     for base, _, files in os.walk(f"{ROOT}/crates"):
-        for file in sorted(it for it in files if "/src" in base and it.endswith(".rt") or "/specs" in base and it.endswith(".antt")):
+        for file in sorted(file for file in files if "/src" in base and file.endswith(".rt") or "/specs" in base and file.endswith(".antt")):
             name = os.path.relpath(f"{base}/{file}", ROOT)
             text = read(f"{ROOT}/{name}")
             lines = [line for line in text.split("\n") if re.match(r" *(//|--)", line)]
@@ -258,7 +258,7 @@ def names_in_code():
 def plain_words(program, report):
     """No page, comment, message or script has one of the words to avoid, and no name in the code of the crates one of the first table."""
     tables = words_to_avoid()
-    report.holds("plain_words: CONTRIBUTING has two tables of words to avoid", len(tables) == 2 and all(len(it) > 5 for it in tables))
+    report.holds("plain_words: CONTRIBUTING has two tables of words to avoid", len(tables) == 2 and all(len(table) > 5 for table in tables))
     texts = {os.path.relpath(page, ROOT): read(page) for page in PAGES if not page.endswith("CONTRIBUTING.md")}
     texts.update(scripts())
     comments = {}
@@ -267,7 +267,7 @@ def plain_words(program, report):
     for words, looked_at in zip(tables, ([texts, comments], [texts])):
         for word in words:
             pattern = rf"\b[{word[0]}{word[0].upper()}]{word[1:].replace('N', '[0-9]+')}\b"
-            found = {name for it in looked_at for name, text in it.items() if re.search(pattern, re.sub("there is none|is none of", "", text))}
+            found = {name for group in looked_at for name, text in group.items() if re.search(pattern, re.sub("there is none|is none of", "", text))}
             report.equal(f"plain_words: '{word}' is in no text", [], sorted(found))
     names = list(names_in_code())
     for word in tables[0]:
@@ -358,9 +358,9 @@ def code(text):
 
 def snippets(program, report):
     """The snippets of docs/embedding.md and docs/tutorial.md, and the examples of the recorders, are code that the gate compiles and runs."""
-    found = re.findall(r"^```(c|cpp|rust|go|python)\n(.*?)^```$", read(f"{ROOT}/docs/embedding.md"), re.M | re.S)
-    report.holds("snippets: docs/embedding.md has some", len(found) >= 5)
-    for language, snippet in found:
+    snippets_of_page = re.findall(r"^```(c|cpp|rust|go|python)\n(.*?)^```$", read(f"{ROOT}/docs/embedding.md"), re.M | re.S)
+    report.holds("snippets: docs/embedding.md has some", len(snippets_of_page) >= 5)
+    for language, snippet in snippets_of_page:
         folder = f"{ROOT}/callers/{language}"
         files = [
             "\n".join(code(read(f"{base}/{file}")))
@@ -368,15 +368,15 @@ def snippets(program, report):
             for file in files
             if "test" in f"{base}/{file}"[len(ROOT) :]
         ]
-        report.holds(f"snippets: a test in {language} has {code(snippet)[0]}", any("\n".join(code(snippet)) in it for it in files), snippet)
+        report.holds(f"snippets: a test in {language} has {code(snippet)[0]}", any("\n".join(code(snippet)) in text for text in files), snippet)
     page = read(f"{ROOT}/docs/tutorial.md")
     own = code(read(f"{ROOT}/docs/record_queue.py")) + code(read(f"{ROOT}/callers/python/test_recorder.py"))
     for line in re.findall(r"^    ((?:journal\.|answer = |assert ).+)$", page, re.M):
         report.holds(f"snippets: docs/tutorial.md: {line}", line in own)
     for recorder, (line, tests) in RECORDERS.items():
         example = re.findall(f"^{line}$", read(f"{ROOT}/callers/{recorder}").partition("\nclass ")[0], re.M)
-        own = {it for test in tests for it in code(read(f"{ROOT}/callers/{test}"))}
-        lacks = [it for it in example if it.strip() not in own and not it.startswith(("//", "#"))]
+        own = {own_line for test in tests for own_line in code(read(f"{ROOT}/callers/{test}"))}
+        lacks = [example_line for example_line in example if example_line.strip() not in own and not example_line.startswith(("//", "#"))]
         report.holds(f"snippets: {recorder} has an example", len(example) >= 5, example)
         report.equal(f"snippets: lines of {recorder} that no test has", [], lacks)
 

@@ -202,14 +202,14 @@ def pages_of_orders(program, report):
         page = ran.out.decode()
         report.equal(f"draw: page {number}: status", (0 if answer == "yes" else 1, b""), (ran.status, ran.err))
         report.holds(f"draw: page {number}: class", f'<body class="{answer}">' in page, page[:500])
-        for it in texts:
-            report.holds(f"draw: page {number}: {it}", it in page, page)
+        for text in texts:
+            report.holds(f"draw: page {number}: {text}", text in page, page)
         report.holds(f"draw: page {number}: markup", "<script" not in page and ESCAPED in page, page)
 
 
 def numbers(pattern, text):
     """The numbers of each place that a pattern finds."""
-    return [tuple(int(it) for it in found) for found in re.findall(pattern, text)]
+    return [tuple(int(digits) for digits in found) for found in re.findall(pattern, text)]
 
 
 def bars_and_points(program, report):
@@ -235,8 +235,8 @@ def pages_of_faults(program, report):
         files = (program.write("history.edn", ""), name) if is_of_certificates else (name,)
         ran = program.run("draw", *files)
         report.equal(f"draw: fault {number}: status", (2, b""), (ran.status, ran.err))
-        for it in ("&lt;b&gt;", *texts):
-            report.holds(f"draw: fault {number}: {it}", it in ran.out.decode(), ran.out.decode())
+        for word in ("&lt;b&gt;", *texts):
+            report.holds(f"draw: fault {number}: {word}", word in ran.out.decode(), ran.out.decode())
         report.holds(f"draw: fault {number}: markup", b"<b></p>" not in ran.out)
 
 

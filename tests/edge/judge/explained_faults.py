@@ -136,7 +136,7 @@ def import_is_advised(program, report):
         ran, lines = said_of(program, path)
         line = f"fcbench import --names names.edn{options} '{path}' > judged.edn && fcbench judge --names names.edn judged.edn"
         advice = [] if options is None else [f"; it can be imported: {line}"]
-        report.equal(f"judge: import is advised: {text}", (2, advice), (ran.returncode, [it for it in lines if "import" in it]))
+        report.equal(f"judge: import is advised: {text}", (2, advice), (ran.returncode, [line for line in lines if "import" in line]))
         if options is not None:
             judged = subprocess.run(["sh", "-c", line.replace("fcbench ", f"{program.tools} ")], capture_output=True, cwd=program.folder, check=False)
             report.holds(f"judge: what is imported as advised: {text}", judged.returncode == 0 and judged.stdout.startswith(b"yes: "), judged)
@@ -229,9 +229,9 @@ def out_of_steps(program, report):
     for steps, wanted in (("7", 1), ("1000000", 0)):
         ran = subprocess.run(program.line(("judge", "--steps", steps, path)), capture_output=True, cwd=program.folder, check=False)
         said = [
-            it
-            for it in ran.stderr.decode().splitlines()
-            if it.startswith("fcbench: out of steps: --steps N lets the search take longer; distinct values and fewer :info ")
+            line
+            for line in ran.stderr.decode().splitlines()
+            if line.startswith("fcbench: out of steps: --steps N lets the search take longer; distinct values and fewer :info ")
         ]
         report.equal(f"judge: --steps {steps}: what to do is said", (3 * wanted, wanted), (ran.returncode, len(said)), ran)
 

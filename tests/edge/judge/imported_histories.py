@@ -89,7 +89,7 @@ def imports(program, report):
         report.equal("import: its table of names", NAMES, file.read())
     text = program.write("imported.edn", made.out)
     judged = program.run("judge", "--names", names, text)
-    report.holds("import: it is judged in its words", judged.status == 1 and all(it in judged.out for it in SAID), judged)
+    report.holds("import: it is judged in its words", judged.status == 1 and all(words in judged.out for words in SAID), judged)
     reason = b"".join(line[2:] for line in judged.out.splitlines(True) if line.startswith(b"; {"))
     refuted = program.run("refute", text, program.write("reasons.edn", reason))
     report.equal("import: its reason is accepted", 1, refuted.status, refuted)
@@ -106,9 +106,9 @@ def failed_operations(program, report):
     for error, option, warns in EMPTIES:
         path = program.write("empty.edn", WRONGLY_EMPTY.format(error))
         left_out, reply = program.run("import", path), program.run("import", option, path)
-        said = [it for it in left_out.err.decode().splitlines() if it.startswith("fcbench: warning: left out: 1 failed :dequeue with ")]
+        said = [line for line in left_out.err.decode().splitlines() if line.startswith("fcbench: warning: left out: 1 failed :dequeue with ")]
         report.equal(f"import: {error}: warnings", (0, int(warns), b""), (left_out.status, len(said), reply.err), left_out.err)
-        statuses = [program.run("judge", program.write("text.edn", it.out)).status for it in (left_out, reply)]
+        statuses = [program.run("judge", program.write("text.edn", imported.out)).status for imported in (left_out, reply)]
         report.equal(f"import: {error}: {option} makes a no of a yes", [0, 1], statuses)
 
 
@@ -119,7 +119,7 @@ def failed_swaps(program, report):
         left_out, reply = program.run("import", path), program.run("import", option, path)
         is_said = left_out.err.startswith(b"fcbench: warning: left out: 1 failed :cas with") and left_out.err.count(b"\n") == 1
         report.equal(f"import: a swap with {error}: warnings", (0, True, b""), (left_out.status, is_said, reply.err), left_out.err)
-        statuses = [program.run("judge", program.write("text.edn", it.out)).status for it in (left_out, reply)]
+        statuses = [program.run("judge", program.write("text.edn", imported.out)).status for imported in (left_out, reply)]
         report.equal(f"import: a swap with {error}: {option} makes a no of a yes", [0, 1], statuses)
 
 
@@ -171,8 +171,9 @@ def drawn(seed):
 
     def call(f, key, value, reply):
         process = rng.choice(PROCESSES)
-        for kind, it in (("invoke", value), ("ok", reply)):
-            events.append(f"{{:index {len(events)}, :time {len(events) * 1000}, :process {process}, :type :{kind}, :f :{f}, :value [{key} {it}]}}")
+        for kind, own in (("invoke", value), ("ok", reply)):
+            times = f":index {len(events)}, :time {len(events) * 1000}"
+            events.append(f"{{{times}, :process {process}, :type :{kind}, :f :{f}, :value [{key} {own}]}}")
         return process
 
     def write(key):
@@ -195,7 +196,7 @@ def drawn(seed):
     process = call("read", key, "nil", old)
     form = rng.choice(("{}", "[{}]"))
     tag = rng.choice(("", "#jepsen.history.Op"))
-    return form.format("\n".join(tag + it for it in events)), events, key, old, place, process
+    return form.format("\n".join(tag + event for event in events)), events, key, old, place, process
 
 
 def named(table, sort, number):
@@ -235,7 +236,7 @@ def judged_in_words(program, seed):
     own = next((number for (sort, number), name in table.items() if (sort, name) == ("object", key)), None)
     on = key if own is None else f"{own}, which is {key}"
     wanted = (f"; object {on}: impossible\n", f"; events {place} and {place + 1}: process {process}, :read nil, :ok {old}\n")
-    return None if ran.status == 1 and all(it in ran.out.decode() for it in wanted) else f"{wanted}: {file} {ran}"
+    return None if ran.status == 1 and all(words in ran.out.decode() for words in wanted) else f"{wanted}: {file} {ran}"
 
 
 def generated_files(program, report):

@@ -91,7 +91,7 @@ def bugs_of_sets(program, report):
         made = [history_of(bug, seed) for seed in range(OF_EACH)]
         bad = [events for events, element in made if not has_order(calls_on(events, element))]
         texts = [text_of(events) for events in bad]
-        runs = at_once(lambda it: program.run("judge", program.write(f"{it}.{HISTORY}", texts[it])), range(len(texts)))  # noqa: B023
+        runs = at_once(lambda number: program.run("judge", program.write(f"{number}.{HISTORY}", texts[number])), range(len(texts)))  # noqa: B023
         for text, ran in zip(texts, runs):
             report.equal(f"judge: {bug}: why", None, why_not_explained(program, text, ran), ran)
             explained, _ = explained_in(ran.out)

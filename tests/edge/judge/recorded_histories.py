@@ -32,7 +32,7 @@ def recorded_histories(program, report):
     for name in SHORT:
         with open(f"{EXAMPLES}/{name}.history.edn", "rb") as file:
             texts[name] = file.read()
-    report.equal("recorded: every file is asked about", sorted(f"{it}.edn.gz" for it in texts if it not in SHORT), sorted(os.listdir(FOLDER)))
+    report.equal("recorded: every file is asked about", sorted(f"{name}.edn.gz" for name in texts if name not in SHORT), sorted(os.listdir(FOLDER)))
     slowest = 0
     for name, text in texts.items():
         file = program.write(f"{name}.edn", text)

@@ -60,7 +60,7 @@ def calls_of(kind, objects, client, calls, seed):
     """The calls of one client, as (object, function, argument)."""
     generator, made = Generator(seed, client), []
     for number in range(calls - calls % 2 if kind in IN_PAIRS else calls):
-        on, choice, first, second = [generator.below(it) for it in (objects, 6, 100, 100)]
+        on, choice, first, second = [generator.below(limit) for limit in (objects, 6, 100, 100)]
         names = OPERATIONS[kind_of(kind, on)]
         if kind in IN_PAIRS:
             made.append((made[-1][0] if number % 2 else on, names[number % 2], client if kind == "lock" else None))
@@ -72,8 +72,8 @@ def calls_of(kind, objects, client, calls, seed):
 
 def calls_of_all(kind, objects, clients, calls, seed):
     """The invocation lines of each client, by its number."""
-    of = {it: calls_of(kind, objects, it, calls, seed) for it in range(clients)}
-    return {it: [invoke(it, f, value, on) for on, f, value in made] for it, made in of.items() if made}
+    of = {client: calls_of(kind, objects, client, calls, seed) for client in range(clients)}
+    return {client: [invoke(client, f, value, on) for on, f, value in made] for client, made in of.items() if made}
 
 
 def calls_in(output):

@@ -107,8 +107,8 @@ def shards_through_pipes(program, report):
     merged_with(program, "piped", {})
     for file in ("0.edn", "1.places", "2.evidence"):
         folder = Folder(program, "piped", 3)
-        with open(folder.path(file), "rb") as it:
-            text = it.read()
+        with open(folder.path(file), "rb") as opened:
+            text = opened.read()
         ran = through_pipes(program, ((f"piped/{file}", text),), ("merge", "piped"))
         report.answers(f"merge: {file} is a pipe", ran, MERGED_YES, 0)
         folder.write(file, text)
@@ -163,7 +163,7 @@ def refused_memory_of_shards(program, report):
             report.holds(f"split: {name}: allocation {at} fails", is_well and folder.is_whole() == (ran.status == 0), ran)
     wholes = {"merged": merged_with(program, "merged", {}), "wide": wide_objects.merged(program, "wide").merge()}
     wholes["refuted"] = wide_objects.refuted(program, "refuted").merge()
-    report.equal("merge: with ample memory", [0, 0, 1], [it.status for it in wholes.values()], wholes)
+    report.equal("merge: with ample memory", [0, 0, 1], [ran.status for ran in wholes.values()], wholes)
     for name, whole in wholes.items():
         for at in range(1, allocations_of(program, report, "merge", name) + 1):
             ran = program.run("merge", name, faults={"REFUSE_AT": at})

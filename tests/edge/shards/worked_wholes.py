@@ -110,7 +110,7 @@ def split(program, name, whole, shards):
 
 def same_files(report, name, expected, came):
     """Compares the files of a folder with those that are expected, and says which differ."""
-    others = sorted(it for it in {*expected, *came} if expected.get(it) != came.get(it))
+    others = sorted(file for file in {*expected, *came} if expected.get(file) != came.get(file))
     report.equal(f"{name}: files that differ", {}, {file: (expected.get(file), came.get(file)) for file in others})
 
 
