@@ -87,9 +87,9 @@ def main():
         for calls in asked.calls:
             for values in asked.values if kind != "mutex" else asked.values[:1]:
                 for faulty in (False, True):
-                    said = "-" if kind == "mutex" else values or "different"
+                    label = "-" if kind == "mutex" else values or "different"
                     cells = row(asked, kind, values, calls, faulty)
-                    print(f"| {kind} | {calls:,} | {said} | {'5 %, 2 %' if faulty else '-'} | {' | '.join(cells)} |", flush=True)
+                    print(f"| {kind} | {calls:,} | {label} | {'5 %, 2 %' if faulty else '-'} | {' | '.join(cells)} |", flush=True)
 
 
 if __name__ == "__main__":

@@ -38,12 +38,12 @@ def measured(words):
     """Runs these words, which must end with 0. Returns what they print and the times of the process: by the clock, its own and the kernel's."""
     begun = time.monotonic()
     child = subprocess.Popen(words, stdout=subprocess.PIPE, text=True)
-    said = child.stdout.read()
+    output = child.stdout.read()
     _, status, used = os.wait4(child.pid, 0)
     child.returncode = os.waitstatus_to_exitcode(status)
     if child.returncode:
         sys.exit(f"{words}: status {child.returncode}")
-    return said, (time.monotonic() - begun, used.ru_utime, used.ru_stime)
+    return output, (time.monotonic() - begun, used.ru_utime, used.ru_stime)
 
 
 def calls_in(said):
@@ -83,8 +83,8 @@ def long(timer, program, folder, rounds):
             of_both = {}
             for words in (its, [timer, command, *texts, "1", "1"])[:: 1 if number % 2 else -1]:
                 of_both[words[0]] = measured(words)
-            said, whole = of_both[timer]
-            for row, seconds in zip(ROWS, (calls_in(said)[0], whole, of_both[program][1])):
+            output, whole = of_both[timer]
+            for row, seconds in zip(ROWS, (calls_in(output)[0], whole, of_both[program][1])):
                 times[command, row].append(seconds)
     print("| 1,000,000 maps, s | processor | of these the kernel | by the clock |\n|---|---|---|---|")
     for (command, row), taken in times.items():

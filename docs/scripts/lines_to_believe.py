@@ -40,8 +40,8 @@ class Module:
             self.read(file.read())
 
     def read(self, text):
-        for found in re.finditer(r"^(?:pub )?use Rattle\.([\w.]+?)(?:\.\{([^}]*)\}| as (\w+))\s*$", text, re.M):
-            path, names, other = found.groups()
+        for statement in re.finditer(r"^(?:pub )?use Rattle\.([\w.]+?)(?:\.\{([^}]*)\}| as (\w+))\s*$", text, re.M):
+            path, names, other = statement.groups()
             if other:
                 self.whole[other] = path
             for name in (names or "").replace("\n", " ").split(","):
@@ -80,11 +80,11 @@ class Module:
 
 
 def modules():
-    found = {}
+    by_path = {}
     for path in glob.glob(f"{ROOT}/crates/*/specs/**/*.antt", recursive=True):
         module = Module(path)
-        found[f"{module.crate}.specs.{module.name}"] = module
-    return found
+        by_path[f"{module.crate}.specs.{module.name}"] = module
+    return by_path
 
 
 NAMES = r"[^\s(){}\[\],;:λ]+"
@@ -105,13 +105,13 @@ def parts_of(module, name):
 
 def words_of(module, name):
     """What the words of a definition refer to, except for those that it binds: its parameters and fields, and names in λ and (x : A)."""
-    found, shared = [], set()
+    targets, shared = [], set()
 
     def refer(word, bound):
         for spelled in {word, word.strip(".")}:
             target = None if spelled.partition(".")[0] in bound else module.target(spelled, name)
             if target:
-                found.append(target)
+                targets.append(target)
 
     for place, part in enumerate(parts_of(module, name)):
         bound = set(shared)
@@ -121,7 +121,7 @@ def words_of(module, name):
             for word in re.findall(NAMES, left):
                 path, of = module.target(word, name) or ("", "")
                 if word in module.constructors or "declared" in path:
-                    found.append((path, of))
+                    targets.append((path, of))
                 else:
                     bound.add(word)
         bound |= walk(part, bound, refer)
@@ -130,7 +130,7 @@ def words_of(module, name):
             shared |= bound  # The parameters.
         elif field:
             shared.add(field.group(1))
-    return found
+    return targets
 
 
 def walk(part, bound, refer):

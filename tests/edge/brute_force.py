@@ -125,8 +125,8 @@ def of_each(program, name, words, history, count, said, status):
 def of_no_orders(program, name, history, count):
     """Of each object find is to print a line, none of which is an order."""
     ran = program.run("find", history)
-    said = ran.out.count(b"\n"), ran.out.count(b":order [")
-    return [(f"{name}, without an order", (3, b"", (count, 0)), (ran.status, ran.err, said))]
+    counts = ran.out.count(b"\n"), ran.out.count(b":order [")
+    return [(f"{name}, without an order", (3, b"", (count, 0)), (ran.status, ran.err, counts))]
 
 
 def of_orders(program, name, words, history, count):

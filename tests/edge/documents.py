@@ -255,6 +255,11 @@ def names_in_code():
             yield "_" + re.sub(r"(?<=[a-z0-9])(?=[A-Z])", "_", name).lower() + "_", f"{os.path.relpath(path, ROOT)}: {name}"
 
 
+def has_word(text, pattern):
+    """Whether a text has a word to avoid, apart from two phrases that may stay."""
+    return re.search(pattern, re.sub("there is none|is none of", "", text))
+
+
 def plain_words(program, report):
     """No page, comment, message or script has one of the words to avoid, and no name in the code of the crates one of the first table."""
     tables = words_to_avoid()
@@ -262,17 +267,17 @@ def plain_words(program, report):
     texts = {os.path.relpath(page, ROOT): read(page) for page in PAGES if not page.endswith("CONTRIBUTING.md")}
     texts.update(scripts())
     comments = {}
-    for name, messages, said in messages_and_comments():
-        texts[name], comments[name] = messages, said
+    for name, messages, remarks in messages_and_comments():
+        texts[name], comments[name] = messages, remarks
     for words, looked_at in zip(tables, ([texts, comments], [texts])):
         for word in words:
             pattern = rf"\b[{word[0]}{word[0].upper()}]{word[1:].replace('N', '[0-9]+')}\b"
-            found = {name for group in looked_at for name, text in group.items() if re.search(pattern, re.sub("there is none|is none of", "", text))}
-            report.equal(f"plain_words: '{word}' is in no text", [], sorted(found))
+            where_said = {name for group in looked_at for name, text in group.items() if has_word(text, pattern)}
+            report.equal(f"plain_words: '{word}' is in no text", [], sorted(where_said))
     names = list(names_in_code())
     for word in tables[0]:
-        found = [where for name, where in names if f"_{word.replace(' ', '_')}_" in name]
-        report.equal(f"plain_words: '{word}' is in no name", [], found)
+        where_said = [where for name, where in names if f"_{word.replace(' ', '_')}_" in name]
+        report.equal(f"plain_words: '{word}' is in no name", [], where_said)
 
 
 # The most characters of a line of these files: of proofs, of definitions, of code, and of prose.

@@ -259,8 +259,8 @@ def events_of(*calls):
     lines = []
     for kind in ("invoke", "ok"):
         for process, (f, value, reply) in enumerate(calls):
-            said = value if kind == "invoke" else reply
-            lines.append(f"{{:process {process}, :type :{kind}, :f :{f}, :value {said}}}")
+            shown = value if kind == "invoke" else reply
+            lines.append(f"{{:process {process}, :type :{kind}, :f :{f}, :value {shown}}}")
     return lines
 
 

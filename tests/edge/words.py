@@ -331,9 +331,9 @@ def version(program, report):
     with open(f"{ROOT}/CHANGELOG.md", encoding="utf-8") as changelog:
         newest = re.search(r"^## (\d+\.\d+\.\d+), .*\n\nProved by Rattle logic `([0-9a-f]+)`", changelog.read(), re.M)
     report.holds("version: the changelog has one", newest)
-    said = f"fcbench {newest[1]}, proved by Rattle logic {newest[2]}\n"
+    line = f"fcbench {newest[1]}, proved by Rattle logic {newest[2]}\n"
     for words in (("--version",), ("-V",)):
-        report.answers(f"version: {words[0]}", program.run(*words), said, 0)
+        report.answers(f"version: {words[0]}", program.run(*words), line, 0)
     with open(f"{os.path.dirname(os.path.realpath(shutil.which('rt')))}/../KIT-ID", encoding="utf-8") as kit:
         report.holds("version: the kit", newest[2] in kit.read())
 
@@ -372,11 +372,11 @@ def refused_words_are_named(program, report):
 def bad_words_are_told(program, report):
     """If an option takes one of some words, and is given another, the error names the option and the words that it takes."""
     kinds = "queue, stack, heap, register, map, mutex, set, counter, lock, mixed"
-    for words, said in (
+    for words, message in (
         (("run", "--kind", "tree"), f"error: --kind takes one of the words {kinds}\n"),
         (("search", "h.edn", "--first", "value"), "error: --first takes one of the words number, return\n"),
     ):
-        report.answers(f"refused: {' '.join(words)}: what it says", program.run(*words), "", 64, said)
+        report.answers(f"refused: {' '.join(words)}: what it says", program.run(*words), "", 64, message)
 
 
 def not_utf_8(program, report):

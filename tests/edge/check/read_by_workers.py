@@ -35,8 +35,8 @@ def generated(program, name, words, seed):
     """A history of bench/gen.py with its certificates, and the lines of the verdict."""
     folder = f"{program.folder}/pieces {name}"
     os.makedirs(folder, exist_ok=True)
-    made = [sys.executable, f"{ROOT}/bench/gen.py", "history", folder, *words.split(), "--seed", str(seed)]
-    subprocess.run(made, check=True, stdout=subprocess.DEVNULL)
+    generator = [sys.executable, f"{ROOT}/bench/gen.py", "history", folder, *words.split(), "--seed", str(seed)]
+    subprocess.run(generator, check=True, stdout=subprocess.DEVNULL)
     texts = []
     for file in ("history.edn", "certs.edn", "expect.json"):
         with open(f"{folder}/{file}", encoding="utf-8") as text:

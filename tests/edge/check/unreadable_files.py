@@ -189,8 +189,8 @@ def in_pieces(program, report):
     # Two programs read the history of judge and draw, so it is no pipe.
     os.mkfifo(f"{program.folder}/pipe.edn")
     for words in (("judge", "pipe.edn"), ("draw", "pipe.edn"), ("judge", "-"), ("draw", "-")):
-        said = f"fcbench: cannot read {words[1]}: it is read twice, so it must be a file and not a pipe\n"
-        report.answers(f"{' '.join(words)}: a pipe", program.run(*words), "", 4, said)
+        message = f"fcbench: cannot read {words[1]}: it is read twice, so it must be a file and not a pipe\n"
+        report.answers(f"{' '.join(words)}: a pipe", program.run(*words), "", 4, message)
     os.remove(f"{program.folder}/pipe.edn")
 
 

@@ -578,17 +578,17 @@ def falsified_styles(program, report):
 
 def rounds(processes, maps, on=None):
     """A history of a queue of n maps: in rounds each process puts a value in, and then takes the values out in their order."""
-    made, order, value = [], [], 0
-    while len(made) < maps:
-        count = min(processes, (maps - len(made)) // 4)
-        begun, values = len(made), range(value, value + count)
-        made += [text_writers.invoke(number, "enqueue", value + number, on) for number in range(count)]
-        made += [text_writers.ok(number, "enqueue", value + number, on) for number in range(count)]
-        made += [text_writers.invoke(number, "dequeue", None, on) for number in range(count)]
-        made += [text_writers.ok(process, "dequeue", own, on) for process, own in enumerate(values)]
+    events, order, value = [], [], 0
+    while len(events) < maps:
+        count = min(processes, (maps - len(events)) // 4)
+        begun, values = len(events), range(value, value + count)
+        events += [text_writers.invoke(number, "enqueue", value + number, on) for number in range(count)]
+        events += [text_writers.ok(number, "enqueue", value + number, on) for number in range(count)]
+        events += [text_writers.invoke(number, "dequeue", None, on) for number in range(count)]
+        events += [text_writers.ok(process, "dequeue", own, on) for process, own in enumerate(values)]
         order += [*range(begun, begun + count), *range(begun + 2 * count, begun + 3 * count)]
         value += count
-    return made, order
+    return events, order
 
 
 def with_wrong_reply(maps, at):
@@ -657,16 +657,16 @@ def large_drawings(program, report):
 
 def rounds_of_a_map(processes, maps):
     """A history of a map object of n maps: in rounds each process puts a value under a key of its own, and then gets it."""
-    made, value = [], 0
+    events, value = [], 0
     before = dict.fromkeys(range(processes))
-    while len(made) < maps:
-        made += [text_writers.invoke(number, "put", (number, value + number)) for number in range(processes)]
-        made += [text_writers.ok(number, "put", before[number]) for number in range(processes)]
+    while len(events) < maps:
+        events += [text_writers.invoke(number, "put", (number, value + number)) for number in range(processes)]
+        events += [text_writers.ok(number, "put", before[number]) for number in range(processes)]
         before = {number: value + number for number in range(processes)}
-        made += [text_writers.invoke(number, "get", number) for number in range(processes)]
-        made += [text_writers.ok(number, "get", before[number]) for number in range(processes)]
+        events += [text_writers.invoke(number, "get", number) for number in range(processes)]
+        events += [text_writers.ok(number, "get", before[number]) for number in range(processes)]
         value += processes
-    return made
+    return events
 
 
 def histories_of_cost(maps):

@@ -103,8 +103,8 @@ def paused_map():
 
 def orders_of(certificates):
     """The orders in a text of certificates, by their objects."""
-    found = re.findall(r"\{:object (\d+), :order \[([^\]]*)\]", certificates.decode() if isinstance(certificates, bytes) else certificates or "")
-    return {int(on): [int(number) for number in order.split()] for on, order in found}
+    orders = re.findall(r"\{:object (\d+), :order \[([^\]]*)\]", certificates.decode() if isinstance(certificates, bytes) else certificates or "")
+    return {int(on): [int(number) for number in order.split()] for on, order in orders}
 
 
 def found_orders(program, name, history):
@@ -340,8 +340,8 @@ def options_and_faults():
 
 def hostile():
     """Texts with markup, quotes, wide characters and control characters, in places where a text may have them."""
-    said = '"</script><script>alert(1)</script>&amp;\u202e\u3042\U0001f600\\n"'
-    note = f":note {said}, :error [:{'k' * 64} \"{'x' * 100_000}\"]"
+    markup = '"</script><script>alert(1)</script>&amp;\u202e\u3042\U0001f600\\n"'
+    note = f":note {markup}, :error [:{'k' * 64} \"{'x' * 100_000}\"]"
     history = f"{{:process 0, :type :invoke, :f :enqueue, :value {GREATEST}, {note}}}\n{{:process 0, :type :ok, :f :enqueue, :value {GREATEST}}}\n"
     history += f"{{:process {GREATEST}, :type :invoke, :f :dequeue}}\n{{:process {GREATEST}, :type :info, :f :dequeue}}\n"
     history += f"{{:process :{'n' * 64}, :type :info, :f :{'f' * 64}}}\n"
@@ -355,10 +355,10 @@ def hostile():
     )
     yield Case("long numbers of processes", both, text_writers.order(0, 2))
     yield Case("a faulty map of a process with a long number", both + text_writers.lines(text_writers.ok(GREATEST - 1, "pop", 1)))
-    invoked_with_note = f"{{:process 0, :type :invoke, :f :pop, :note {said[:-1]}\x1b\t<b>\"}}"
-    bad = text_writers.lines(f"; {said}", invoked_with_note, invoked_with_note)
+    invoked_with_note = f"{{:process 0, :type :invoke, :f :pop, :note {markup[:-1]}\x1b\t<b>\"}}"
+    bad = text_writers.lines(f"; {markup}", invoked_with_note, invoked_with_note)
     yield Case("a faulty map with markup", bad, shows=shows)
-    yield Case("a fault in a line of markup", f"{{:process {said} <b>}}\n", shows=("</script><script>alert(1)</script>&amp;",))
+    yield Case("a fault in a line of markup", f"{{:process {markup} <b>}}\n", shows=("</script><script>alert(1)</script>&amp;",))
     yield Case("a text that is not UTF-8", b"{:process 0, :note \"\xff<b>\"}", shows=("\\xff<b>",))
     yield Case("a very long line", "[" * 16 + " " * 5000 + "x" * 5000 + "\n" * 3, shows=("…",))
 

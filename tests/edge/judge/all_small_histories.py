@@ -346,8 +346,8 @@ def judge_both_sorts(program, report, name, histories):
 
     def impossible(history, _, count):
         ran = program.run(*words, history)
-        said = b"".join(line for line in ran.out.splitlines(True) if line.startswith(b"; object "))
-        differs = brute_force.difference(brute_force.all_say(count, "impossible"), said)
+        of_objects = b"".join(line for line in ran.out.splitlines(True) if line.startswith(b"; object "))
+        differs = brute_force.difference(brute_force.all_say(count, "impossible"), of_objects)
         reasons = ran.out.count(b"\n; {:object "), len(WHOLE.findall(ran.out))
         return [(f"{name}, without an order", (1, b"", None, (count, 0)), (ran.status, ran.err, differs, reasons))]
 
@@ -359,8 +359,8 @@ def judged_by_force(program, report):
     """judge finds a reason for each small history that has no valid order, and for no other."""
     for kind, calls, operations, of_two, *counts in ALL:
         name = f"judge: all small histories of a {kind} of at most {operations} operations"
-        made = Every(JUDGED[kind][:calls], operations, of_two, lambda lot: judge_both_sorts(program, report, name, lot))
-        report.equal(f"{name}, and those without an order", tuple(counts), (made.count, made.without))
+        every = Every(JUDGED[kind][:calls], operations, of_two, lambda lot: judge_both_sorts(program, report, name, lot))
+        report.equal(f"{name}, and those without an order", tuple(counts), (every.count, every.without))
     return f"{sum(row[4] for row in ALL)} histories"
 
 
@@ -375,8 +375,8 @@ def search_and_judge_both_sorts(program, report, name, histories):
 
     def impossible(history, _, count):
         ran = program.run("judge", history)
-        said = b"".join(line for line in ran.out.splitlines(True) if line.startswith(b"; object "))
-        differs = brute_force.difference(brute_force.all_say(count, "impossible"), said)
+        of_objects = b"".join(line for line in ran.out.splitlines(True) if line.startswith(b"; object "))
+        differs = brute_force.difference(brute_force.all_say(count, "impossible"), of_objects)
         reasons = b"".join(line[2:] for line in ran.out.splitlines(True) if line.startswith(b"; {:object "))
         refuted = program.run("refute", history, program.write(f"{history}.reasons", reasons))
         shown = refuted.out.count(b"not linearizable: object ")
@@ -391,11 +391,11 @@ def later_by_force(program, report):
     judged = 0
     for kind, calls, operations in LATER:
         name = f"all small histories of a {kind} of at most {operations} operations"
-        made = Every(
+        every = Every(
             SEARCHED_FOR[kind][:calls], operations, False, lambda lot: search_and_judge_both_sorts(program, report, name, lot)  # noqa: B023
         )
-        report.holds(f"{name}: some have an order and some have none", 0 < made.without < made.count, (made.count, made.without))
-        judged += made.count
+        report.holds(f"{name}: some have an order and some have none", 0 < every.without < every.count, (every.count, every.without))
+        judged += every.count
     return f"{judged} histories"
 
 

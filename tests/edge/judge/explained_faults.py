@@ -144,7 +144,7 @@ def import_is_advised(program, report):
 
 def explained_faults(program, report):
     """judge says that each text is malformed, and in a second line what is wrong. check prints the first line alone."""
-    events = [(f"{{:process 0, :type :invoke, {keys}}}", f"; event 0, line 1: {said}") for keys, said in OF_EVENTS]
+    events = [(f"{{:process 0, :type :invoke, {keys}}}", f"; event 0, line 1: {line}") for keys, line in OF_EVENTS]
     for text, wanted in (*events, *OF_TEXTS):
         path = program.write("explained.edn", text)
         ran, (first, *more) = said_of(program, path)
@@ -228,12 +228,12 @@ def out_of_steps(program, report):
     path = program.write("long.edn", worked_rows.FIRST_WRITE_LAST)
     for steps, wanted in (("7", 1), ("1000000", 0)):
         ran = subprocess.run(program.line(("judge", "--steps", steps, path)), capture_output=True, cwd=program.folder, check=False)
-        said = [
+        lines_told = [
             line
             for line in ran.stderr.decode().splitlines()
             if line.startswith("fcbench: out of steps: --steps N lets the search take longer; distinct values and fewer :info ")
         ]
-        report.equal(f"judge: --steps {steps}: what to do is said", (3 * wanted, wanted), (ran.returncode, len(said)), ran)
+        report.equal(f"judge: --steps {steps}: what to do is said", (3 * wanted, wanted), (ran.returncode, len(lines_told)), ran)
 
 
 PARTS = (explained_faults, explained_codes, import_is_advised, summaries, out_of_steps)

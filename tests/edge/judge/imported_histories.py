@@ -83,11 +83,11 @@ def imports(program, report):
     folder = program.folder
     store = program.write("store.edn", STORE)
     names = f"{folder}/names.edn"
-    made = program.run("import", "--names", names, store)
-    report.equal("import: the text of a store", Ran(0, TEXT, b""), made)
+    imported = program.run("import", "--names", names, store)
+    report.equal("import: the text of a store", Ran(0, TEXT, b""), imported)
     with open(names, encoding="utf-8") as file:
         report.equal("import: its table of names", NAMES, file.read())
-    text = program.write("imported.edn", made.out)
+    text = program.write("imported.edn", imported.out)
     judged = program.run("judge", "--names", names, text)
     report.holds("import: it is judged in its words", judged.status == 1 and all(words in judged.out for words in SAID), judged)
     reason = b"".join(line[2:] for line in judged.out.splitlines(True) if line.startswith(b"; {"))
@@ -106,8 +106,8 @@ def failed_operations(program, report):
     for error, option, warns in EMPTIES:
         path = program.write("empty.edn", WRONGLY_EMPTY.format(error))
         left_out, reply = program.run("import", path), program.run("import", option, path)
-        said = [line for line in left_out.err.decode().splitlines() if line.startswith("fcbench: warning: left out: 1 failed :dequeue with ")]
-        report.equal(f"import: {error}: warnings", (0, int(warns), b""), (left_out.status, len(said), reply.err), left_out.err)
+        warnings = [line for line in left_out.err.decode().splitlines() if line.startswith("fcbench: warning: left out: 1 failed :dequeue with ")]
+        report.equal(f"import: {error}: warnings", (0, int(warns), b""), (left_out.status, len(warnings), reply.err), left_out.err)
         statuses = [program.run("judge", program.write("text.edn", imported.out)).status for imported in (left_out, reply)]
         report.equal(f"import: {error}: {option} makes a no of a yes", [0, 1], statuses)
 
@@ -206,13 +206,13 @@ def named(table, sort, number):
 def told_back(events, text, table):
     """Whether each operation of a text has the words of its event, by the table of names."""
     for event, line in zip(events, text.splitlines(), strict=True):
-        found = re.fullmatch(r"{:process (\d+), :type :(\w+), :f :(\w+), :value (-?\d+|nil), :object (\d+), :time (\d+), :index (\d+)}", line)
-        if not found:
+        match = re.fullmatch(r"{:process (\d+), :type :(\w+), :f :(\w+), :value (-?\d+|nil), :object (\d+), :time (\d+), :index (\d+)}", line)
+        if not match:
             of_nemesis = re.fullmatch(r"{:process :nemesis, :f :(\w+), :index (\d+)}", line)
             if not of_nemesis or not event.startswith("{:index %s, :process :nemesis, :type :info, :f :%s, " % of_nemesis.group(2, 1)):
                 return False
             continue
-        process, kind, f, value, on, moment, index = found.groups()
+        process, kind, f, value, on, moment, index = match.groups()
         words = f"[{named(table, 'object', on)} {named(table, 'value', value)}]"
         if event != f"{{:index {index}, :time {moment}, :process {named(table, 'process', process)}, :type :{kind}, :f :{f}, :value {words}}}":
             return False
@@ -224,15 +224,15 @@ def judged_in_words(program, seed):
     file, events, key, old, place, process = drawn(seed)
     stem = f"generated.{seed}"
     store, names = program.write(f"{stem}.edn", file), f"{program.folder}/{stem}.names.edn"
-    made = program.run("import", "--independent", "--names", names, store)
+    imported = program.run("import", "--independent", "--names", names, store)
     with open(names, encoding="utf-8") as lines:
         entries = [re.fullmatch(r"{:(\w+) (-?\d+), :is (.*)}\n", line).groups() for line in lines]
     table = {(sort, number): name for sort, number, name in entries}
     if not len(entries) == len(table) == len({(sort, name) for sort, _, name in entries}):
         return f"not one to one: {entries}"
-    if made.status != 0 or not told_back(events, made.out.decode(), table):
-        return f"other words: {file} {made}"
-    ran = program.run("judge", "--names", names, program.write(f"{stem}.text.edn", made.out))
+    if imported.status != 0 or not told_back(events, imported.out.decode(), table):
+        return f"other words: {file} {imported}"
+    ran = program.run("judge", "--names", names, program.write(f"{stem}.text.edn", imported.out))
     own = next((number for (sort, number), name in table.items() if (sort, name) == ("object", key)), None)
     on = key if own is None else f"{own}, which is {key}"
     wanted = (f"; object {on}: impossible\n", f"; events {place} and {place + 1}: process {process}, :read nil, :ok {old}\n")

@@ -92,8 +92,8 @@ def with_enough(run, is_enough):
 
 def done_in(ran):
     """How many objects were done in a judgement that was stopped, and how many there are, as it says."""
-    said = re.fullmatch(b"fcbench: stopped, " + DONE, ran.err)
-    return (int(said[1]), int(said[2])) if said else (0, None)
+    match = re.fullmatch(b"fcbench: stopped, " + DONE, ran.err)
+    return (int(match[1]), int(match[2])) if match else (0, None)
 
 
 def stopped_searches(program, report):
@@ -109,8 +109,8 @@ def stopped_searches(program, report):
         report.holds(f"{name}: some objects were done, and some were not", 0 < done < OBJECTS, ran)
         report.equal(f"{name}: the status", history.status, ran.status, ran)
         report.equal(f"{name}: the answer", None, why_wrong(program, history, ran))
-        found = [int(on) for on in re.findall(rb"; object (\d+): open\n", ran.out)]
-        report.equal(f"{name}: the objects that are open", list(range(done, OBJECTS)), found, ran)
+        open_objects = [int(on) for on in re.findall(rb"; object (\d+): open\n", ran.out)]
+        report.equal(f"{name}: the objects that are open", list(range(done, OBJECTS)), open_objects, ran)
     return f"at most {most} of {OBJECTS} objects were done"
 
 
@@ -119,9 +119,9 @@ def stopped_finds(program, report):
     path = program.write("stopped.edn", LONG[0].text)
     stop = lambda seconds: ended(started(program, "find", "--workers", "1", "--seconds", str(seconds), path))  # noqa: E731
     ran = with_enough(stop, lambda ran: ran.out)
-    said = re.fullmatch(b"; stopped, " + DONE, ran.err)
+    match = re.fullmatch(b"; stopped, " + DONE, ran.err)
     is_whole = re.fullmatch(rb"({:object \d+, :order \[[\d ]+\]}\n)+", ran.out)
-    report.holds("find: --seconds", ran.status == 3 and said and is_whole and ran.out.count(b"\n") == int(said[1]), ran)
+    report.holds("find: --seconds", ran.status == 3 and match and is_whole and ran.out.count(b"\n") == int(match[1]), ran)
     one, none = program.write("one.edn", text_writers.lines(*register(0))), program.write("none.edn", "")
     calls = 2 * WRITES - 1
     report.answers(

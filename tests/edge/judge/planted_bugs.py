@@ -538,9 +538,9 @@ def planted_bugs(program, report):
         report.equal(name, (1, b"", f"; {sentence}"), (ran.status, ran.err, AFTER.sub("", ran.out.decode().splitlines()[1])))
         report.holds(f"{name}: its operations", least <= len(explained[0][1]) <= most, ran)
         report.equal(f"{name}: why", None, why_not_explained(program, history, ran), ran)
-    for history, said in LINEARIZABLE:
+    for history, first_line in LINEARIZABLE:
         ran = program.run("judge", "--steps", "0", program.write(HISTORY, history))
-        report.equal("judge: nothing is wrong", (0, said), (ran.status, ran.out.decode().splitlines()[0]))
+        report.equal("judge: nothing is wrong", (0, first_line), (ran.status, ran.out.decode().splitlines()[0]))
 
 
 PARTS = (planted_bugs,)

@@ -88,8 +88,8 @@ def bugs_of_sets(program, report):
     """judge shows nearly each bug by a few operations, and every reason is valid."""
     for bug in BUGS:
         shown, counted = 0, 0
-        made = [history_of(bug, seed) for seed in range(OF_EACH)]
-        bad = [events for events, element in made if not has_order(calls_on(events, element))]
+        drawn = [history_of(bug, seed) for seed in range(OF_EACH)]
+        bad = [events for events, element in drawn if not has_order(calls_on(events, element))]
         texts = [text_of(events) for events in bad]
         runs = at_once(lambda number: program.run("judge", program.write(f"{number}.{HISTORY}", texts[number])), range(len(texts)))  # noqa: B023
         for text, ran in zip(texts, runs):

@@ -42,8 +42,8 @@ def recorded_histories(program, report):
         report.holds(f"recorded {name}: decided in {MOST_SECONDS} s", seconds <= MOST_SECONDS, seconds)
         if name in LINEARIZABLE:
             report.answers(f"recorded {name}: linearizable", ran, yes(*LINEARIZABLE[name]), 0)
-            found = program.run("find", file)
-            again = program.run("check", file, program.write("found.edn", found.out))
+            order = program.run("find", file)
+            again = program.run("check", file, program.write("found.edn", order.out))
             report.equal(f"recorded {name}: check accepts the order", (0, ran.out), (again.status, again.out))
         else:
             report.equal(f"recorded {name}: why it is not linearizable", None, why_not_explained(program, text.decode(), ran), ran)

@@ -41,12 +41,12 @@ TYPED = (
 
 def put_in(folder):
     """What was put into a folder: the files there, and the folders that are empty."""
-    found = []
+    paths = []
     for base, inner, files in os.walk(folder):
-        found += [f"{base}/{file}" for file in files]
+        paths += [f"{base}/{file}" for file in files]
         if not inner + files and base != folder:
-            found.append(base)
-    return sorted(os.path.relpath(path, folder) for path in found)
+            paths.append(base)
+    return sorted(os.path.relpath(path, folder) for path in paths)
 
 
 def times_in(folder):
@@ -63,9 +63,9 @@ def times_in(folder):
 def installed(program, report):
     """./install prints each file that it puts under its prefix, and a caller can be built from these files alone."""
     prefix = f"{program.folder}/prefix"
-    said = done(report, "./install", [f"{ROOT}/install", prefix], seconds=SECONDS_TO_PROVE)
+    output = done(report, "./install", [f"{ROOT}/install", prefix], seconds=SECONDS_TO_PROVE)
     report.equal("installed: the files", INSTALLED, put_in(prefix))
-    report.equal("installed: what ./install says", [f"{prefix}/{name}" for name in INSTALLED], sorted(said.split()))
+    report.equal("installed: what ./install says", [f"{prefix}/{name}" for name in INSTALLED], sorted(output.split()))
     ran = subprocess.run([f"{prefix}/bin/fcbench", "judge", f"{EXAMPLES}/queue.history.edn"], capture_output=True)
     report.holds("installed: the program judges", ran.returncode == 0 and ran.stdout.startswith(b"yes: 2 operations"), ran)
     env = {**os.environ, "FCBENCH": "/bin/true", "FCBENCH_TOOLS": "/bin/true"}
@@ -142,13 +142,13 @@ def zsh_completes(prefix, folder, *words):
     try:
         # The line that is typed has no `ready` in it, so what says `ready` is the prompt after it.
         told(own, f"{begin}; fcbench() {{ print -r -- \"<$*>\" }}; PS1=rea''dy\r", b"ready")
-        said = told(own, f"{' '.join(words)}\t\r", b">")
+        output = told(own, f"{' '.join(words)}\t\r", b">")
     finally:
         shell.kill()
         shell.wait()
         os.close(own)
-    offered = re.findall(r"^([\w-]+) +-- ", said, re.M)
-    return offered or re.findall(r"[^\s<]+(?=>)", said)
+    offered = re.findall(r"^([\w-]+) +-- ", output, re.M)
+    return offered or re.findall(r"[^\s<]+(?=>)", output)
 
 
 def told(end, keys, until, seconds=120):

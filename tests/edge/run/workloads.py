@@ -58,16 +58,16 @@ def argument(f, first, second):
 
 def calls_of(kind, objects, client, calls, seed):
     """The calls of one client, as (object, function, argument)."""
-    generator, made = Generator(seed, client), []
+    generator, drawn = Generator(seed, client), []
     for number in range(calls - calls % 2 if kind in IN_PAIRS else calls):
         on, choice, first, second = [generator.below(limit) for limit in (objects, 6, 100, 100)]
         names = OPERATIONS[kind_of(kind, on)]
         if kind in IN_PAIRS:
-            made.append((made[-1][0] if number % 2 else on, names[number % 2], client if kind == "lock" else None))
+            drawn.append((drawn[-1][0] if number % 2 else on, names[number % 2], client if kind == "lock" else None))
             continue
         f = names[choice % len(names)]
-        made.append((on, f, argument(f, first, second)))
-    return made
+        drawn.append((on, f, argument(f, first, second)))
+    return drawn
 
 
 def calls_of_all(kind, objects, clients, calls, seed):

@@ -90,11 +90,11 @@ class Folder:
 
     def find_all(self):
         """Writes the evidence for each shard that has maps, and returns that of all."""
-        found = [self.find(shard) if os.path.getsize(self.path(f"{shard}.edn")) else b"" for shard in range(self.shards)]
-        for shard, text in enumerate(found):
+        evidence = [self.find(shard) if os.path.getsize(self.path(f"{shard}.edn")) else b"" for shard in range(self.shards)]
+        for shard, text in enumerate(evidence):
             if text:
                 self.write(f"{shard}.evidence", text)
-        return found
+        return evidence
 
     def merge(self, *options, **how):
         return self.program.run("merge", self.name, *options, **how)
@@ -122,5 +122,5 @@ class Folder:
 
 def judged(program, name, history):
     """What verify says of a whole history by what find prints of it, and that."""
-    found = program.run("find", program.write(f"{name}.edn", history))
-    return program.run("verify", f"{name}.edn", program.write(f"{name}.found", found.out)), found.out
+    evidence = program.run("find", program.write(f"{name}.edn", history))
+    return program.run("verify", f"{name}.edn", program.write(f"{name}.found", evidence.out)), evidence.out

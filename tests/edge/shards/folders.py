@@ -28,22 +28,22 @@ def is_named(ran, name):
 def folders_that_are_there(program, report):
     """split makes the folder, or takes an empty one. It refuses one that has shards, and leaves its files as they are."""
     whole = program.write("whole.edn", TWO_QUEUES)
-    made = Folder(program, "made", 2)
-    report.answers("split: a folder that is missing", made.split(whole), TWO_SHARDS, 0)
+    folder = Folder(program, "made", 2)
+    report.answers("split: a folder that is missing", folder.split(whole), TWO_SHARDS, 0)
     empty = Folder(program, "empty", 2)
     os.makedirs(empty.path())
     report.answers("split: an empty folder", empty.split(whole), TWO_SHARDS, 0)
-    before = made.files()
+    before = folder.files()
     for shards in (1, 2, 3):
         ran = program.run("split", whole, "made", "--shards", str(shards))
         report.holds(f"split: a folder that has shards, into {shards}", ran.status == 4 and ran.out == b"" and b"made" in ran.err, ran)
-    report.equal("split: the files of the shards that are there", before, made.files())
+    report.equal("split: the files of the shards that are there", before, folder.files())
     # A split that was killed leaves no file `shards`.
-    os.remove(made.path("shards"))
+    os.remove(folder.path("shards"))
     ran = program.run("split", whole, "made", "--shards", "3")
     report.holds("split: a folder that has some of the files", ran.status == 4 and ran.out == b"" and b"made" in ran.err, ran)
     del before["shards"]
-    report.equal("split: some of the files, as they were", before, made.files())
+    report.equal("split: some of the files, as they were", before, folder.files())
 
 
 def files_that_are_there(program, report):

@@ -102,12 +102,12 @@ def lied_about(program, number, is_wide):
             history, expected = wide.text, wide.answer(expected)
         folder = Folder(program, f"lies.{number}", SHARDS)
         folder.make(history)
-        found = folder.find_all()
+        evidence = folder.find_all()
         for lie in LIES_OF_WORKERS:
             rng = random.Random(f"{lie.__name__} {number}")
             liars = rng.sample(range(SHARDS), rng.choice((1, 2)))
             for shard in range(SHARDS):
-                folder.write(f"{shard}.evidence", lie(rng, found, shard) if shard in liars else found[shard])
+                folder.write(f"{shard}.evidence", lie(rng, evidence, shard) if shard in liars else evidence[shard])
             answers.append((lie.__name__, folder.merge()))
     return expected, answers
 

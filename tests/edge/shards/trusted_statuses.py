@@ -108,14 +108,14 @@ def folders_without_shards(program, report):
             os.remove(folder.path("shards"))
         else:
             folder.write("shards", text)
-        said = f"fcbench: cannot read without.{number}/shards\n"
-        report.answers(f"merge {TRUST}: the number of shards is {text}", folder.merge(TRUST), "", 4, said)
+        refusal = f"fcbench: cannot read without.{number}/shards\n"
+        report.answers(f"merge {TRUST}: the number of shards is {text}", folder.merge(TRUST), "", 4, refusal)
     folder = with_statuses(program, "more", [b"0\n"] * 2)
     folder.write("shards", b"10001\n")
     ran = folder.merge(TRUST)
     report.holds(f"merge {TRUST}: more shards than there may be: no yes", ran.status in (3, 4) and b"yes" not in ran.out, ran)
-    said = "fcbench: cannot read nowhere/shards\n"
-    report.answers(f"merge {TRUST}: a folder that is missing", program.run("merge", "nowhere", TRUST), "", 4, said)
+    refusal = "fcbench: cannot read nowhere/shards\n"
+    report.answers(f"merge {TRUST}: a folder that is missing", program.run("merge", "nowhere", TRUST), "", 4, refusal)
     program.write("file", "")
     report.answers(f"merge {TRUST}: a file", program.run("merge", "file", TRUST), "", 4, "fcbench: cannot read file/shards\n")
     with open("/dev/full", "wb") as full:

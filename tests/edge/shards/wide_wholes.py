@@ -101,8 +101,8 @@ def imported_wholes(program, report):
     """Imports a store of 70,000 keys with a warning, and divides it: merge names the one object that is wrong, and the event that shows it."""
     store = program.write("store.edn", lines(*(text for key in range(KEYS) for text in calls_on(key))))
     ran = program.run("import", store)
-    said = b"fcbench: warning: there are %d objects, more than judge takes: use split\n" % KEYS
-    report.equal("import: more keys than a text may have objects", (0, said), (ran.status, ran.err))
+    warning = b"fcbench: warning: there are %d objects, more than judge takes: use split\n" % KEYS
+    report.equal("import: more keys than a text may have objects", (0, warning), (ran.status, ran.err))
     folder = Folder(program, "imported", 2)
     whole_text = program.write("imported.edn", ran.out)
     report.answers("split: an imported store", folder.split(whole_text), f"{4 * KEYS} maps in 2 shards\n", 0)

@@ -35,11 +35,11 @@ def value_of(word):
 @functools.lru_cache(maxsize=16)
 def maps_of(history):
     """The maps of a history, each with its process, type, function, value and object."""
-    found = []
+    maps = []
     for text in re.findall(r"\{[^{}]*\}", history):
         fields = dict(re.findall(rf":(process|type|f|value|object) (:[\w-]+|{VALUE})", text))
-        found.append(fields)
-    return found
+        maps.append(fields)
+    return maps
 
 
 # ---- the objects
@@ -222,10 +222,10 @@ def is_blocked(count, calls):
 
 def count_in(reason):
     """The count that a reason names, or None."""
-    found = re.search(r":count \{([^}]*)\}", reason)
-    if not found:
+    count = re.search(r":count \{([^}]*)\}", reason)
+    if not count:
         return None
-    return {name: value == "true" or int(value) for name, value in re.findall(r":(\w+) (true|-?\d+)", found[1])}
+    return {name: value == "true" or int(value) for name, value in re.findall(r":(\w+) (true|-?\d+)", count[1])}
 
 
 # ---- what is told
