@@ -139,7 +139,7 @@ def main():
     old, new = os.path.realpath(o.old), os.path.realpath(o.new)
     statuses, differ = {}, 0
     with concurrent.futures.ThreadPoolExecutor(os.cpu_count()) as pool:
-        for number, (same, status) in enumerate(pool.map(lambda seed: compare(old, new, folder, o.seed, seed), range(o.texts))):
+        for number, (same, status) in enumerate(pool.map(lambda which: compare(old, new, folder, o.seed, which), range(o.texts))):
             statuses[status] = statuses.get(status, 0) + 1
             if not same:
                 differ += 1

@@ -145,5 +145,5 @@ def on_texts(program, report, texts, look):
         return look(program.write(f"many.{number}.edn", text), text, count)
 
     for told in at_once(one, enumerate(texts)):
-        for line in told:
-            report.equal(*line)
+        for comparison in told:
+            report.equal(*comparison)

@@ -166,7 +166,8 @@ def definitions_of_clauses(program, report):
     used = set()
     for crate in dependencies():
         if not crate.endswith("_tests") and os.path.exists(f"{ROOT}/crates/{crate}/src/lib.rt"):
-            words = {word for _, _, clauses in contract_list.functions(crate) for clause in clauses for word in re.findall(r"\b[A-Z]\w*", clause[3])}
+            texts = [clause[3] for _, _, clauses in contract_list.functions(crate) for clause in clauses]
+            words = {word for text in texts for word in re.findall(r"\b[A-Z]\w*", text)}
             used |= {word for word in words if defined.get(word, set()) & set(with_below(crate))}
     report.holds("definitions_of_clauses: there are some", len(used) >= 200, len(used))
     report.equal("definitions_of_clauses: not on docs/definitions.md", [], sorted(used - explained))

@@ -174,15 +174,15 @@ def has_pending_call(out):
     return out.count(b":type :invoke") != out.count(b":type :ok") + out.count(b":type :fail")
 
 
-def refuse(number):
+def refuse(refusal):
     """Refuses one allocation. Returns whether the run was out of memory, what it printed, and the run itself if it is wrong."""
-    whole, (command, *_) = number.whole, number.words
-    ran = number.program.run(*number.words, faults={"REFUSE_AT": number.at})
+    whole, (command, *_) = refusal.whole, refusal.words
+    ran = refusal.program.run(*refusal.words, faults={"REFUSE_AT": refusal.at})
     is_out = is_out_of_memory(command, whole, ran)
     is_same = (ran.status, ran.out, ran.err) == (whole.status, whole.out, whole.err)
     is_quiet = ran.err == b"" or ran.err == whole.err
     is_other = is_other_reason if command == "verify" else is_other_run
-    is_well = is_quiet and (is_same or is_out or is_other(number.program, number.words, whole, ran))
+    is_well = is_quiet and (is_same or is_out or is_other(refusal.program, refusal.words, whole, ran))
     return is_out, ran.out, None if is_well else ran
 
 
@@ -196,19 +196,19 @@ def refused_memory(program, report):
             whole, count, _ = program.counts(*case.words)
             report.holds(f"memory: {case.name}: with ample memory", whole.status >= 0 and count > 0, whole)
             numbers = chosen(count, case.stride)
-            found = pool.map(refuse, [Refusal(program, case.words, at, whole) for at in numbers], chunksize=4)
-            for at, (_, _, wrong) in zip(numbers, found):
+            runs = pool.map(refuse, [Refusal(program, case.words, at, whole) for at in numbers], chunksize=4)
+            for at, (_, _, wrong) in zip(numbers, runs):
                 report.holds(f"memory: {case.name}: allocation {at} of {count} is refused", wrong is None, wrong)
-            report.holds(f"memory: {case.name}: some run is out of memory", any(run for run, _, _ in found))
+            report.holds(f"memory: {case.name}: some run is out of memory", any(is_out for is_out, _, _ in runs))
             if case.words[0] == "search" and whole.out.startswith((b"{", b"; object")) and b"[]" not in whole.out:
-                says = any(b": out of memory" in out for _, out, _ in found)
+                says = any(b": out of memory" in out for _, out, _ in runs)
                 report.holds(f"memory: {case.name}: the search itself says that it is out of memory", says)
             if case.words == ONE_CLIENT:
-                says = any(b":type :fail" in out for _, out, _ in found)
+                says = any(b":type :fail" in out for _, out, _ in runs)
                 report.holds(f"memory: {case.name}: some call is refused, and fails in the history", says)
             if case.words[0] == "run":
                 # The logs have room for all calls before the first one, so no client stops at a call.
-                stopped = [at for at, (_, out, _) in zip(numbers, found) if has_pending_call(out)]
+                stopped = [at for at, (_, out, _) in zip(numbers, runs) if has_pending_call(out)]
                 report.holds(f"memory: {case.name}: no client stops at a call", not stopped, stopped)
             tried += len(numbers)
     return f"{tried} allocations refused"

@@ -569,8 +569,8 @@ def falsified_styles(program, report):
         wanted[path] = (style, words, wanted_of(cases[name], told, path))
     for file, bad in found_in_browser(program, report, [looked for _, _, looked in wanted.values()]):
         style, words, _ = wanted[file]
-        names = [re.sub(r"^(wide|phone|paper|light|dark|\d+ pixels): ", "", fault) for fault in bad]
-        report.holds(f"draw: {style}: what the browser finds", bad and all(re.fullmatch(words, fault) for fault in names), bad)
+        faults = [re.sub(r"^(wide|phone|paper|light|dark|\d+ pixels): ", "", fault) for fault in bad]
+        report.holds(f"draw: {style}: what the browser finds", bad and all(re.fullmatch(words, fault) for fault in faults), bad)
 
 
 # ---- large ones

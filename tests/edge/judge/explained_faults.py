@@ -144,7 +144,7 @@ def import_is_advised(program, report):
 
 def explained_faults(program, report):
     """judge says that each text is malformed, and in a second line what is wrong. check prints the first line alone."""
-    events = [(f"{{:process 0, :type :invoke, {keys}}}", f"; event 0, line 1: {line}") for keys, line in OF_EVENTS]
+    events = [(f"{{:process 0, :type :invoke, {keys}}}", f"; event 0, line 1: {sentence}") for keys, sentence in OF_EVENTS]
     for text, wanted in (*events, *OF_TEXTS):
         path = program.write("explained.edn", text)
         ran, (first, *more) = said_of(program, path)

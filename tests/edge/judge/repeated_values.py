@@ -417,15 +417,15 @@ def is_searched(program, report, name, valid):
         told = brute_force.of_orders(program, name, words, HISTORY, 1)
     else:
         told = brute_force.of_each(program, name, words, HISTORY, 1, "impossible", 1)
-    for line in told:
-        report.equal(*line)
+    for comparison in told:
+        report.equal(*comparison)
 
 
 def is_found(program, report, name, valid):
     """Whether an order is printed that check accepts, or else no order."""
     told = brute_force.of_orders(program, name, ("find",), HISTORY, 1) if valid else brute_force.of_no_orders(program, name, HISTORY, 1)
-    for line in told:
-        report.equal(*line)
+    for comparison in told:
+        report.equal(*comparison)
 
 
 # Histories of gen.py in which 5 % of the calls failed and others are pending. Stacks of different values, where pending
