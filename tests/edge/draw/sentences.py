@@ -4,7 +4,7 @@ import re
 
 from ..histories import ALL_FUNCTIONS, HOLDS, KIND_OF, REPLY_ARGUMENT, REPLY_NIL, TOKENS, calls_of
 from .pages import REF, found, spelled
-from ..verify.reasons import NEXT, OPEN, has_order, maps_of
+from ..verify.reasons import OPEN, has_order, maps_of
 from ..text_writers import value
 
 PUTS = ("enqueue", "push", "insert", "write", "put", "cas")
@@ -472,7 +472,7 @@ class Said:
         free = [call for call in calls if since is not None and call.number < since]
         for left_out in itertools.chain.from_iterable(itertools.combinations(free, size) for size in range(len(free) + 1)):
             kept = [call for call in calls if call not in left_out and call.is_live()]
-            if is_ordered(kept, content):
+            if has_order([(call.number, call.returned(), call.f, call.argument, call.reply) for call in kept], content):
                 return True
         return False
 
@@ -491,27 +491,6 @@ def contents_of_counter(calls):
     pending = [call.argument for call in calls if call.returned() is None and call.f == "fetch-add"]
     sums = {sum(those) for size in range(len(pending) + 1) for those in itertools.combinations(pending, size)}
     return [(total,) for total in {call.reply - amount for call in calls if call.returned() is not None for amount in sums}]
-
-
-def is_ordered(calls, content):
-    """Whether some order of the calls is valid after this content."""
-    live = [(call.number, call.returned(), call.f, call.argument, call.reply) for call in calls]
-    if not content:
-        return has_order(live)
-
-    def goes_on(left, content):
-        ends = [row[1] for row in left if row[1] is not None]
-        if not ends:
-            return True
-        for row in left:
-            if any(end < row[0] for end in ends if end != row[1]):
-                continue
-            taken = NEXT[row[2]](content, row[2], row[3])
-            if taken and (row[1] is None or taken[1] == row[4]) and goes_on(left - {row}, taken[0]):
-                return True
-        return False
-
-    return goes_on(frozenset(live), content)
 
 
 VALID = (

@@ -129,8 +129,9 @@ NEXT = {
 }
 
 
-def has_order(calls):
-    """Whether some order of the calls is valid. A call is a number, a return or None, a function, its argument and its reply."""
+def has_order(calls, before=()):
+    """Whether some order of the calls is valid on an object that contains this before. A call is a number, a return or None, a function, its
+    argument and its reply."""
     calls = tuple(calls)
 
     @functools.lru_cache(maxsize=None)
@@ -147,7 +148,7 @@ def has_order(calls):
                 return True
         return False
 
-    return goes_on(frozenset(range(len(calls))), ())
+    return goes_on(frozenset(range(len(calls))), before)
 
 
 # ---- counts
