@@ -8,7 +8,7 @@ import subprocess
 import sys
 import tokenize
 
-from .running import ROOT
+from .running import OF_TOOLS, ROOT
 
 sys.path[:0] = [f"{ROOT}/scripts", f"{ROOT}/docs/scripts", f"{ROOT}/bench"]
 
@@ -404,6 +404,13 @@ def usages(program, report):
             report.equal(f"usages: {script} {word}", (status, status == 0, status != 0), (ran.returncode, bool(ran.stdout), bool(ran.stderr)), ran)
 
 
+def lists_of_tools(program, report):
+    """Both scripts that choose a program, one of which is installed alone, name the commands of the tools, and no others."""
+    for script in ("fcbench", "tools/fcbench.sh"):
+        named = re.search(r"^is_of_tools\(\) \{\n  case \$\{1:-\} in ([\w |]+)\) return 0 ;; esac$", read(f"{ROOT}/{script}"), re.M)
+        report.equal(f"lists_of_tools: {script}", " | ".join(OF_TOOLS), named and named[1])
+
+
 def sizes_of_reasons(program, report):
     """bench/reasons.py reads from a judgement how many operations it tells."""
     example = f"{ROOT}/examples/postgres_queue"
@@ -413,5 +420,5 @@ def sizes_of_reasons(program, report):
 
 PARTS = (
     documents, links, names_of_several, names_of_rows, named_clauses, definitions_of_clauses, plain_words, widths, heads_of_proofs, snippets, usages,
-    like_lines, sizes_of_reasons,
+    like_lines, lists_of_tools, sizes_of_reasons,
 )
