@@ -6,7 +6,8 @@
 
 A history is that of a run of N clients up to a crash: K of them are pending then, some with and some without effect. What the
 object contained is kept, lost, or partly kept. New processes go on, and in the end one of them empties it. Values differ, or are
-drawn below 2, 10 or 100. There are fewer than C calls before the crash, and a third of that after it. DIR gets N.edn and N.json, which says what was drawn.
+drawn below 2, 10 or 100. There are fewer than C calls before the crash, and a third of that after it. DIR gets N.edn and N.json,
+which says what was drawn.
 
 `measure` runs `PROGRAM find` on each and checks what it says by itself: an order is run on the object. A reason is cut out anew;
 a count is counted anew, and a part that was searched is searched anew, by another search. The truth of what is kept is known: it
@@ -326,17 +327,17 @@ def judged(program, folder, number, limit):
 
 def measure(program, folder, limit):
     count = sum(name.endswith(".edn") for name in os.listdir(folder))
-    found = [judged(program, folder, number, limit) for number in range(count)]
+    rows = [judged(program, folder, number, limit) for number in range(count)]
     print("| kind | values | kept: yes | lost: no | yes | partly: no | yes | open | operations of a no: middle, most | longest time |")
     print("|---|---|---|---|---|---|---|---|---|---|")
     for kind in PUT:
         for values in VALUES:
-            own = [it for it in found if it["kind"] == kind and it["values"] == values]
-            sizes = sorted(it["size"] for it in own if it["size"] is not None)
-            of = lambda fate, answer: sum(it["fate"] == fate and it["answer"] == answer for it in own)
+            own = [row for row in rows if row["kind"] == kind and row["values"] == values]
+            sizes = sorted(row["size"] for row in own if row["size"] is not None)
+            of = lambda fate, answer: sum(row["fate"] == fate and row["answer"] == answer for row in own)
             cells = [kind, "each once" if values == "once" else values, of("kept", "yes"), of("lost", "no"), of("lost", "yes"),
-                     of("partly", "no"), of("partly", "yes"), sum(it["answer"] == "open" for it in own),
-                     "%d, %d" % (sizes[len(sizes) // 2], sizes[-1]) if sizes else "-", "%.2f s" % max(it["seconds"] for it in own)]
+                     of("partly", "no"), of("partly", "yes"), sum(row["answer"] == "open" for row in own),
+                     "%d, %d" % (sizes[len(sizes) // 2], sizes[-1]) if sizes else "-", "%.2f s" % max(row["seconds"] for row in own)]
             print("| %s |" % " | ".join(map(str, cells)))
 
 

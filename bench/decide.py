@@ -8,7 +8,8 @@ once: how many of the seeds were decided, and the processor time of the middle o
 not decided. Rows are printed as Markdown. Histories have no failed and no pending calls, or 5 % and 2 % of them.
 
 With JUDGE, the plain judge of judge_rs, each history is also searched by the algorithm of Wing, Gong and Lowe with memory, right after it is
-judged: `judge search --wgl-hash --any-size`, with at most a billion steps, its S seconds, or else as many, and 6 GiB. A cell then has both, ours first."""
+judged: `judge search --wgl-hash --any-size`, with at most a billion steps, its S seconds, or else as many, and 6 GiB. A cell then has both,
+ours first."""
 import argparse
 import os
 import resource
@@ -60,7 +61,8 @@ def row(asked, kind, values, calls, faulty):
             name = history(folder, kind, values, at_once, calls, faulty, seed)
             ours.append(ran([asked.program, "judge", name], asked.seconds))
             if asked.beside:
-                theirs.append(ran([asked.beside, "search", "--wgl-hash", "--any-size", "--steps", "1000000000", name], asked.its_seconds or asked.seconds))
+                plain = [asked.beside, "search", "--wgl-hash", "--any-size", "--steps", "1000000000", name]
+                theirs.append(ran(plain, asked.its_seconds or asked.seconds))
             shutil.rmtree(folder)
         cells.append(cell(ours) + ("; " + cell(theirs) if theirs else ""))
     return cells
@@ -85,9 +87,9 @@ def main():
         for calls in asked.calls:
             for values in asked.values if kind != "mutex" else asked.values[:1]:
                 for faulty in (False, True):
-                    said = "-" if kind == "mutex" else values or "different"
+                    label = "-" if kind == "mutex" else values or "different"
                     cells = row(asked, kind, values, calls, faulty)
-                    print(f"| {kind} | {calls:,} | {said} | {'5 %, 2 %' if faulty else '-'} | {' | '.join(cells)} |", flush=True)
+                    print(f"| {kind} | {calls:,} | {label} | {'5 %, 2 %' if faulty else '-'} | {' | '.join(cells)} |", flush=True)
 
 
 if __name__ == "__main__":

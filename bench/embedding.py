@@ -24,8 +24,8 @@ COMMANDS = ("check", "judge")
 # Of a short history: calls that are timed together, and how often in a round.
 CALLS, TIMES = 20, 200
 ROWS = ("the call alone", "with its texts read from files", "the program")
-# The most that the middle of the rounds' ratios to the program may be. The program reads its files too, so a call alone must not take longer. With its
-# texts read it does the same work as the program, and the middle moves by up to 2 % from run to run.
+# The most that the middle of the rounds' ratios to the program may be. The program reads its files too, so a call alone must not take longer.
+# With its texts read it does the same work as the program, and the middle moves by up to 2 % from run to run.
 MOST = {ROWS[0]: 1.0, ROWS[1]: 1.02}
 
 
@@ -38,12 +38,12 @@ def measured(words):
     """Runs these words, which must end with 0. Returns what they print and the times of the process: by the clock, its own and the kernel's."""
     begun = time.monotonic()
     child = subprocess.Popen(words, stdout=subprocess.PIPE, text=True)
-    said = child.stdout.read()
+    output = child.stdout.read()
     _, status, used = os.wait4(child.pid, 0)
     child.returncode = os.waitstatus_to_exitcode(status)
     if child.returncode:
         sys.exit(f"{words}: status {child.returncode}")
-    return said, (time.monotonic() - begun, used.ru_utime, used.ru_stime)
+    return output, (time.monotonic() - begun, used.ru_utime, used.ru_stime)
 
 
 def calls_in(said):
@@ -52,24 +52,25 @@ def calls_in(said):
 
 
 def least_and_middle(values, scale, digits):
-    return " / ".join(f"{it * scale:.{digits}f}" for it in (min(values), statistics.median(values)))
+    return " / ".join(f"{seconds * scale:.{digits}f}" for seconds in (min(values), statistics.median(values)))
 
 
 def cells(times, scale, digits):
     """The cells of a row: of the processor's time, and of the time by the clock, the least and the middle."""
-    return f"{least_and_middle([own + kernel for _, own, kernel in times], scale, digits)} | {least_and_middle([clock for clock, _, _ in times], scale, digits)}"
+    of_processor, by_clock = [own + kernel for _, own, kernel in times], [clock for clock, _, _ in times]
+    return " | ".join(least_and_middle(those, scale, digits) for those in (of_processor, by_clock))
 
 
 def short(timer, folder, rounds):
     """The calls on histories of 20 operations, in microseconds."""
-    texts = {it: generated(f"{folder}/{it}", "--kind", it, "--calls", "20", "--processes", "4", "--concurrency", "4") for it in KINDS}
+    texts = {kind: generated(f"{folder}/{kind}", "--kind", kind, "--calls", "20", "--processes", "4", "--concurrency", "4") for kind in KINDS}
     times = {(kind, command): [] for kind in KINDS for command in COMMANDS}
     for _ in range(rounds):
         for kind, command in times:
             times[kind, command] += calls_in(measured([timer, command, *texts[kind], str(TIMES), str(CALLS)])[0])
     print("| 20 operations, µs | `fcbench_check`, processor | by the clock | `fcbench_judge`, processor | by the clock |\n|---|---|---|---|---|")
     for kind in KINDS:
-        print(f"| {kind} | {' | '.join(cells(times[kind, it], 1e6, 1) for it in COMMANDS)} |")
+        print(f"| {kind} | {' | '.join(cells(times[kind, command], 1e6, 1) for command in COMMANDS)} |")
 
 
 def long(timer, program, folder, rounds):
@@ -82,13 +83,13 @@ def long(timer, program, folder, rounds):
             of_both = {}
             for words in (its, [timer, command, *texts, "1", "1"])[:: 1 if number % 2 else -1]:
                 of_both[words[0]] = measured(words)
-            said, whole = of_both[timer]
-            for row, it in zip(ROWS, (calls_in(said)[0], whole, of_both[program][1])):
-                times[command, row].append(it)
+            output, whole = of_both[timer]
+            for row, seconds in zip(ROWS, (calls_in(output)[0], whole, of_both[program][1])):
+                times[command, row].append(seconds)
     print("| 1,000,000 maps, s | processor | of these the kernel | by the clock |\n|---|---|---|---|")
-    for (command, row), found in times.items():
-        both, clock = cells(found, 1, 3).split(" | ")
-        print(f"| `{command}`, {row} | {both} | {least_and_middle([kernel for _, _, kernel in found], 1, 3)} | {clock} |")
+    for (command, row), taken in times.items():
+        both, clock = cells(taken, 1, 3).split(" | ")
+        print(f"| `{command}`, {row} | {both} | {least_and_middle([kernel for _, _, kernel in taken], 1, 3)} | {clock} |")
     return {(command, row): ratios(times[command, row], times[command, ROWS[2]]) for command in COMMANDS for row in MOST}
 
 
@@ -106,10 +107,11 @@ def main(folder, program=None, rounds=9):
     if not program:
         return 0
     is_slower = False
-    for (command, row), found in long(timer, program, folder, int(rounds)).items():
-        middle = statistics.median(found)
+    for (command, row), shares in long(timer, program, folder, int(rounds)).items():
+        middle = statistics.median(shares)
         is_slower |= middle > MOST[row]
-        print(f"{command}, {row}: {middle:.3f} of the program's processor time, at most {MOST[row]}; rounds from {min(found):.3f} to {max(found):.3f}")
+        rounds_from_to = f"rounds from {min(shares):.3f} to {max(shares):.3f}"
+        print(f"{command}, {row}: {middle:.3f} of the program's processor time, at most {MOST[row]}; {rounds_from_to}")
     print(f"The library is {'slower' if is_slower else 'no slower'} than the program.")
     return int(is_slower)
 

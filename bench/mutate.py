@@ -115,10 +115,10 @@ def compare(old, new, folder, seed, number):
     texts = history(rng)
     which = 0 if rng.random() < 0.8 else 1
     names = []
-    for it, text in enumerate(texts):
-        names.append(f"{number}.{'hc'[it]}.edn")
-        with open(f"{folder}/{names[it]}", "wb") as file:
-            file.write(mutated(rng, text) if it == which else text.encode())
+    for place, text in enumerate(texts):
+        names.append(f"{number}.{'hc'[place]}.edn")
+        with open(f"{folder}/{names[place]}", "wb") as file:
+            file.write(mutated(rng, text) if place == which else text.encode())
     before, after = answer(old, folder, names), answer(new, folder, names)
     if before == after:
         for name in names:
@@ -139,7 +139,7 @@ def main():
     old, new = os.path.realpath(o.old), os.path.realpath(o.new)
     statuses, differ = {}, 0
     with concurrent.futures.ThreadPoolExecutor(os.cpu_count()) as pool:
-        for number, (same, status) in enumerate(pool.map(lambda it: compare(old, new, folder, o.seed, it), range(o.texts))):
+        for number, (same, status) in enumerate(pool.map(lambda which: compare(old, new, folder, o.seed, which), range(o.texts))):
             statuses[status] = statuses.get(status, 0) + 1
             if not same:
                 differ += 1

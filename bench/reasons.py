@@ -4,8 +4,8 @@
     reasons.py PROGRAM PLAIN DIR.. [--runs N] [--seconds S] [--plain-seconds S] [--together]
 
 DIR is a folder of plant.py with the name KIND-CALLS-ATONCE-VALUES, where VALUES is `once` or a number. `PROGRAM judge FILE` and
-`PLAIN find FILE` run in turn, N times, but once where a run takes a second, and the least processor time of each counts. Each may take as many seconds of
-it as given. Answers are kept in DIR/answers.json, so that a run that was stopped can go on.
+`PLAIN find FILE` run in turn, N times, but once where a run takes a second, and the least processor time of each counts. Each may take as
+many seconds of it as given. Answers are kept in DIR/answers.json, so that a run that was stopped can go on.
 
 What `judge` says is checked by tests/edge/verify/reasons.py: the operations are of the history and have no valid order, or the count is exceeded.
 Broken are the histories of which one of the two gives a reason; linearizable those for which one of the two found an order; of the others
@@ -65,7 +65,7 @@ def answers_on(asked, path):
         raise SystemExit("reasons.py: %s: judge says yes, and the plain finder gives a reason" % path)
     return {
         "judge": status, "plain": plain[0][0], "size": size_of(path, out) if status == 1 else None,
-        "seconds": min(it[2] for it in ours), "plain seconds": min(it[2] for it in plain),
+        "seconds": min(run[2] for run in ours), "plain seconds": min(run[2] for run in plain),
     }
 
 
@@ -77,32 +77,32 @@ def answers(asked, folder):
             return json.load(text)
     with open(os.path.join(folder, "planted.txt")) as text:
         names = [line.rstrip().split(" ", 1) for line in text]
-    found = [{"type": name, **answers_on(asked, os.path.join(folder, number + ".edn"))} for number, name in names]
+    answered = [{"type": name, **answers_on(asked, os.path.join(folder, number + ".edn"))} for number, name in names]
     with open(kept, "w") as text:
-        json.dump(found, text)
-    return found
+        json.dump(answered, text)
+    return answered
 
 
 def seconds(time):
     return "%.0f ms" % (time * 1000) if time < 1 else "%.2f s" % time
 
 
-def row(name, found):
+def row(name, answered):
     """A row of the table."""
-    broken = [it for it in found if 1 in (it["judge"], it["plain"])]
-    refuted = [it for it in broken if it["judge"] == 1]
-    linearizable = sum(0 in (it["judge"], it["plain"]) for it in found)
-    sizes = [it["size"] for it in refuted]
-    times = [it["seconds"] for it in broken]
-    ratios = [it["seconds"] / it["plain seconds"] for it in refuted if it["plain"] == 1]
-    missed = Counter(row["type"] for row in broken if row["judge"] != 1)
+    broken = [answer for answer in answered if 1 in (answer["judge"], answer["plain"])]
+    refuted = [answer for answer in broken if answer["judge"] == 1]
+    linearizable = sum(0 in (answer["judge"], answer["plain"]) for answer in answered)
+    sizes = [answer["size"] for answer in refuted]
+    times = [answer["seconds"] for answer in broken]
+    ratios = [answer["seconds"] / answer["plain seconds"] for answer in refuted if answer["plain"] == 1]
+    missed = Counter(answer["type"] for answer in broken if answer["judge"] != 1)
     cells = [
-        *name, len(found), linearizable, len(found) - linearizable - len(broken), len(broken), len(refuted),
+        *name, len(answered), linearizable, len(answered) - linearizable - len(broken), len(broken), len(refuted),
         "%.0f %%" % (100 * len(refuted) / len(broken)) if broken else "-",
         "%g, %d" % (statistics.median(sizes), max(sizes)) if sizes else "-",
         "%s, %s" % (seconds(statistics.median(times)), seconds(max(times))) if times else "-",
         "%.1f" % statistics.median(ratios) if ratios else "-",
-        ", ".join("%s %d" % it for it in missed.items()) or "-",
+        ", ".join("%s %d" % pair for pair in missed.items()) or "-",
     ]
     return "| %s |" % " | ".join(str(cell) for cell in cells)
 
@@ -126,8 +126,8 @@ def main():
         if not asked.together:
             print(row(name, rows[name]), flush=True)
     if asked.together:
-        for name, found in rows.items():
-            print(row(name, found))
+        for name, answered in rows.items():
+            print(row(name, answered))
 
 
 if __name__ == "__main__":

@@ -13,13 +13,15 @@ fi
 export FCBENCH
 tools=$FCBENCH_TOOLS
 
-case ${1:-} in
-  judge | find | draw | import) exec "$tools" "$@" ;;
-  help)
-    case ${2:-} in
-      judge | find | draw | import) exec "$tools" "$2" --help ;;
-    esac ;;
-esac
+is_of_tools() {
+  case ${1:-} in judge | find | draw | import) return 0 ;; esac
+  return 1
+}
+if is_of_tools "$@"; then
+  exec "$tools" "$@"
+elif [ "${1:-}" = help ] && is_of_tools "${2:-}"; then
+  exec "$tools" "$2" --help
+fi
 all_commands() {
   "$tools" --help || exit
   echo

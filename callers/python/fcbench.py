@@ -110,6 +110,7 @@ def refute(history, reasons, steps=STEPS):
 
 
 def verify(history, evidence, steps=STEPS):
-    """Checks evidence from any source, and judges a history by what it shows. A search for which it names no number of steps takes at most this many."""
+    """Checks evidence from any source, and judges a history by what it shows. A search for which it names no number of steps takes at most
+    this many."""
     text, claims = _bytes(history), _bytes(evidence)
     return _whole(_C.fcbench_verify, text, len(text), claims, len(claims), steps)

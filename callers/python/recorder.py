@@ -94,7 +94,7 @@ def check_call(function, argument):
     if function not in ARGUMENTS:
         raise ValueError(f"{function!r} is not one of the functions {', '.join(ARGUMENTS)}")
     numbers = () if argument is None else argument if isinstance(argument, (tuple, list)) else (argument,)
-    if any(isinstance(it, (str, bytes)) for it in numbers):
+    if any(isinstance(number, (str, bytes)) for number in numbers):
         raise ValueError(f"{argument!r} cannot be the argument of {function}: a history has integers, so number your strings")
     if len(numbers) != ARGUMENTS[function] or any(isinstance(number, bool) or not isinstance(number, int) for number in numbers):
         raise ValueError(f"{argument!r} cannot be the argument of {function}, which is {SHAPES[ARGUMENTS[function]]}")

@@ -81,7 +81,7 @@ def work(queue, journal, client):
 def record(has_race):
     queue, recorder = Queue(has_race), Recorder()
     journals = [recorder.journal() for _ in range(THREADS)]
-    threads = [threading.Thread(target=work, args=(queue, journal, it)) for it, journal in enumerate(journals)]
+    threads = [threading.Thread(target=work, args=(queue, journal, process)) for process, journal in enumerate(journals)]
     for thread in threads:
         thread.start()
     for thread in threads:

@@ -36,8 +36,8 @@ def exported(crate, root):
     """Returns the names that the lib.rt of a crate makes public, and the public modules."""
     text = "\n".join(lines_of(f"{root}/crates/{crate}/src/lib.rt"))
     names, modules = set(), set(re.findall(r"^pub mod (\w+)", text, re.M))
-    for found in re.finditer(r"^pub use ([\w:]+?)(?:::\{([^}]*)\})?;", text, re.M):
-        path, many = found.groups()
+    for statement in re.finditer(r"^pub use ([\w:]+?)(?:::\{([^}]*)\})?;", text, re.M):
+        path, many = statement.groups()
         names |= {name.strip() for name in many.split(",")} if many else {path.split("::")[-1]}
     return names, modules
 

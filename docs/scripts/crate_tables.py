@@ -40,30 +40,30 @@ def cell_of(used, own):
 
 def page(text):
     """The page with its tables made anew, and the names of crates that have no words yet."""
-    rows = {name: words for name, words, _ in (found.groups() for found in map(ROW.match, text.split("\n")) if found)}
+    rows = {name: words for name, words, _ in (match.groups() for match in map(ROW.match, text.split("\n")) if match)}
     own = dependencies()
     missing = [name for name in own if not rows.get(name, '').strip()]
     for heading, crates in groups():
-        made = "\n".join(f"| `{name}` | {rows.get(name, '')} |{cell_of(used, own)}|" for name, used in crates)
+        new_table = "\n".join(f"| `{name}` | {rows.get(name, '')} |{cell_of(used, own)}|" for name, used in crates)
         table = re.compile(rf"(### {re.escape(heading)}\n\n\| crate [^\n]*\n\|---[^\n]*\n)(?:\|[^\n]*\n)*")
         if not table.search(text):
             missing.append(heading)
-        text = table.sub(lambda found: f"{found.group(1)}{made}\n", text)
+        text = table.sub(lambda found: f"{found.group(1)}{new_table}\n", text)
     return text, missing
 
 
 def main(options):
     with open(PAGE) as file:
         text = file.read()
-    made, missing = page(text)
+    new, missing = page(text)
     for name in missing:
         print(f"docs/architecture.md has no words for {name}")
     if options:
-        if made != text:
+        if new != text:
             print("docs/architecture.md does not agree with crates.txt: docs/scripts/crate_tables.py mends it")
-        return 1 if missing or made != text else 0
+        return 1 if missing or new != text else 0
     with open(PAGE, "w") as file:
-        file.write(made)
+        file.write(new)
     return 1 if missing else 0
 
 

@@ -1,13 +1,14 @@
 #!/usr/bin/env python3
 """Counts the lines of definitions that a clause of a contract names, itself or through another definition.
 
-    docs/scripts/lines_to_believe.py [NAME]
+    docs/scripts/lines_to_believe.py [--list] [NAME]
     docs/scripts/lines_to_believe.py --twice
 
 NAME is a definition of specs/, as judging.Texts.IsLinearizableText. With no NAME it prints the counts that README.md and
 docs/definitions.md give. Comments, blank lines and imports do not count, nor do enums and structs of the code, which it counts
 apart, nor the words of the standard library. Words that come from proofs/ do not count either: those that are met are listed.
-With --twice it lists the names that several crates define, each with these crates."""
+With --list each definition follows with the number of its lines, and then each type of the code. With --twice it lists the names
+that several crates define, each with these crates."""
 import collections
 import glob
 import os
@@ -39,8 +40,8 @@ class Module:
             self.read(file.read())
 
     def read(self, text):
-        for found in re.finditer(r"^(?:pub )?use Rattle\.([\w.]+?)(?:\.\{([^}]*)\}| as (\w+))\s*$", text, re.M):
-            path, names, other = found.groups()
+        for statement in re.finditer(r"^(?:pub )?use Rattle\.([\w.]+?)(?:\.\{([^}]*)\}| as (\w+))\s*$", text, re.M):
+            path, names, other = statement.groups()
             if other:
                 self.whole[other] = path
             for name in (names or "").replace("\n", " ").split(","):
@@ -79,11 +80,11 @@ class Module:
 
 
 def modules():
-    found = {}
+    by_path = {}
     for path in glob.glob(f"{ROOT}/crates/*/specs/**/*.antt", recursive=True):
         module = Module(path)
-        found[f"{module.crate}.specs.{module.name}"] = module
-    return found
+        by_path[f"{module.crate}.specs.{module.name}"] = module
+    return by_path
 
 
 NAMES = r"[^\s(){}\[\],;:λ]+"
@@ -104,13 +105,13 @@ def parts_of(module, name):
 
 def words_of(module, name):
     """What the words of a definition refer to, except for those that it binds: its parameters and fields, and names in λ and (x : A)."""
-    found, shared = [], set()
+    targets, shared = [], set()
 
     def refer(word, bound):
-        for it in {word, word.strip(".")}:
-            target = None if it.partition(".")[0] in bound else module.target(it, name)
+        for spelled in {word, word.strip(".")}:
+            target = None if spelled.partition(".")[0] in bound else module.target(spelled, name)
             if target:
-                found.append(target)
+                targets.append(target)
 
     for place, part in enumerate(parts_of(module, name)):
         bound = set(shared)
@@ -120,7 +121,7 @@ def words_of(module, name):
             for word in re.findall(NAMES, left):
                 path, of = module.target(word, name) or ("", "")
                 if word in module.constructors or "declared" in path:
-                    found.append((path, of))
+                    targets.append((path, of))
                 else:
                     bound.add(word)
         bound |= walk(part, bound, refer)
@@ -129,7 +130,7 @@ def words_of(module, name):
             shared |= bound  # The parameters.
         elif field:
             shared.add(field.group(1))
-    return found
+    return targets
 
 
 def walk(part, bound, refer):
@@ -160,7 +161,7 @@ def walk(part, bound, refer):
 
 def closure(known, names):
     """The definitions that these name, the types of the code among them, and the words that come from proofs/."""
-    left = [(f"{crate}.specs.{module}", name) for crate, module, name in (it.split(".") for it in names)]
+    left = [(f"{crate}.specs.{module}", name) for crate, module, name in (dotted.split(".") for dotted in names)]
     seen, declared, unread = set(), set(), set()
     while left:
         path, name = left.pop()
@@ -193,12 +194,15 @@ def crates_of_names():
     return crates
 
 
-def main(names):
-    if names == ["--twice"]:
-        for name, those in sorted(crates_of_names().items()):
-            if len(those) > 1:
-                print(f"{name}: {', '.join(sorted(those))}")
-        return
+def print_twice():
+    """Prints the names that several crates define, each with these crates."""
+    for name, those in sorted(crates_of_names().items()):
+        if len(those) > 1:
+            print(f"{name}: {', '.join(sorted(those))}")
+
+
+def print_counts(names, lists):
+    """Prints the counts for these names, or for the clauses if there are none, and the definitions too if asked for."""
     known = modules()
     for clause, begin in ({"": names} if names else CLAUSES).items():
         seen, declared, unread = closure(known, begin)
@@ -206,11 +210,26 @@ def main(names):
         print(f"{clause or ' '.join(names)}: {lines} lines in {len(seen)} definitions, and {len(declared)} types of the code")
         if unread:
             print(f"  not counted, from proofs: {', '.join(sorted(unread))}")
-        if os.environ.get("VERBOSE"):
+        if lists:
             for path, name in sorted(seen):
-                print(f"  {path}.{name} {len(known[path].lines[name])}")
-            print(sorted(declared))
+                print(f"  {path}.{name}: {len(known[path].lines[name])}")
+            for path in sorted(declared):
+                print(f"  {path}: a type of the code")
+
+
+def are_known(arguments):
+    """Whether these are arguments of the script."""
+    names = arguments[1:] if arguments[:1] == ["--list"] else arguments
+    return arguments == ["--twice"] or not names or len(names) == 1 and names[0].count(".") == 2
+
+
+def main(arguments):
+    if arguments == ["--twice"]:
+        print_twice()
+    else:
+        lists = arguments[:1] == ["--list"]
+        print_counts(arguments[1:] if lists else arguments, lists)
 
 
 if __name__ == "__main__":
-    main(arguments_or_exit(__doc__, lambda arguments: arguments in ([], ["--twice"]) or len(arguments) == 1 and arguments[0].count(".") == 2))
+    main(arguments_or_exit(__doc__, are_known))

@@ -61,8 +61,9 @@ def table(rows):
     heads = cells(rows[0])
     for row in rows[2:]:
         tag, *rest = cells(row)
-        said = [f"{head}: {cell}" if number or head.isdigit() else cell for number, (head, cell) in enumerate(zip(heads[1:], rest)) if cell not in ("", "-")]
-        yield from (".TP", line(tag) or "\\&", line(". ".join(said)) or "\\&")
+        filled = [(number, head, cell) for number, (head, cell) in enumerate(zip(heads[1:], rest)) if cell not in ("", "-")]
+        parts = [f"{head}: {cell}" if number or head.isdigit() else cell for number, head, cell in filled]
+        yield from (".TP", line(tag) or "\\&", line(". ".join(parts)) or "\\&")
 
 
 def code(rows):

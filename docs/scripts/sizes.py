@@ -35,11 +35,11 @@ def lines_in(crates, part):
 
 def rows():
     """Each group with its lines of code, definitions and proofs, and all of them; and then the sum of the groups."""
-    made = []
+    of_groups = []
     for heading, crates in groups():
         sizes = [lines_in([name for name, _ in crates], part) for part in PARTS]
-        made.append((heading.partition(":")[0], [*sizes, sum(sizes)]))
-    return [*made, ("all", [sum(column) for column in zip(*(sizes for _, sizes in made))])]
+        of_groups.append((heading.partition(":")[0], [*sizes, sum(sizes)]))
+    return [*of_groups, ("all", [sum(column) for column in zip(*(sizes for _, sizes in of_groups))])]
 
 
 def row_text(heading, sizes):
@@ -52,8 +52,8 @@ def strange_rows():
         text = file.read()
     strange = []
     for heading, sizes in rows():
-        found = re.search(rf"^\| {re.escape(heading)} \|([\d,| ]+)\|$", text, re.M)
-        told = [int(cell.replace(",", "")) for cell in found[1].split("|")] if found else []
+        match = re.search(rf"^\| {re.escape(heading)} \|([\d,| ]+)\|$", text, re.M)
+        told = [int(cell.replace(",", "")) for cell in match[1].split("|")] if match else []
         if len(told) != len(sizes) or any(abs(size - number) > max(200, size / 50) for size, number in zip(sizes, told)):
             strange.append(row_text(heading, sizes))
     return strange

@@ -15,7 +15,7 @@ from .text_writers import certificate, invoke, lines, ok
 
 # Two calls each of acquire and release, and no fifth.
 MUTEX_TWICE = lines(
-    *[it for f in ("acquire", "release") * 2 for it in (invoke(0, f, None, 0), ok(0, f, None, 0))],
+    *[event for f in ("acquire", "release") * 2 for event in (invoke(0, f, None, 0), ok(0, f, None, 0))],
     "; {:object 0, :order [0 2 4 6]}",
     "; yes: 4 operations, 1 objects",
     "; mutex: 1 objects, 4 operations",
@@ -60,11 +60,11 @@ def through_pipes(program, files, words, size=7, pause=0.0, **how):
         os.mkfifo(path)
         text = text if isinstance(text, bytes) else text.encode()
         threads.append(threading.Thread(target=feed, args=(path, text, size, pause)))
-    for it in threads:
-        it.start()
+    for thread in threads:
+        thread.start()
     ran = program.run(*words, **how)
-    for (name, _), it in zip(files, threads):
-        end_feeder(f"{program.folder}/{name}", it)
+    for (name, _), thread in zip(files, threads):
+        end_feeder(f"{program.folder}/{name}", thread)
     return ran
 
 
@@ -173,7 +173,7 @@ def examples(program, report):
         out, status = expected(name)
         report.answers(f"example {name}: {' '.join(words)}", program.run(*words), out, status)
 
-    names = sorted(it for it in os.listdir(EXAMPLES) if os.path.isfile(f"{EXAMPLES}/{it}"))
+    names = sorted(name for name in os.listdir(EXAMPLES) if os.path.isfile(f"{EXAMPLES}/{name}"))
     for name in names:
         with open(f"{EXAMPLES}/{name}", "rb") as file:
             program.write(name, file.read())
@@ -224,7 +224,7 @@ def runs_asked():
     asked = [(kind, *of) for kind in workloads.KINDS_OF_A_RUN for of in ((1, 2, 100, 0), (1, 4, 20, 0), (16, 32, 10, 0), (3, 4, 20, 7))]
     for of in (*asked, ("mixed", 16, 32, 200, 3), ("mutex", 1, 8, 100, 0)):
         names = ("--kind", "--objects", "--clients", "--calls", "--seed")
-        yield tuple(str(it) for pair in zip(names, of) for it in pair), of
+        yield tuple(str(part) for pair in zip(names, of) for part in pair), of
 
 
 def is_well_run(program, report, words, kind, objects, clients, calls, seed):
@@ -235,8 +235,8 @@ def is_well_run(program, report, words, kind, objects, clients, calls, seed):
     made = workloads.calls_of_all(kind, objects, clients, calls, seed)
     report.holds(f"{name}: each client makes its calls in order", workloads.calls_in(ran.out) == made, ran.out[-300:])
     report.holds(f"{name}: check gives the verdict that it ends with", is_accepted(program, ran.out), ran.out[-300:])
-    all_made = [it for of in made.values() for it in of]
-    on = {it.rpartition(":object ")[2] for it in all_made}
+    all_made = [line for of in made.values() for line in of]
+    on = {line.rpartition(":object ")[2] for line in all_made}
     counts = lines(f"; yes: {len(all_made)} operations, {len(on)} objects").encode()
     if kind == "mixed":
         report.holds(f"{name}: its calls are counted", counts in ran.out, ran.out[-300:])

@@ -33,11 +33,11 @@ def effects(known, running):
     found, left = set(known), list(known)
     while left:
         content, done = left.pop()
-        names = {it[0] for it in done}
+        names = {call[0] for call in done}
         for process, f, argument in running:
             taken = process not in names and NEXT[f](content, f, argument)
             if taken:
-                now = (taken[0], tuple(sorted((*done, (process, taken[1])), key=lambda it: it[0])))
+                now = (taken[0], tuple(sorted((*done, (process, taken[1])), key=lambda call: call[0])))
                 if now not in found:
                     found.add(now)
                     left.append(now)
@@ -53,7 +53,7 @@ def after(state, process, kind, f, value):
     if kind == "info":
         return state
     if kind == "fail":
-        kept = frozenset(it for it in known if all(of[0] != process for of in it[1]))
+        kept = frozenset(reached for reached in known if all(of[0] != process for of in reached[1]))
         return kept, without(running, process)
     done = (process, value)
     kept = frozenset((content, without(of, process)) for content, of in effects(known, running) if done in of)
@@ -125,8 +125,8 @@ def of_each(program, name, words, history, count, said, status):
 def of_no_orders(program, name, history, count):
     """Of each object find is to print a line, none of which is an order."""
     ran = program.run("find", history)
-    said = ran.out.count(b"\n"), ran.out.count(b":order [")
-    return [(f"{name}, without an order", (3, b"", (count, 0)), (ran.status, ran.err, said))]
+    counts = ran.out.count(b"\n"), ran.out.count(b":order [")
+    return [(f"{name}, without an order", (3, b"", (count, 0)), (ran.status, ran.err, counts))]
 
 
 def of_orders(program, name, words, history, count):
@@ -145,5 +145,5 @@ def on_texts(program, report, texts, look):
         return look(program.write(f"many.{number}.edn", text), text, count)
 
     for told in at_once(one, enumerate(texts)):
-        for it in told:
-            report.equal(*it)
+        for comparison in told:
+            report.equal(*comparison)

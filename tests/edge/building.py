@@ -22,9 +22,9 @@ print(runpy.run_path(f"{top}/callers/build")["are_proved"]([name]))
 
 def copy_of_scripts(top, *names):
     """Copies these scripts, and what they import, into a folder, as those of another repository."""
-    for it in (*names, "scripts/arguments.py", "scripts/crates_list.py"):
-        os.makedirs(os.path.dirname(f"{top}/{it}"), exist_ok=True)
-        shutil.copy(f"{ROOT}/{it}", f"{top}/{it}")
+    for file in (*names, "scripts/arguments.py", "scripts/crates_list.py"):
+        os.makedirs(os.path.dirname(f"{top}/{file}"), exist_ok=True)
+        shutil.copy(f"{ROOT}/{file}", f"{top}/{file}")
 
 
 def is_taken_for_current(changed):
@@ -33,13 +33,13 @@ def is_taken_for_current(changed):
         copy_of_scripts(top, "crates/build", "callers/build")
         with open(f"{top}/crates.txt", "w") as file:
             file.write("low:\nhigh: low\n")
-        for it in ("low", "high"):
-            os.makedirs(f"{top}/crates/{it}/src/kinds")
+        for crate in ("low", "high"):
+            os.makedirs(f"{top}/crates/{crate}/src/kinds")
         begun = time.time()
         # The times of files have steps of some milliseconds.
         time.sleep(0.1)
-        for it in changed:
-            os.close(os.open(f"{top}/crates/{it}/src/kinds/changed.rt", os.O_CREAT))
+        for crate in changed:
+            os.close(os.open(f"{top}/crates/{crate}/src/kinds/changed.rt", os.O_CREAT))
         os.makedirs(f"{top}/made/high.rlib")
         os.close(os.open(f"{top}/made/high.rlib/format", os.O_CREAT))
         ran = subprocess.run([sys.executable, "-c", KEEPS, top, "high", str(begun)], capture_output=True, text=True)
@@ -50,14 +50,15 @@ def changed_while_proved(program, report):
     """A proved library is out of date if its crate, or one that it uses, was changed since its proof began."""
     for changed in ((), ("high",), ("low",)):
         is_current = is_taken_for_current(changed)
-        report.equal(f"building: a library is current if {' '.join(changed) or 'nothing'} was changed while it was proved", f"{not changed}\n", is_current)
+        name = f"building: a library is current if {' '.join(changed) or 'nothing'} was changed while it was proved"
+        report.equal(name, f"{not changed}\n", is_current)
 
 
 def not_built(program):
     """The folder of a repository whose tools are built, and whose verifier has no code and is not built."""
     top = f"{program.folder}/not_built"
-    for it in ("out", "src", "specs", "proofs"):
-        os.makedirs(f"{top}/crates/fcbench/{it}")
+    for part in ("out", "src", "specs", "proofs"):
+        os.makedirs(f"{top}/crates/fcbench/{part}")
     copy_of_scripts(top, "fcbench", "crates.txt", "crates/build")
     shutil.copytree(f"{ROOT}/tools", f"{top}/tools", ignore=shutil.ignore_patterns("target"))
     os.makedirs(f"{top}/tools/target/release")

@@ -8,14 +8,14 @@ import subprocess
 import sys
 import tokenize
 
-from .running import ROOT
+from .running import OF_TOOLS, ROOT
 
 sys.path[:0] = [f"{ROOT}/scripts", f"{ROOT}/docs/scripts", f"{ROOT}/bench"]
 
 import contract_list  # noqa: E402
 import lines_to_believe  # noqa: E402
 import reasons  # noqa: E402
-from crates_list import dependencies as listed, with_below  # noqa: E402
+from crates_list import dependencies, with_below  # noqa: E402
 
 PAGES = [
     f"{base}/{file}"
@@ -31,6 +31,18 @@ def read(path):
         return file.read()
 
 
+def is_in_python(name, text):
+    """Whether a file is in Python, by its ending or its first line."""
+    return name.endswith(".py") or "python3" in text.partition("\n")[0]
+
+
+def names_in_python():
+    """The files of the repository that are in Python, modules and scripts."""
+    listed = subprocess.run(["git", "ls-files"], cwd=ROOT, capture_output=True, text=True, check=True).stdout.split("\n")
+    may_be = [name for name in listed if re.fullmatch(r"[^.]+(\.py)?", name)]
+    return [name for name in may_be if is_in_python(name, read(f"{ROOT}/{name}"))]
+
+
 def documents(program, report):
     """What scripts of docs/ find is what the pages say. CONTRIBUTING names each file of tests/edge."""
     ran = subprocess.run([f"{ROOT}/docs/scripts/crate_tables.py", "--check"], capture_output=True, text=True)
@@ -38,8 +50,8 @@ def documents(program, report):
     ran = subprocess.run([f"{ROOT}/docs/scripts/contract_list.py"], capture_output=True, text=True)
     report.equal("documents: docs/scripts/contract_list.py reads each clause", (0, ""), (ran.returncode, ran.stderr))
     ran = subprocess.run([f"{ROOT}/docs/scripts/lost_clauses.py", "HEAD"], capture_output=True, text=True)
-    is_well = ran.returncode == 0 and re.search(r"^\d{3} clauses of HEAD, \d+ of which are not here word for word; \d+ new requires$", ran.stdout, re.M)
-    report.holds("documents: docs/scripts/lost_clauses.py reads the clauses of the last commit", is_well, ran)
+    counts = re.search(r"^\d{3} clauses of HEAD, \d+ of which are not here word for word; \d+ new requires$", ran.stdout, re.M)
+    report.holds("documents: docs/scripts/lost_clauses.py reads the clauses of the last commit", ran.returncode == 0 and counts, ran)
     ran = subprocess.run([f"{ROOT}/docs/scripts/lines_to_believe.py"], capture_output=True, text=True)
     counted = re.findall(r"^(\w+)\D+(\d+)", ran.stdout, re.M)
     report.equal("documents: three counts of lines to believe", ["history", "judge", "reason"], [name for name, _ in counted], ran.stderr)
@@ -51,7 +63,7 @@ def documents(program, report):
             report.holds(f"documents: {page} has the count for {name}, {count}", re.search(rf"\b{count}\b", text))
     index = read(f"{ROOT}/docs/CONTRIBUTING.md").partition("## The tests in `tests/edge`\n")[2].partition("\n## ")[0]
     files = sorted(glob.glob(f"{ROOT}/tests/edge/**/*.py", recursive=True))
-    lacks = [it for it in map(os.path.basename, files) if it != "__init__.py" and not re.search(rf"[`/]{re.escape(it)}`", index)]
+    lacks = [file for file in map(os.path.basename, files) if file != "__init__.py" and not re.search(rf"[`/]{re.escape(file)}`", index)]
     report.equal("documents: files of tests/edge that CONTRIBUTING does not name", [], lacks)
 
 
@@ -80,18 +92,21 @@ def rows_of_several():
     """The rows of the table of docs/definitions.md on names that mean different things: the names, and the crates."""
     crates = set(os.listdir(f"{ROOT}/crates"))
     table = read(f"{ROOT}/docs/definitions.md").partition("| name | what it is, by crate |\n|---|---|\n")[2].partition("\n\n")[0]
-    for names, said in re.findall(r"^\| (.*?) \| (.*) \|$", table, re.M):
-        yield re.findall(r"`(\w+)`", names), crates & set(re.findall(r"`(\w+)`", said))
+    for names, cell in re.findall(r"^\| (.*?) \| (.*) \|$", table, re.M):
+        yield re.findall(r"`(\w+)`", names), crates & set(re.findall(r"`(\w+)`", cell))
 
 
 def definition_of(name):
-    """The pattern of a definition in specs/, maybe in a module with parameters or in a mutual block. There its clauses distinguish it from a field."""
+    """The pattern of a definition in specs/, maybe in a module with parameters or in a mutual block. There its clauses distinguish it from a
+    field."""
     return rf"^ *(?:(?:abbrev|unfoldable) pub (?:\w+ )?|pub (?:record|data) ){name}(?= |$)|^( *)pub {name} : .*\n(?:\1 .*\n)*\1{name} "
 
 
 def is_defined_in(crate, name, file="**/*"):
     """Whether a file of specs/ of a crate defines a name, or any of them or a type of its code."""
-    sources = [(definition_of(name), f"specs/{file}.antt")] + ([(rf"^pub(?:\(crate\))? (?:struct|enum) {name}\b", "src/**/*.rt")] if file == "**/*" else [])
+    sources = [(definition_of(name), f"specs/{file}.antt")]
+    if file == "**/*":
+        sources.append((rf"^pub(?:\(crate\))? (?:struct|enum) {name}\b", "src/**/*.rt"))
     paths = ((pattern, path) for pattern, files in sources for path in glob.glob(f"{ROOT}/crates/{crate}/{files}", recursive=True))
     return any(re.search(pattern, read(path), re.M) for pattern, path in paths)
 
@@ -127,21 +142,21 @@ def names_of_rows(program, report):
     report.holds("names_of_rows: there are some", count >= 900, count)
     report.equal("names_of_rows: not defined where docs/definitions.md says", [], strange)
     for page in PAGES:
-        named = [(it[:-1].replace(".", "/"), name) for it, name in re.findall(r"`((?:[A-Z]\w*\.)+)(\w+)`", read(page)) if name != "antt"]
-        files = {it for it, _ in named if glob.glob(f"{ROOT}/crates/*/specs/{it}.antt")}
-        strange = [f"{it} {name}" for it, name in named if it in files and not is_defined_in("*", name, it)]
+        named = [(module[:-1].replace(".", "/"), name) for module, name in re.findall(r"`((?:[A-Z]\w*\.)+)(\w+)`", read(page)) if name != "antt"]
+        files = {module for module, _ in named if glob.glob(f"{ROOT}/crates/*/specs/{module}.antt")}
+        strange = [f"{module} {name}" for module, name in named if module in files and not is_defined_in("*", name, module)]
         report.equal(f"names_of_rows: not defined where {os.path.relpath(page, ROOT)} says", [], strange)
 
 
 def clauses_by_function():
     """The names of the clauses of each public function, by the name of the function."""
-    found = {}
+    clauses_of = {}
     for crate in sorted(os.listdir(f"{ROOT}/crates")):
         if not os.path.exists(f"{ROOT}/crates/{crate}/src/lib.rt"):
             continue
         for name, _, clauses in contract_list.functions(crate):
-            found.setdefault(name.rpartition("::")[2], set()).update(clause[1].rstrip() for clause in clauses if clause[1])
-    return found
+            clauses_of.setdefault(name.rpartition("::")[2], set()).update(clause[1].rstrip() for clause in clauses if clause[1])
+    return clauses_of
 
 
 def definitions_of_clauses(program, report):
@@ -149,9 +164,10 @@ def definitions_of_clauses(program, report):
     defined, page = lines_to_believe.crates_of_names(), read(f"{ROOT}/docs/definitions.md")
     explained = {name for quoted in re.findall(r"`([^`\n]+)`", page) for name in re.findall(r"\w+", quoted)}
     used = set()
-    for crate in listed():
+    for crate in dependencies():
         if not crate.endswith("_tests") and os.path.exists(f"{ROOT}/crates/{crate}/src/lib.rt"):
-            words = {word for _, _, clauses in contract_list.functions(crate) for clause in clauses for word in re.findall(r"\b[A-Z]\w*", clause[3])}
+            texts = [clause[3] for _, _, clauses in contract_list.functions(crate) for clause in clauses]
+            words = {word for text in texts for word in re.findall(r"\b[A-Z]\w*", text)}
             used |= {word for word in words if defined.get(word, set()) & set(with_below(crate))}
     report.holds("definitions_of_clauses: there are some", len(used) >= 200, len(used))
     report.equal("definitions_of_clauses: not on docs/definitions.md", [], sorted(used - explained))
@@ -173,7 +189,7 @@ def named_clauses(program, report):
     sources = glob.glob(f"{ROOT}/crates/*/src/**/*.rt", recursive=True)
     named = {name for path in sources for name in re.findall(r"\b(?:ensures|requires) (\w+) \{", read(path))}
     # The changelog tells what was there.
-    for page in [it for it in PAGES if not it.endswith("CHANGELOG.md")]:
+    for page in [page for page in PAGES if not page.endswith("CHANGELOG.md")]:
         for names, function in re.findall(r"((?:`[\w.]+`(?: \([^()]*\))?(?:, | and )?)+) of `(\w+)`", read(page)):
             for name in re.findall(r"`([\w.]+)`", re.sub(r"\([^()]*\)", "", names)):
                 record, _, part = name.rpartition(".")
@@ -189,13 +205,13 @@ def named_clauses(program, report):
 def words_to_avoid():
     """The words in the first columns of the two tables of CONTRIBUTING."""
     tables = read(f"{ROOT}/docs/CONTRIBUTING.md").split("| avoid | write |\n")[1:]
-    return [re.findall(r"^\| ([^|]+?) \|", it.partition("\n\n")[0], re.M) for it in tables]
+    return [re.findall(r"^\| ([^|]+?) \|", table.partition("\n\n")[0], re.M) for table in tables]
 
 
 def said_in_python(text):
     """The comments and the strings of a text in Python: its names may be any."""
     kinds = (tokenize.COMMENT, tokenize.STRING)
-    return "\n".join(it.string for it in tokenize.generate_tokens(io.StringIO(text).readline) if it.type in kinds)
+    return "\n".join(token.string for token in tokenize.generate_tokens(io.StringIO(text).readline) if token.type in kinds)
 
 
 def strings(lines):
@@ -214,17 +230,17 @@ def scripts():
     for base, folders, files in os.walk(ROOT):
         top = os.path.relpath(base, ROOT)
         others = {".git", "out", "target", "__pycache__"} | ({"crates", "examples"} if top == "." else set())
-        folders[:] = [it for it in folders if it not in others]
-        for name in (os.path.relpath(f"{base}/{it}", ROOT) for it in files):
-            if not name.endswith((".md", ".png", ".edit", ".pyc")) and name != "tests/edge/documents.py":
-                text = read(f"{ROOT}/{name}")
-                yield name, said_in_python(text) if name.endswith(".py") or "python3" in text.partition("\n")[0] else said_in_code(text)
+        folders[:] = [folder for folder in folders if folder not in others]
+        for file in (os.path.relpath(f"{base}/{name}", ROOT) for name in files):
+            if not file.endswith((".md", ".png", ".edit", ".pyc")) and file != "tests/edge/documents.py":
+                text = read(f"{ROOT}/{file}")
+                yield file, said_in_python(text) if is_in_python(file, text) else said_in_code(text)
 
 
 def messages_and_comments():
     """Of each file of the libraries and programs its messages, or None, and its comments. Tests have no messages."""
     for base, _, files in os.walk(f"{ROOT}/crates"):
-        for file in sorted(it for it in files if "/src" in base and it.endswith(".rt") or "/specs" in base and it.endswith(".antt")):
+        for file in sorted(file for file in files if "/src" in base and file.endswith(".rt") or "/specs" in base and file.endswith(".antt")):
             name = os.path.relpath(f"{base}/{file}", ROOT)
             text = read(f"{ROOT}/{name}")
             lines = [line for line in text.split("\n") if re.match(r" *(//|--)", line)]
@@ -240,24 +256,29 @@ def names_in_code():
             yield "_" + re.sub(r"(?<=[a-z0-9])(?=[A-Z])", "_", name).lower() + "_", f"{os.path.relpath(path, ROOT)}: {name}"
 
 
+def has_word(text, pattern):
+    """Whether a text has a word to avoid, apart from two phrases that may stay."""
+    return re.search(pattern, re.sub("there is none|is none of", "", text))
+
+
 def plain_words(program, report):
     """No page, comment, message or script has one of the words to avoid, and no name in the code of the crates one of the first table."""
     tables = words_to_avoid()
-    report.holds("plain_words: CONTRIBUTING has two tables of words to avoid", len(tables) == 2 and all(len(it) > 5 for it in tables))
+    report.holds("plain_words: CONTRIBUTING has two tables of words to avoid", len(tables) == 2 and all(len(table) > 5 for table in tables))
     texts = {os.path.relpath(page, ROOT): read(page) for page in PAGES if not page.endswith("CONTRIBUTING.md")}
     texts.update(scripts())
     comments = {}
-    for name, messages, said in messages_and_comments():
-        texts[name], comments[name] = messages, said
+    for name, messages, remarks in messages_and_comments():
+        texts[name], comments[name] = messages, remarks
     for words, looked_at in zip(tables, ([texts, comments], [texts])):
         for word in words:
             pattern = rf"\b[{word[0]}{word[0].upper()}]{word[1:].replace('N', '[0-9]+')}\b"
-            found = {name for it in looked_at for name, text in it.items() if re.search(pattern, re.sub("there is none|is none of", "", text))}
-            report.equal(f"plain_words: '{word}' is in no text", [], sorted(found))
+            where_said = {name for group in looked_at for name, text in group.items() if has_word(text, pattern)}
+            report.equal(f"plain_words: '{word}' is in no text", [], sorted(where_said))
     names = list(names_in_code())
     for word in tables[0]:
-        found = [where for name, where in names if f"_{word.replace(' ', '_')}_" in name]
-        report.equal(f"plain_words: '{word}' is in no name", [], found)
+        where_said = [where for name, where in names if f"_{word.replace(' ', '_')}_" in name]
+        report.equal(f"plain_words: '{word}' is in no name", [], where_said)
 
 
 # The most characters of a line of these files: of proofs, of definitions, of code, and of prose.
@@ -265,6 +286,8 @@ WIDTHS = {
     "crates/*/proofs/**/*.antt": 120, "crates/*/specs/**/*.antt": 100, "crates/*/src/**/*.rt": 100, "docs/*.md": 150, "README.md": 150,
     "CHANGELOG.md": 150,
 }
+# And of files in Python, some of which have names without an ending.
+WIDTH_OF_PYTHON = 150
 # What cannot be divided: a name that the kit made, an attribute, which rt fmt writes on one line, and a text.
 ONE_NAME = re.compile(r"use \S+\{\S+\}$| *#\[tactic\(.*\)\]$| *b?\"([^\"\\]|\\.)*\"[,;]?$")
 # A row of a table, or a line that is one link.
@@ -282,14 +305,20 @@ def lines_with_numbers(path):
             yield number, line
 
 
-def widths(program, report):
-    """No line of a proof has more than 120 characters, of a definition or of code more than 100, and of prose more than 150."""
+def files_with_widths():
+    """The names of the sorts of files, each with its files and the most characters of their lines."""
     for files, most in WIDTHS.items():
-        paths = sorted(glob.glob(f"{ROOT}/{files}", recursive=True))
+        yield files, sorted(glob.glob(f"{ROOT}/{files}", recursive=True)), most
+    yield "in Python", [f"{ROOT}/{name}" for name in names_in_python()], WIDTH_OF_PYTHON
+
+
+def widths(program, report):
+    """No line of a proof has more than 120 characters, of a definition or of code more than 100, and of prose or of Python more than 150."""
+    for files, paths, most in files_with_widths():
         report.holds(f"widths: there are files {files}", paths)
-        found = ((path, number, len(line)) for path in paths for number, line in lines_with_numbers(path))
-        wide = [f"{os.path.relpath(path, ROOT)}:{number}: {width}" for path, number, width in found if width > most]
-        report.equal(f"widths: lines of {files} with more than {most} characters", [], wide)
+        counted = ((path, number, len(line)) for path in paths for number, line in lines_with_numbers(path))
+        wide = [f"{os.path.relpath(path, ROOT)}:{number}: {width}" for path, number, width in counted if width > most]
+        report.equal(f"widths: lines of files {files} with more than {most} characters", [], wide)
 
 
 def head_of(text):
@@ -335,9 +364,9 @@ def code(text):
 
 def snippets(program, report):
     """The snippets of docs/embedding.md and docs/tutorial.md, and the examples of the recorders, are code that the gate compiles and runs."""
-    found = re.findall(r"^```(c|cpp|rust|go|python)\n(.*?)^```$", read(f"{ROOT}/docs/embedding.md"), re.M | re.S)
-    report.holds("snippets: docs/embedding.md has some", len(found) >= 5)
-    for language, snippet in found:
+    snippets_of_page = re.findall(r"^```(c|cpp|rust|go|python)\n(.*?)^```$", read(f"{ROOT}/docs/embedding.md"), re.M | re.S)
+    report.holds("snippets: docs/embedding.md has some", len(snippets_of_page) >= 5)
+    for language, snippet in snippets_of_page:
         folder = f"{ROOT}/callers/{language}"
         files = [
             "\n".join(code(read(f"{base}/{file}")))
@@ -345,15 +374,15 @@ def snippets(program, report):
             for file in files
             if "test" in f"{base}/{file}"[len(ROOT) :]
         ]
-        report.holds(f"snippets: a test in {language} has {code(snippet)[0]}", any("\n".join(code(snippet)) in it for it in files), snippet)
+        report.holds(f"snippets: a test in {language} has {code(snippet)[0]}", any("\n".join(code(snippet)) in text for text in files), snippet)
     page = read(f"{ROOT}/docs/tutorial.md")
     own = code(read(f"{ROOT}/docs/record_queue.py")) + code(read(f"{ROOT}/callers/python/test_recorder.py"))
     for line in re.findall(r"^    ((?:journal\.|answer = |assert ).+)$", page, re.M):
         report.holds(f"snippets: docs/tutorial.md: {line}", line in own)
     for recorder, (line, tests) in RECORDERS.items():
         example = re.findall(f"^{line}$", read(f"{ROOT}/callers/{recorder}").partition("\nclass ")[0], re.M)
-        own = {it for test in tests for it in code(read(f"{ROOT}/callers/{test}"))}
-        lacks = [it for it in example if it.strip() not in own and not it.startswith(("//", "#"))]
+        own = {own_line for test in tests for own_line in code(read(f"{ROOT}/callers/{test}"))}
+        lacks = [example_line for example_line in example if example_line.strip() not in own and not example_line.startswith(("//", "#"))]
         report.holds(f"snippets: {recorder} has an example", len(example) >= 5, example)
         report.equal(f"snippets: lines of {recorder} that no test has", [], lacks)
 
@@ -364,15 +393,22 @@ OF_USERS = ("callers/python/", "callers/dask/", "docs/record_queue.py")
 
 def usages(program, report):
     """Each script in Python says its usage, so that what it imports is there, and refuses another word. Those with argparse do so with 2."""
-    listed = subprocess.run(["git", "ls-files"], cwd=ROOT, capture_output=True, text=True, check=True).stdout.split("\n")
-    texts = {it: read(f"{ROOT}/{it}") for it in listed if re.fullmatch(r"[^.]+(\.py)?", it) and not it.startswith(OF_USERS)}
-    by_argparse = [it for it, text in texts.items() if re.search("^import argparse", text, re.M)]
-    scripts = sorted({*by_argparse, *(it for it, text in texts.items() if "python3" in text.partition("\n")[0])})
-    report.holds("usages: there are some", len(scripts) >= 20, scripts)
-    for script in scripts:
+    texts = {name: read(f"{ROOT}/{name}") for name in names_in_python() if not name.startswith(OF_USERS)}
+    by_argparse = [name for name, text in texts.items() if re.search("^import argparse", text, re.M)]
+    run_by_name = [name for name, text in texts.items() if "python3" in text.partition("\n")[0]]
+    programs = sorted({*by_argparse, *run_by_name})
+    report.holds("usages: there are some", len(programs) >= 20, programs)
+    for script in programs:
         for word, status in (("--help", 0), ("-h", 0), ("--no-such-word", 2 if script in by_argparse else 64)):
             ran = subprocess.run([sys.executable, f"{ROOT}/{script}", word], capture_output=True, text=True)
             report.equal(f"usages: {script} {word}", (status, status == 0, status != 0), (ran.returncode, bool(ran.stdout), bool(ran.stderr)), ran)
+
+
+def lists_of_tools(program, report):
+    """Both scripts that choose a program, one of which is installed alone, name the commands of the tools, and no others."""
+    for script in ("fcbench", "tools/fcbench.sh"):
+        named = re.search(r"^is_of_tools\(\) \{\n  case \$\{1:-\} in ([\w |]+)\) return 0 ;; esac$", read(f"{ROOT}/{script}"), re.M)
+        report.equal(f"lists_of_tools: {script}", " | ".join(OF_TOOLS), named and named[1])
 
 
 def sizes_of_reasons(program, report):
@@ -384,5 +420,5 @@ def sizes_of_reasons(program, report):
 
 PARTS = (
     documents, links, names_of_several, names_of_rows, named_clauses, definitions_of_clauses, plain_words, widths, heads_of_proofs, snippets, usages,
-    like_lines, sizes_of_reasons,
+    like_lines, lists_of_tools, sizes_of_reasons,
 )

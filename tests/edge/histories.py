@@ -60,16 +60,16 @@ class Call:
 def calls_of(history):
     """The calls of a history, by their numbers, and how many maps it has."""
     calls, outstanding, maps = {}, {}, maps_of(history)
-    for number, it in enumerate(maps):
-        process = it["process"]
+    for number, event in enumerate(maps):
+        process = event["process"]
         if process.startswith(":"):
             continue
-        if it["type"] == ":invoke":
-            call = Call(number, process, int(it.get("object", 0)), it["f"][1:], value_of(it.get("value")))
+        if event["type"] == ":invoke":
+            call = Call(number, process, int(event.get("object", 0)), event["f"][1:], value_of(event.get("value")))
             calls[number] = outstanding[process] = call
         else:
             call = outstanding.pop(process)
-            call.at, call.end, call.reply = number, it["type"][1:], value_of(it.get("value"))
+            call.at, call.end, call.reply = number, event["type"][1:], value_of(event.get("value"))
     return calls, len(maps)
 
 
@@ -133,7 +133,7 @@ def spoilt(kind, seed):
     rng = random.Random(f"spoilt {kind} {seed}")
     history = made(kind, seed, calls=rng.choice((6, 10, 16)), values=3)
     calls, _ = calls_of(history.text())
-    returned = [it for it in calls.values() if it.end == "ok" and (kind in TOKENS or it.f not in REPLY_NIL)]
+    returned = [call for call in calls.values() if call.end == "ok" and (kind in TOKENS or call.f not in REPLY_NIL)]
     if not returned:
         return history.maps
     call = rng.choice(returned)
@@ -161,10 +161,10 @@ def long_search(seed, on=None):
     rng = random.Random(f"long search {seed}")
     others = made(rng.choice(tuple(ALL_FUNCTIONS)), f"beside {seed}", calls=rng.choice((0, 0, 5, 12)), on=0).maps if on is None else []
     on, writers = (1 if others else on or 0), rng.sample(range(100, 200), rng.randrange(12, 15))
-    maps = [text_writers.invoke(it, "write", it, on) for it in writers]
-    maps += [text_writers.ok(it, "write", it, on) for it in writers]
+    maps = [text_writers.invoke(process, "write", process, on) for process in writers]
+    maps += [text_writers.ok(process, "write", process, on) for process in writers]
     checks = rng.sample(writers[1:], len(writers) - 1)
-    maps += [it for of in checks for it in (text_writers.invoke(200, "cas", (of, 7), on), text_writers.ok(200, "cas", False, on))]
+    maps += [event for of in checks for event in (text_writers.invoke(200, "cas", (of, 7), on), text_writers.ok(200, "cas", False, on))]
     if rng.random() < 0.5:
         maps += [text_writers.invoke(201, "read", None, on), text_writers.info(201, "read", None, on)]
     place = rng.randrange(len(maps) + 1)
@@ -189,10 +189,10 @@ READERS = ("dequeue", "pop", "extract-min", "read", "get", "fetch-add", "get-cou
 
 def wrong_replies(rng, sort, calls, replies):
     """Replies of which one or two are wrong in this way, where the calls can have such."""
-    readers = [it for it in replies if calls[it].f in READERS]
-    with_value = [it for it in readers if replies[it] is not None]
-    setters = [it for it in replies if calls[it].f in ("cas", "put")]
-    answers = [it for it in replies if calls[it].f in REPLY_WHETHER]
+    readers = [number for number in replies if calls[number].f in READERS]
+    with_value = [number for number in readers if replies[number] is not None]
+    setters = [number for number in replies if calls[number].f in ("cas", "put")]
+    answers = [number for number in replies if calls[number].f in REPLY_WHETHER]
     if sort == "wrong answer":
         own = rng.choice(answers) if answers else None
         return {**replies, own: not replies[own]} if answers else replies
@@ -215,7 +215,7 @@ def faulty(sort, kind, seed):
     values = 4 if kind in ("set", "map of all functions") else 1000
     right = made(kind, f"{sort} {seed}", calls=rng.choice((8, 14, 30)), processes=rng.choice((1, 2, 3)), values=values)
     calls, maps = calls_of(right.text())[0], list(right.maps)
-    replies = {it.number: it.reply for it in calls.values() if it.end == "ok"}
+    replies = {call.number: call.reply for call in calls.values() if call.end == "ok"}
     for number, reply in wrong_replies(rng, sort, calls, replies).items():
         call = calls[number]
         argument = (reply[0], call.argument[1]) if sort == "own value" and call.f == "cas" and reply not in (False, None) else call.argument

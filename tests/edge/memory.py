@@ -48,7 +48,7 @@ class Refusal:
 def of_row(row, *more, stride=1):
     """A case of a worked row, whose files are its own."""
     name = f"{row.name} {' '.join(more)}".strip()
-    stem = "".join(it if it.isalnum() else "_" for it in name)
+    stem = "".join(letter if letter.isalnum() else "_" for letter in name)
     names = {file: f"{stem}.{file}" for file, _ in row.files()}
     words = (row.words[0], *more, *[names.get(word, word) for word in row.words[1:]])
     return Case(name, words, tuple((names[file], text) for file, text in row.files()), stride)
@@ -88,10 +88,10 @@ def of_example(*words):
 
 def cases():
     """Every allocation of each worked row of the proved program and of runs of two clients, and some of examples and of longer ones."""
-    for it in worked_rows.ROWS + worked_evidence.ROWS:
-        if len(it.texts[0]) < LONG and it.words[0] not in OF_TOOLS:
-            yield of_row(it)
-    for name, history, *_ in (it for it in worked_rows.NOT_LINEARIZABLE if len(it[1]) < LONG):
+    for row in worked_rows.ROWS + worked_evidence.ROWS:
+        if len(row.texts[0]) < LONG and row.words[0] not in OF_TOOLS:
+            yield of_row(row)
+    for name, history, *_ in (row for row in worked_rows.NOT_LINEARIZABLE if len(row[1]) < LONG):
         yield of_row(worked_rows.verify(name, history, "{:object 0} {:object 3}", "", 1), stride=3)
     yield of_row(next(row for row in worked_rows.YES if row.texts[0] == worked_rows.TWO_QUEUES), "--workers", "4")
     yield Case(" ".join(ONE_CLIENT), ONE_CLIENT)
@@ -123,7 +123,7 @@ def object_is_out_of_memory(whole, ran):
         return False
     lines_without_memory = [f"; object {at}: out of memory".encode() for at in range(len(after))]
     are_well = all(new in (old, without) for old, new, without in zip(before, after, lines_without_memory))
-    has_impossible = any(it.endswith(b": impossible") for it in after)
+    has_impossible = any(line.endswith(b": impossible") for line in after)
     return are_well and ran.status == (1 if has_impossible else NO_MEMORY)
 
 
@@ -157,7 +157,7 @@ def is_other_run(program, words, whole, ran):
 
     Then each client made its first calls, as many as it came to, and check accepts the history."""
     if words[0] == "simulate":
-        before, after = [it.out.replace(b":fail", b":ok").splitlines()[:3] for it in (whole, ran)]
+        before, after = [answer.out.replace(b":fail", b":ok").splitlines()[:3] for answer in (whole, ran)]
         return ran.status == 0 and before == after and is_accepted(program, ran.out)
     if words[0] != "run" or ran.status != 0:
         return False
@@ -165,7 +165,7 @@ def is_other_run(program, words, whole, ran):
     number = lambda name, other: int(options.get(name, other))
     given = options.get("--kind", "queue"), number("--objects", 1), number("--clients", 2), number("--calls", 100), 0
     wanted, made = workloads.calls_of_all(*given), workloads.calls_in(ran.out)
-    is_beginning = all(wanted[it][: len(of)] == of for it, of in made.items())
+    is_beginning = all(wanted[on][: len(of)] == of for on, of in made.items())
     return is_beginning and is_accepted(program, ran.out)
 
 
@@ -174,15 +174,15 @@ def has_pending_call(out):
     return out.count(b":type :invoke") != out.count(b":type :ok") + out.count(b":type :fail")
 
 
-def refuse(it):
+def refuse(refusal):
     """Refuses one allocation. Returns whether the run was out of memory, what it printed, and the run itself if it is wrong."""
-    whole, (command, *_) = it.whole, it.words
-    ran = it.program.run(*it.words, faults={"REFUSE_AT": it.at})
+    whole, (command, *_) = refusal.whole, refusal.words
+    ran = refusal.program.run(*refusal.words, faults={"REFUSE_AT": refusal.at})
     is_out = is_out_of_memory(command, whole, ran)
     is_same = (ran.status, ran.out, ran.err) == (whole.status, whole.out, whole.err)
     is_quiet = ran.err == b"" or ran.err == whole.err
     is_other = is_other_reason if command == "verify" else is_other_run
-    is_well = is_quiet and (is_same or is_out or is_other(it.program, it.words, whole, ran))
+    is_well = is_quiet and (is_same or is_out or is_other(refusal.program, refusal.words, whole, ran))
     return is_out, ran.out, None if is_well else ran
 
 
@@ -196,19 +196,19 @@ def refused_memory(program, report):
             whole, count, _ = program.counts(*case.words)
             report.holds(f"memory: {case.name}: with ample memory", whole.status >= 0 and count > 0, whole)
             numbers = chosen(count, case.stride)
-            found = pool.map(refuse, [Refusal(program, case.words, at, whole) for at in numbers], chunksize=4)
-            for at, (_, _, wrong) in zip(numbers, found):
+            runs = pool.map(refuse, [Refusal(program, case.words, at, whole) for at in numbers], chunksize=4)
+            for at, (_, _, wrong) in zip(numbers, runs):
                 report.holds(f"memory: {case.name}: allocation {at} of {count} is refused", wrong is None, wrong)
-            report.holds(f"memory: {case.name}: some run is out of memory", any(it for it, _, _ in found))
+            report.holds(f"memory: {case.name}: some run is out of memory", any(is_out for is_out, _, _ in runs))
             if case.words[0] == "search" and whole.out.startswith((b"{", b"; object")) and b"[]" not in whole.out:
-                says = any(b": out of memory" in out for _, out, _ in found)
+                says = any(b": out of memory" in out for _, out, _ in runs)
                 report.holds(f"memory: {case.name}: the search itself says that it is out of memory", says)
             if case.words == ONE_CLIENT:
-                says = any(b":type :fail" in out for _, out, _ in found)
+                says = any(b":type :fail" in out for _, out, _ in runs)
                 report.holds(f"memory: {case.name}: some call is refused, and fails in the history", says)
             if case.words[0] == "run":
                 # The logs have room for all calls before the first one, so no client stops at a call.
-                stopped = [at for at, (_, out, _) in zip(numbers, found) if has_pending_call(out)]
+                stopped = [at for at, (_, out, _) in zip(numbers, runs) if has_pending_call(out)]
                 report.holds(f"memory: {case.name}: no client stops at a call", not stopped, stopped)
             tried += len(numbers)
     return f"{tried} allocations refused"
@@ -259,8 +259,8 @@ def events_of(*calls):
     lines = []
     for kind in ("invoke", "ok"):
         for process, (f, value, reply) in enumerate(calls):
-            said = value if kind == "invoke" else reply
-            lines.append(f"{{:process {process}, :type :{kind}, :f :{f}, :value {said}}}")
+            shown = value if kind == "invoke" else reply
+            lines.append(f"{{:process {process}, :type :{kind}, :f :{f}, :value {shown}}}")
     return lines
 
 

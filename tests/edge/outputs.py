@@ -72,12 +72,12 @@ CLAIMS = (worked_rows.order(1, 0, 4), worked_rows.TWO_OF_THREE, worked_evidence.
 def cut_rows():
     """Rows whose outputs are cut after each of their bytes: findings, verifications, records, and one of each other command. In a judgement the
     output of the finder would be cut too."""
-    given = [it for it in worked_evidence.ROWS if it.words[0] == "verify" and it.texts[1] in (*CLAIMS, "7")]
-    given += [it for it in worked_rows.SIMULATIONS if it.texts[0] in (worked_rows.SERVED_BY_ANOTHER, "")]
-    given += [it for it in schedules.ROWS if it.out == schedules.TWO_CLIENTS]
-    for it in (*worked_rows.FINDINGS, *given):
-        if len(it.texts[0]) < 2000:
-            yield it.words, it.files(), it.out
+    rows = [row for row in worked_evidence.ROWS if row.words[0] == "verify" and row.texts[1] in (*CLAIMS, "7")]
+    rows += [row for row in worked_rows.SIMULATIONS if row.texts[0] in (worked_rows.SERVED_BY_ANOTHER, "")]
+    rows += [row for row in schedules.ROWS if row.out == schedules.TWO_CLIENTS]
+    for row in (*worked_rows.FINDINGS, *rows):
+        if len(row.texts[0]) < 2000:
+            yield row.words, row.files(), row.out
     yield ("run", "--kind", "mutex", "--clients", "1", "--calls", "5"), (), MUTEX_TWICE
     for words, files, out, _ in proved_runs():
         if words[0] in ("check", "search", "refute"):
@@ -120,8 +120,8 @@ def no_thread(program, report):
     program.write(EVIDENCE, worked_rows.TWO_ORDERS)
     report.answers("verify: no thread can be started", program.run("verify", HISTORY, EVIDENCE, **how), worked_rows.QUEUES_YES, 0)
     ran = program.run("judge", HISTORY, **how)
-    said = b"fcbench: the verifier cannot be started: "
-    report.holds("judge: no process can be started", (ran.status, ran.out) == (70, b"") and ran.err.startswith(said), ran)
+    message = b"fcbench: the verifier cannot be started: "
+    report.holds("judge: no process can be started", (ran.status, ran.out) == (70, b"") and ran.err.startswith(message), ran)
 
 
 PARTS = (failing_output, output_cut_short, beginnings_of_output, short_writes, no_thread)

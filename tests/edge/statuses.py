@@ -135,7 +135,7 @@ EXAMPLES = {
     "import": [
         (0, ("import", HISTORY)),
         (4, ("import", "--names", "missing/names.edn", HISTORY)),
-        *(it for it in of_files("import") if it[0] != 2),
+        *(row for row in of_files("import") if row[0] != 2),
         (2, ("import", REASONS)),
     ],
     "run": [
@@ -186,7 +186,7 @@ def each_status(program, report):
     table = dict(in_table())
     report.equal("statuses: the commands of the table", list(EXAMPLES), list(table))
     for command, examples in EXAMPLES.items():
-        report.equal(f"statuses: those of {command} that have an example", table.get(command), {it[0] for it in examples})
+        report.equal(f"statuses: those of {command} that have an example", table.get(command), {row[0] for row in examples})
         for status, words, *how in examples:
             if words is None:
                 continue

@@ -52,7 +52,7 @@ def on_terminal(program, words, got=None):
         reader.join()
     finally:
         os.close(own)
-    ran = Ran(started.returncode, out, b"".join(it for _, it in got), seconds)
+    ran = Ran(started.returncode, out, b"".join(part for _, part in got), seconds)
     return ran, [at - begun for at, _ in got]
 
 
@@ -100,7 +100,7 @@ def short_command(program, report):
         while len(there) < FEWEST or len(there) < TRIES and more >= MOST:
             elsewhere.append(program.run(*words))
             there.append(on_terminal(program, words)[0])
-            more = min(it.seconds for it in there) - min(it.seconds for it in elsewhere)
+            more = min(run.seconds for run in there) - min(run.seconds for run in elsewhere)
         report.equal(f"{words[0]}: a short command is answered alike on a terminal", [elsewhere[0]] * len(there), there)
         report.holds(f"{words[0]}: a short command takes no longer on a terminal", more < MOST, more)
 

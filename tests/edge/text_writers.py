@@ -1,13 +1,13 @@
 """Writes histories, certificates and schedules in the formats that the program reads."""
 
 
-def value(it):
+def value(content):
     """A value as EDN: an integer, nil, false, true, or a vector of integers."""
-    if it is None:
+    if content is None:
         return "nil"
-    if isinstance(it, bool):
-        return str(it).lower()
-    return f"[{' '.join(map(str, it))}]" if isinstance(it, tuple) else str(it)
+    if isinstance(content, bool):
+        return str(content).lower()
+    return f"[{' '.join(map(str, content))}]" if isinstance(content, tuple) else str(content)
 
 
 def operation_map(event_type, process, f, argument, on):
@@ -34,16 +34,16 @@ def info(process, f, of=None, on=None):
 
 def lines(*those):
     """The lines of a text, each ended by a line feed."""
-    return "".join(f"{it}\n" for it in those)
+    return "".join(f"{line}\n" for line in those)
 
 
 def one_process(*calls):
     """A history of one process, in which each call (f, argument, reply) is completed at once."""
-    return lines(*[it for f, of, reply in calls for it in (invoke(0, f, of), ok(0, f, reply))])
+    return lines(*[event for f, of, reply in calls for event in (invoke(0, f, of), ok(0, f, reply))])
 
 
 def certificate(on, *entries):
-    return f"{{:object {on}, :order [{' '.join(str(it) for it in entries)}]}}"
+    return f"{{:object {on}, :order [{' '.join(str(entry) for entry in entries)}]}}"
 
 
 def order(*entries):

@@ -19,7 +19,7 @@ def processor_seconds(program, *words):
 
 def loop_seconds():
     begun = time.thread_time()
-    sum(it * it % 7 for it in range(200_000))
+    sum(number * number % 7 for number in range(200_000))
     return time.thread_time() - begun
 
 

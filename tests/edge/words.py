@@ -170,7 +170,7 @@ REFUSED = (
     (),
     ("check", "h.edn", "c.edn", "--workers", ""),
     ("run", "--kind", ""),
-    *[tuple(it.split()) for it in REFUSED_LINES.strip().splitlines()],
+    *[tuple(line.split()) for line in REFUSED_LINES.strip().splitlines()],
 )
 
 # Words by which the tools refuse a command line, for the words that are wrong in it.
@@ -292,7 +292,7 @@ def files_in_pages(program, report):
     """If a page names the files of a command, it uses the names of the help."""
     for page in sorted(("README.md", *[f"docs/{name}" for name in os.listdir(f"{ROOT}/docs") if name.endswith(".md")])):
         with open(f"{ROOT}/{page}") as file:
-            named = [it for it in WITH_FILES.findall(file.read()) if it[0] in (*COMMANDS, *OF_TOOLS)]
+            named = [words for words in WITH_FILES.findall(file.read()) if words[0] in (*COMMANDS, *OF_TOOLS)]
         for command, files in named:
             usage = re.search(rf"Usage: fcbench {command}(?: \[OPTIONS\])?([^\n]*)", program.run(command, "--help").out.decode())[1]
             all_of_them, needed = re.findall(r"[A-Z]+", usage), re.findall(r"<([A-Z]+)>", usage)
@@ -305,7 +305,7 @@ def help_texts(program, report):
         ran = program.run(*words)
         is_well = ran.status == 0 and ran.err == b"" and ran.out.endswith(b"\n")
         report.holds(f"{words[0]} is help", is_well, ran)
-        lacks = [it for it in COMMANDS if f"\n  {it} ".encode() not in ran.out]
+        lacks = [command for command in COMMANDS if f"\n  {command} ".encode() not in ran.out]
         report.equal(f"{words[0]} names each command", [], lacks, ran.out)
     options = {"check": ("--workers",), "search": ("--steps", "--first"), "refute": ("--steps",)}
     options["run"] = ("--kind", "--objects", "--clients", "--calls", "--seed")
@@ -321,7 +321,7 @@ def help_texts(program, report):
     options["import"] = ("--names", "--independent", "--fail-is-reply", "--check-owners", "--owners", "--initial")
     for command in (*COMMANDS, *OF_TOOLS):
         ran = program.run(command, "--help")
-        lacks = [it for it in options.get(command, ()) if it.encode() not in ran.out]
+        lacks = [option for option in options.get(command, ()) if option.encode() not in ran.out]
         is_well = (ran.status, ran.err, lacks) == (0, b"", [])
         report.holds(f"{command} --help names its options", is_well, ran)
 
@@ -331,9 +331,9 @@ def version(program, report):
     with open(f"{ROOT}/CHANGELOG.md", encoding="utf-8") as changelog:
         newest = re.search(r"^## (\d+\.\d+\.\d+), .*\n\nProved by Rattle logic `([0-9a-f]+)`", changelog.read(), re.M)
     report.holds("version: the changelog has one", newest)
-    said = f"fcbench {newest[1]}, proved by Rattle logic {newest[2]}\n"
+    line = f"fcbench {newest[1]}, proved by Rattle logic {newest[2]}\n"
     for words in (("--version",), ("-V",)):
-        report.answers(f"version: {words[0]}", program.run(*words), said, 0)
+        report.answers(f"version: {words[0]}", program.run(*words), line, 0)
     with open(f"{os.path.dirname(os.path.realpath(shutil.which('rt')))}/../KIT-ID", encoding="utf-8") as kit:
         report.holds("version: the kit", newest[2] in kit.read())
 
@@ -365,18 +365,18 @@ def refused_words_are_named(program, report):
         ran = subprocess.run([program.tools, *words], cwd=program.folder, capture_output=True, text=True)
         first, *more = ran.stderr.splitlines()
         usage = f"Usage: fcbench {words[0]} [OPTIONS] <HISTORY>" if words and words[0] in OF_TOOLS else "Usage: fcbench <COMMAND>"
-        is_well = first.startswith("error: ") and says in first and any(it.startswith(usage) for it in more)
+        is_well = first.startswith("error: ") and says in first and any(further.startswith(usage) for further in more)
         report.holds(f"refused: {line or 'no word'}: {says}", (ran.returncode, ran.stdout) == (64, "") and is_well, ran)
 
 
 def bad_words_are_told(program, report):
     """If an option takes one of some words, and is given another, the error names the option and the words that it takes."""
     kinds = "queue, stack, heap, register, map, mutex, set, counter, lock, mixed"
-    for words, said in (
+    for words, message in (
         (("run", "--kind", "tree"), f"error: --kind takes one of the words {kinds}\n"),
         (("search", "h.edn", "--first", "value"), "error: --first takes one of the words number, return\n"),
     ):
-        report.answers(f"refused: {' '.join(words)}: what it says", program.run(*words), "", 64, said)
+        report.answers(f"refused: {' '.join(words)}: what it says", program.run(*words), "", 64, message)
 
 
 def not_utf_8(program, report):
@@ -415,16 +415,16 @@ def dispatched(program, report):
     script = lambda *words: subprocess.run([DISPATCH, *words], cwd=program.folder, env=env, capture_output=True)  # noqa: E731
     lines = [("judge", HISTORY), ("find", HISTORY), ("draw", HISTORY), ("search", HISTORY), ("verify", HISTORY, CERTIFICATES)]
     lines += [("check", HISTORY, CERTIFICATES), ("judge",), ("check",), ("--version",)]
-    lines += [(it, "--help") for it in (*COMMANDS, *OF_TOOLS)]
+    lines += [(command, "--help") for command in (*COMMANDS, *OF_TOOLS)]
     for words in lines:
         direct, ran = program.run(*words), script(*words)
         report.equal(f"fcbench.sh {' '.join(words)}", (direct.status, direct.out, direct.err), (ran.returncode, ran.stdout, ran.stderr))
     for words in (("--help",), ("-h",), ("help",)):
         ran = script(*words)
-        lacks = [it for it in (*COMMANDS, *OF_TOOLS) if f"\n  {it} ".encode() not in ran.stdout]
+        lacks = [command for command in (*COMMANDS, *OF_TOOLS) if f"\n  {command} ".encode() not in ran.stdout]
         report.equal(f"fcbench.sh {words[0]} names each command", (0, []), (ran.returncode, lacks), ran.stdout)
     ran = script()
-    lacks = [it for it in (*COMMANDS, *OF_TOOLS) if f"\n  {it} ".encode() not in ran.stderr]
+    lacks = [command for command in (*COMMANDS, *OF_TOOLS) if f"\n  {command} ".encode() not in ran.stderr]
     is_refused = (ran.returncode, ran.stdout, lacks) == (64, b"", []) and ran.stderr.startswith(b"error: a command is missing\n")
     report.holds("fcbench.sh without a word names each command", is_refused, ran)
     shown = script("--help").stdout

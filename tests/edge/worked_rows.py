@@ -138,9 +138,9 @@ BAG_WITH_EQUALS = one_process(
 # Twelve writes overlap, and the first comes last: else a cas would find its value. The finder gives up before it finds that.
 WRITERS = range(12)
 FIRST_WRITE_LAST = lines(
-    *[invoke(it, "write", it + 1) for it in WRITERS],
-    *[ok(it, "write", it + 1) for it in WRITERS],
-    *[it for of in WRITERS[1:] for it in (invoke(0, "cas", (of + 1, 99)), ok(0, "cas", False))],
+    *[invoke(process, "write", process + 1) for process in WRITERS],
+    *[ok(process, "write", process + 1) for process in WRITERS],
+    *[event for of in WRITERS[1:] for event in (invoke(0, "cas", (of + 1, 99)), ok(0, "cas", False))],
 )
 
 REGISTER = one_process(("cas", (1, 2), False), ("write", 1, 1), ("cas", (1, 2), (1, 2)), ("read", None, 2))
@@ -201,7 +201,7 @@ ON_THREE_OBJECTS = lines(
 
 LARGEST, LEAST = 9223372036854775807, -9223372036854775808
 # Pending operations, none of which need be in the order, after one that failed.
-PENDING_4096, PENDING_4097 = [FAILED + lines(*[invoke(1 + it, "dequeue") for it in range(count)]) for count in (4096, 4097)]
+PENDING_4096, PENDING_4097 = [FAILED + lines(*[invoke(1 + number, "dequeue") for number in range(count)]) for count in (4096, 4097)]
 TOO_MANY_TO_SEARCH = one_process(*[("enqueue", 1, 1)] * 4097)
 
 
@@ -210,9 +210,9 @@ def refused_swaps(before, writers):
     """Swaps are refused after writes that overlap, though one of their values is there. After many other writes no reason is found for
     that."""
     return one_process(*[("write", 1, 1)] * before) + lines(
-        *[invoke(it, "write", it + 1) for it in range(writers)],
-        *[ok(it, "write", it + 1) for it in range(writers)],
-        *[it for of in range(writers) for it in (invoke(0, "cas", (of + 1, 99)), ok(0, "cas", False))],
+        *[invoke(process, "write", process + 1) for process in range(writers)],
+        *[ok(process, "write", process + 1) for process in range(writers)],
+        *[event for of in range(writers) for event in (invoke(0, "cas", (of + 1, 99)), ok(0, "cas", False))],
     )
 
 
@@ -265,7 +265,7 @@ PUT_BACK = lines(
     step(0, "win", ", :object 0"),
     step(0, "pick", ", :row 0"),
     step(0, "put-back"),
-    *[step(0, it) for it in ("answer", "release", "take", "draw")],
+    *[step(0, name) for name in ("answer", "release", "take", "draw")],
     step(1, "draw", ", :object 0, :f :acquire"),
     step(1, "post"),
     step(1, "win", ", :object 0"),
@@ -279,7 +279,7 @@ PUT_BACK = lines(
     step(1, "pick", ", :row 1"),
     step(1, "answer"),
     step(1, "release"),
-    *[step(client, it) for client in (0, 1) for it in ("take", "draw", "end")],
+    *[step(client, name) for client in (0, 1) for name in ("take", "draw", "end")],
 )
 
 PUT_BACK_LINES = """\

@@ -35,12 +35,12 @@ def generated(program, name, words, seed):
     """A history of bench/gen.py with its certificates, and the lines of the verdict."""
     folder = f"{program.folder}/pieces {name}"
     os.makedirs(folder, exist_ok=True)
-    made = [sys.executable, f"{ROOT}/bench/gen.py", "history", folder, *words.split(), "--seed", str(seed)]
-    subprocess.run(made, check=True, stdout=subprocess.DEVNULL)
+    generator = [sys.executable, f"{ROOT}/bench/gen.py", "history", folder, *words.split(), "--seed", str(seed)]
+    subprocess.run(generator, check=True, stdout=subprocess.DEVNULL)
     texts = []
     for file in ("history.edn", "certs.edn", "expect.json"):
-        with open(f"{folder}/{file}", encoding="utf-8") as it:
-            texts.append(it.read())
+        with open(f"{folder}/{file}", encoding="utf-8") as text:
+            texts.append(text.read())
     return texts[0], texts[1], json.loads(texts[2])["check"]
 
 
@@ -48,24 +48,24 @@ def same_with_each(program, report, name, history, certificates, workers=WORKERS
     """The verdict is the same with each number of workers, of check and of verify. Returns the one of a single worker."""
     files = program.write("pieces.history.edn", history), program.write("pieces.certificates.edn", certificates)
     lines = [(command, *files, "--workers", worker) for command in COMMANDS for worker in workers]
-    whole, *others = at_once(lambda it: program.run(*it), lines)
+    whole, *others = at_once(lambda words: program.run(*words), lines)
     report.holds(f"pieces: {name}: one worker", whole.status in (0, 2) and whole.out and not whole.err, whole)
-    for (command, *_, it), ran in zip(lines[1:], others):
-        report.equal(f"pieces: {name}: {command}: {it} workers", whole, ran)
+    for (command, *_, count), ran in zip(lines[1:], others):
+        report.equal(f"pieces: {name}: {command}: {count} workers", whole, ran)
     return whole
 
 
 def in_all(history, certificates):
     """The same with one operation more, on an object of its own: it is the first map and the last one."""
-    head, tail = (f"{{:process {OTHER[0]}, :type :{it}, :f :read, :value nil, :object {OTHER[1]}}}\n" for it in ("invoke", "ok"))
-    later = re.sub(r"(?<=[\[ ])\d+(?=[\] ])", lambda it: str(int(it[0]) + 1), re.sub(r":object (\d+), :order", r":object=\1 :order", certificates))
-    later = later.replace(":object=", ":object ")
+    head, tail = (f"{{:process {OTHER[0]}, :type :{event}, :f :read, :value nil, :object {OTHER[1]}}}\n" for event in ("invoke", "ok"))
+    orders_alone = re.sub(r":object (\d+), :order", r":object=\1 :order", certificates)
+    later = re.sub(r"(?<=[\[ ])\d+(?=[\] ])", lambda entry: str(int(entry[0]) + 1), orders_alone).replace(":object=", ":object ")
     return head + history + tail, f"{later}{{:object {OTHER[1]}, :order [0]}}\n"
 
 
 def each(lines, at, of, change):
     """The lines, of which every n-th is changed, from a place on."""
-    return [change(it) if number >= at and number % of == 0 else it for number, it in enumerate(lines)]
+    return [change(line) if number >= at and number % of == 0 else line for number, line in enumerate(lines)]
 
 
 def spellings(history):
@@ -76,14 +76,14 @@ def spellings(history):
     yield "line ends of two characters", history.replace("\n", "\r\n")
     yield "two maps on a line", re.sub(r"\}\n(?=.*\n.*\n)", "} ", history, count=3_000)
     yield "pairs on lines", "\n".join(" ".join(lines[at : at + 2]) for at in range(0, len(lines), 2))
-    yield "blank lines", text(each(lines, 0, 3, lambda it: f"\n \t,{it}\n"))
-    yield "comments", text(each(lines, 0, 5, lambda it: f"; {{:process 0 \"[\n{it} ; }}]"))
-    yield "some maps on two lines, late", text(each(lines, 2_000, 90, lambda it: it.replace(", :f", ",\n:f")))
-    yield "all maps on two lines, late", text(each(lines, 2_000, 1, lambda it: it.replace(", :f", ",\n:f")))
-    yield "all maps on two lines", text(each(lines, 0, 1, lambda it: it.replace(", :f", ",\n:f")))
-    yield "strings with line feeds", text(each(lines, 2_000, 40, lambda it: it[:-1] + ', :note "a\n{:process 0}\nb"}'))
-    yield "a string of many lines", text(each(lines, 0, 9_000, lambda it: it[:-1] + ', :note "' + "\n}" * 200_000 + '"}'))
-    yield "keys in another order", text(each(lines, 0, 2, lambda it: re.sub(r"\{(:process \S+), (:type \S+),", r"{\2 \1", it)))
+    yield "blank lines", text(each(lines, 0, 3, lambda line: f"\n \t,{line}\n"))
+    yield "comments", text(each(lines, 0, 5, lambda line: f"; {{:process 0 \"[\n{line} ; }}]"))
+    yield "some maps on two lines, late", text(each(lines, 2_000, 90, lambda line: line.replace(", :f", ",\n:f")))
+    yield "all maps on two lines, late", text(each(lines, 2_000, 1, lambda line: line.replace(", :f", ",\n:f")))
+    yield "all maps on two lines", text(each(lines, 0, 1, lambda line: line.replace(", :f", ",\n:f")))
+    yield "strings with line feeds", text(each(lines, 2_000, 40, lambda line: line[:-1] + ', :note "a\n{:process 0}\nb"}'))
+    yield "a string of many lines", text(each(lines, 0, 9_000, lambda line: line[:-1] + ', :note "' + "\n}" * 200_000 + '"}'))
+    yield "keys in another order", text(each(lines, 0, 2, lambda line: re.sub(r"\{(:process \S+), (:type \S+),", r"{\2 \1", line)))
 
 
 def valid_texts_in_pieces(program, report):
@@ -128,11 +128,11 @@ def faults_at_seams(program, report):
 def judgements_of_long_texts(program, report):
     """judge gives the same answer with each number of workers: yes, no, and malformed. Both halves of it read by workers."""
     yes, _, lines = generated(program, "one queue", HISTORIES["one queue"], list(HISTORIES).index("one queue"))
-    no = yes + "".join(f"{{:process {OTHER[0]}, :type :{it}, :f :dequeue, :value {value}}}\n" for it, value in (("invoke", "nil"), ("ok", -1)))
+    no = yes + "".join(f"{{:process {OTHER[0]}, :type :{event}, :f :dequeue, :value {value}}}\n" for event, value in (("invoke", "nil"), ("ok", -1)))
     for name, history, status in (("yes", yes, 0), ("no", no, 1), ("malformed", yes + "{:process 0}\n", 2)):
         report.holds(f"pieces: judge: {name}: is long", len(history) >= LEAST_LENGTH, len(history))
         file = program.write(f"{name}.history.edn", history)
-        one, *others = at_once(lambda it: program.run("judge", file, "--workers", it), WORKERS)
+        one, *others = at_once(lambda count: program.run("judge", file, "--workers", count), WORKERS)
         report.holds(f"pieces: judge: {name}: one worker", one.status == status and one.out and not one.err, one)
         for workers, ran in zip(WORKERS[1:], others):
             report.equal(f"pieces: judge: {name}: {workers} workers", one, ran)

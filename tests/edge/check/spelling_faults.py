@@ -230,7 +230,7 @@ def read_as(program, number, text):
 def texts_are_refused(program, report):
     """Each text with a spelling fault is refused: the fault and its place are named."""
     rows = [*TEXTS, *BROKEN]
-    for (text, fault), those in zip(rows, at_once(lambda it: read_as(program, it, rows[it][0]), range(len(rows)))):
+    for (text, fault), those in zip(rows, at_once(lambda number: read_as(program, number, rows[number][0]), range(len(rows)))):
         for (command, of), ran in zip(AS, those):
             report.answers(f"{command}: {text!r} as {of}", ran, f"malformed {of}: {fault}\n", 2)
 
@@ -252,7 +252,7 @@ def keys_again(program, report):
             rows.append((text + after, f"E5 at byte {place}" if again < keys else None))
     # A text that is read is no history, no certificates and no reasons.
     others = "malformed history: H1 at map 0\n", "malformed certificates: K1 at form 0\n", "malformed reasons: N1 at form 0\n"
-    for (text, fault), those in zip(rows, at_once(lambda it: read_as(program, it, rows[it][0]), range(len(rows)))):
+    for (text, fault), those in zip(rows, at_once(lambda number: read_as(program, number, rows[number][0]), range(len(rows)))):
         for (command, of), other, ran in zip(AS, others, those):
             report.answers(f"{command}: {text[-40:]} as {of}", ran, f"malformed {of}: {fault}\n" if fault else other, 2)
 

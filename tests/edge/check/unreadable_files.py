@@ -27,7 +27,7 @@ def with_each_file(name):
     yield "refute", HISTORY, name
     yield "verify", name, EVIDENCE
     yield "verify", HISTORY, name
-    yield from ((it, name) for it in OF_ONE_FILE)
+    yield from ((command, name) for command in OF_ONE_FILE)
 
 
 def drawn_with(name):
@@ -129,7 +129,7 @@ def failing_reads(program, report):
         each_read_fails(program, report, words, [name for name, _ in files], reads)
         for name, text in files:
             # The middle of a text that comes byte by byte, so that what was read before is not empty.
-            at = len(text) // 2 + sum(len(it) + 1 for other, it in files if other == HISTORY != name)
+            at = len(text) // 2 + sum(len(text_before) + 1 for other, text_before in files if other == HISTORY != name)
             ran = program.run(*words, faults={"READ_AT_MOST": 1, "FAIL_READ_AT": at})
             message = f"fcbench: cannot read {name}\n"
             report.answers(f"{' '.join(words)}, a read fails in the middle of {name}", ran, "", 4, message)
@@ -149,8 +149,8 @@ def failing_reads_of_tools(program, report):
         good = program.run(*words)
         # What the number of processors is comes from a file too.
         runs = [program.run(*words, faults={"FAIL_READ_AT": at}) for at in range(1, MOST_READS + 1)]
-        are_well = [is_named(it, HISTORY) or it.status >= 3 and it.out == b"" or (it.status, it.out) == (good.status, good.out) for it in runs]
-        report.equal(f"{words[0]}: runs in which a read fails, and that are wrong", [], [it for it, is_well in zip(runs, are_well) if not is_well])
+        are_well = [is_named(ran, HISTORY) or ran.status >= 3 and ran.out == b"" or (ran.status, ran.out) == (good.status, good.out) for ran in runs]
+        report.equal(f"{words[0]}: runs in which a read fails, and that are wrong", [], [ran for ran, is_well in zip(runs, are_well) if not is_well])
         report.holds(f"{words[0]}: where it cannot be read the file is named", any(is_named(run, HISTORY) for run in runs), runs)
     failed = 0
     for at in range(1, MOST_READS + 1):
@@ -166,7 +166,7 @@ def failing_reads_of_tools(program, report):
 
 def failing_reads_of_long_texts(program, report):
     """If one read of a long history fails, whichever, the file is named, with one worker and with several: no read is tried again."""
-    maps = "".join(f"{{:process 0, :type :{it}, :f :write, :value {n}}}\n" for n in range(12_000) for it in ("invoke", "ok"))
+    maps = "".join(f"{{:process 0, :type :{event}, :f :write, :value {n}}}\n" for n in range(12_000) for event in ("invoke", "ok"))
     program.write(HISTORY, maps)
     program.write(CERTIFICATES, worked_rows.order(*range(0, 24_000, 2)))
     report.holds("a long history", len(maps) >= 1_000_000, len(maps))
@@ -189,8 +189,8 @@ def in_pieces(program, report):
     # Two programs read the history of judge and draw, so it is no pipe.
     os.mkfifo(f"{program.folder}/pipe.edn")
     for words in (("judge", "pipe.edn"), ("draw", "pipe.edn"), ("judge", "-"), ("draw", "-")):
-        said = f"fcbench: cannot read {words[1]}: it is read twice, so it must be a file and not a pipe\n"
-        report.answers(f"{' '.join(words)}: a pipe", program.run(*words), "", 4, said)
+        message = f"fcbench: cannot read {words[1]}: it is read twice, so it must be a file and not a pipe\n"
+        report.answers(f"{' '.join(words)}: a pipe", program.run(*words), "", 4, message)
     os.remove(f"{program.folder}/pipe.edn")
 
 

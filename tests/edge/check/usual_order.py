@@ -20,7 +20,7 @@ def with_a_note(pairs):
 
 
 def type_first(pairs):
-    return usual(sorted(pairs, key=lambda it: it[0] != ":type"))
+    return usual(sorted(pairs, key=lambda pair: pair[0] != ":type"))
 
 
 def with_a_node(pairs):
@@ -31,8 +31,8 @@ def with_a_node(pairs):
 def index_first(pairs):
     """As Jepsen writes a map."""
     keys = [key.removeprefix(MARK) for key, _ in pairs]
-    more = [it for it in ((":index", "3"), (":time", "44")) if it[0] not in keys]
-    return usual(more + sorted(pairs, key=lambda it: it[0] != ":type"))
+    more = [pair for pair in ((":index", "3"), (":time", "44")) if pair[0] not in keys]
+    return usual(more + sorted(pairs, key=lambda pair: pair[0] != ":type"))
 
 
 def spread(pairs):
@@ -58,7 +58,7 @@ def ok(f, value, more="", process="0"):
 
 def calls(*those):
     """Completed calls (function, argument, reply) of one process."""
-    return [it for f, of, reply in those for it in (invoke(f, of), ok(f, reply))]
+    return [event for f, of, reply in those for event in (invoke(f, of), ok(f, reply))]
 
 
 # Histories that are linearizable, and the number of their operations that did not fail.
@@ -188,7 +188,7 @@ BEFORE = ((0, usual), (4, usual), (12, with_a_note), (80, type_first))
 def earlier(number, form):
     """Complete calls of process 9 on object 9."""
     more = ", :object 9, :time 1"
-    maps = [(invoke, ok)[it % 2]("insert", str(it // 2), more, "9") for it in range(number)]
+    maps = [(invoke, ok)[place % 2]("insert", str(place // 2), more, "9") for place in range(number)]
     return "".join(f"{form(pairs_of(map_text))}\n" for map_text in maps)
 
 
@@ -200,7 +200,8 @@ def rewritten(text, form):
 
 def histories(maps):
     """The maps in each form, after each of what may come before, and how many come before."""
-    return [(earlier(number, before) + "".join(f"{rewritten(it, form)}\n" for it in maps), number) for form in FORMS for number, before in BEFORE]
+    texts = ["".join(f"{rewritten(map_text, form)}\n" for map_text in maps) for form in FORMS]
+    return [(earlier(number, before) + text, number) for text in texts for number, before in BEFORE]
 
 
 def judged(program, texts):
@@ -243,8 +244,8 @@ def broken_texts(program, report):
 
 
 # Certificates of three writes of object 3, at maps 0, 2 and 4, and of one of object 65535, at map 6.
-WRITES = "".join(f"{it}\n" for n in range(3) for it in (invoke("write", n, ", :object 3"), ok("write", n, ", :object 3")))
-WRITES += "".join(f"{it('write', 7, ', :object 65535')}\n" for it in (invoke, ok))
+WRITES = "".join(f"{event}\n" for n in range(3) for event in (invoke("write", n, ", :object 3"), ok("write", n, ", :object 3")))
+WRITES += "".join(f"{event('write', 7, ', :object 65535')}\n" for event in (invoke, ok))
 
 # Orders of object 3, and what the check says of them.
 ORDERS = (
@@ -314,9 +315,9 @@ def orders_in_each_form(program, report):
     rows = list(certificates())
     ran = at_once(lambda n: program.run("check", history, program.write(f"straight.order.{n}.edn", rows[n][0])), range(len(rows)))
     statuses = {"y": 0, "n": 1, "m": 2}
-    for (text, answer), it in zip(rows, ran):
-        begins = it.out.startswith(answer.encode())
-        report.holds(f"check: {text!r}", begins and it.status == statuses[answer[0]] and not it.err, it)
+    for (text, answer), answered in zip(rows, ran):
+        begins = answered.out.startswith(answer.encode())
+        report.holds(f"check: {text!r}", begins and answered.status == statuses[answer[0]] and not answered.err, answered)
 
 
 # The most instructions of a check on maps in a usual order, as a part of those on the same maps with a space after the brace.
@@ -334,15 +335,17 @@ def usual_histories():
 
 def long_orders():
     """A short history, with certificates whose orders are long: places that are named again and again, and as written by `find`."""
-    history = "".join(f"{usual(pairs_of(it))}\n" for it in GOOD[0][0])
+    history = "".join(f"{usual(pairs_of(map_text))}\n" for map_text in GOOD[0][0])
     for entry in ("0", "12345", "999999999"):
         yield history, f"{{:object 0, :order [{' '.join([entry] * 20_000)}]}}\n"
 
 
-def costs_less(program, report, rows):
-    """Whether a check of texts takes at most 0.75 times the instructions that it takes where a space is after each brace of one of them."""
+def costs_less(program, report, pairs):
+    """Whether a check of the first texts of a pair takes at most 0.75 times the instructions that it takes for the second ones, where a space is
+    after each brace of one text."""
     if not shutil.which("valgrind"):
         return "valgrind is missing"
+    rows = [texts for pair in pairs for texts in pair]
 
     def cost(number, history, certificates):
         files = [program.write(f"{name}.{number}.edn", text) for name, text in (("usual", history), ("order", certificates))]
@@ -356,12 +359,14 @@ def costs_less(program, report, rows):
 
 def cost_of_usual_maps(program, report):
     """A check of maps in a usual order, also with an unknown key at the end, costs less than one of maps with a space after each brace."""
-    return costs_less(program, report, [it for history, order in usual_histories() for it in ((history, order), (history.replace("{", "{ "), order))])
+    pairs = [((history, order), (history.replace("{", "{ "), order)) for history, order in usual_histories()]
+    return costs_less(program, report, pairs)
 
 
 def cost_of_usual_orders(program, report):
     """A check with a certificate in the usual form costs less than with one in another form."""
-    return costs_less(program, report, [it for history, order in long_orders() for it in ((history, order), (history, order.replace("{", "{ ")))])
+    pairs = [((history, order), (history, order.replace("{", "{ "))) for history, order in long_orders()]
+    return costs_less(program, report, pairs)
 
 
 PARTS = (cost_of_usual_maps, cost_of_usual_orders, good_histories, bad_histories, faulty_histories, broken_texts, orders_in_each_form)

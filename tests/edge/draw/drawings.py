@@ -61,17 +61,17 @@ def answer_of(case, told):
 
 
 def code_of(told):
-    found = re.match(rb"no: (C\d)", told.out)
-    return found[1].decode() if found else None
+    match = re.match(rb"no: (C\d)", told.out)
+    return match[1].decode() if match else None
 
 
 def refused_rank(case, told):
     """The rank of the entry that check refuses, by the order that it was given."""
     line = told.out.decode()
-    found = re.match(r"no: C[34569] object (\d+): (-?\d+)", line)
-    if not found:
+    match = re.match(r"no: C[34569] object (\d+): (-?\d+)", line)
+    if not match:
         return None
-    order, number = orders_of(case.certificates)[int(found[1])], int(found[2])
+    order, number = orders_of(case.certificates)[int(match[1])], int(match[2])
     first = order.index(number)
     return (order.index(number, first + 1) if "C4" in line else first) + 1
 
@@ -106,7 +106,7 @@ COUNTED_AS = " What follows “counted as” is all that it uses of the operatio
 
 def why_note_false(page):
     """What is false of the note that says what the lines of a reason are, or None."""
-    notes = [pages.spelled(it) for it in page.body.find("header").findall("p") if "note" in pages.classes(it)]
+    notes = [pages.spelled(note) for note in page.body.find("header").findall("p") if "note" in pages.classes(note)]
     has_reason = "\n; {:object " in page.lines
     wanted = [REASON_LINE + (COUNTED_AS if ", counted as :" in page.lines else "")] if has_reason else []
     return None if notes == wanted else f"the notes on its lines are {notes}, and not {wanted}"
@@ -158,7 +158,7 @@ def checks_of(case, page, told, orders):
 def absent_object(case):
     """What draw says of an object that is asked for and has no operation, or nothing."""
     named = dict(zip(case.options[::2], case.options[1::2])).get("--object")
-    if named is None or int(named) in {it.on for it in histories.calls_of(text_of(case.history))[0].values()}:
+    if named is None or int(named) in {call.on for call in histories.calls_of(text_of(case.history))[0].values()}:
         return b""
     return f"fcbench: warning: --object {named}: the history has no such object\n".encode()
 
@@ -176,7 +176,7 @@ def shown_of(case, page, told, orders):
     if page.answer == "open":
         # The longest order is that of the table, which is checked.
         orders = page.orders()
-    stretch = [int(options[it]) if it in options else None for it in ("--from", "--to")]
+    stretch = [int(options[option]) if option in options else None for option in ("--from", "--to")]
     return tables_and_boxes.Shown(page, text_of(case.history), orders, told.out.decode(), stretch)
 
 
@@ -230,10 +230,10 @@ def found_in_browser(program, report, wanted):
     # What was found until the time was over is told.
     line = ["timeout", str(10 * SECONDS), "node", "--experimental-websocket", CHECKS, cases]
     ran = subprocess.run(line, cwd=program.folder, capture_output=True, text=True)
-    found = [(it["file"], it["bad"]) for it in map(json.loads, ran.stdout.splitlines())]
-    missing = {it["file"] for it in wanted} - {file for file, _ in found}
+    on_pages = [(row["file"], row["bad"]) for row in map(json.loads, ran.stdout.splitlines())]
+    missing = {page["file"] for page in wanted} - {file for file, _ in on_pages}
     report.equal("draw: pages at which the browser has not looked", set(), missing, ran.stderr[-2000:])
-    return found
+    return on_pages
 
 
 # A proved program to which an allocation is refused.
@@ -264,9 +264,9 @@ def drawn_pages(program, report):
     """draw ends with the status of judge or check in each situation, and its page is as it must be, in the browser too."""
     cases = (*situations(program), *options_and_faults(), *hostile(), *extreme(), forty_objects(), many_objects())
     wanted = [*at_once(lambda case: look(program, report, case), cases), page_without_memory(program, report)]
-    answers = {it["answer"] for it in wanted if it}
+    answers = {page["answer"] for page in wanted if page}
     report.equal("draw: there is a page of each answer", {"yes", "no", "impossible", "open", "malformed", "memory"}, answers)
-    in_browser(program, report, [it for it in wanted if it])
+    in_browser(program, report, [page for page in wanted if page])
     return f"{len(wanted)} pages"
 
 
@@ -291,7 +291,7 @@ def drawn_sentences(program, report):
         said.update(forms)
         report.equal(f"draw: {case.name}", None, why, case)
         wrong += why is not None
-    few = {it: counts[it] for it in VERDICTS if counts[it] < OF_EACH}
+    few = {verdict: counts[verdict] for verdict in VERDICTS if counts[verdict] < OF_EACH}
     report.equal("draw: of these verdicts there are too few generated histories", {}, few)
     forms = [*sentences.FORMS, "general", *sentences.ENDINGS, *[f"aside {number}" for number in range(len(sentences.ASIDES))]]
     # A range of first events is said only of histories that are too long for all their beginnings to be tried.
@@ -361,7 +361,8 @@ FALSIFIED = {
             (" 32</text>", " 33</text>"),
             ("32 maps left out, with 15 operations", "32 maps left out, with 14 operations"),
             (
-                '<g class="gap"><title>32 maps left out, with 15 operations</title><rect x="163" y="18" width="36" height="58"/><text x="181" y="12">⋯ 32</text></g>',
+                '<g class="gap"><title>32 maps left out, with 15 operations</title><rect x="163" y="18" width="36" height="58"/>'
+                '<text x="181" y="12">⋯ 32</text></g>',
                 "",
             ),
         ),
@@ -381,8 +382,8 @@ FALSIFIED = {
         ),
         "tried": (
             (
-                '<tr><th scope="row">1</th><td></td><td><code>held</code></td><td><a class="ref" href="#o766"><b>#766</b> <code>acquire</code></a></td>'
-                "<td>is not possible</td></tr>",
+                '<tr><th scope="row">1</th><td></td><td><code>held</code></td><td><a class="ref" href="#o766"><b>#766</b> '
+                "<code>acquire</code></a></td><td>is not possible</td></tr>",
                 "",
             ),
             ("<td><code>held</code></td>", "<td><code>free</code></td>"),
@@ -460,7 +461,10 @@ FALSIFIED_PAST_END = {
     "sentences points rows": (("the sum has more than 64 bits", "the sum has more than 63 bits"),),
 }
 FALSIFIED_LOCK = {
-    "sentences": (("is unlocked only by its owner", "is locked only while it is free"), ("the lock is held there, by", "the lock is free there, since")),
+    "sentences": (
+        ("is unlocked only by its owner", "is locked only while it is free"),
+        ("the lock is held there, by", "the lock is free there, since"),
+    ),
     "boxes": (('y="19">3</text>', 'y="19">4</text>'),),
     "rows": (("<td><code>3</code></td>", "<td><code>held</code></td>"),),
     "legend": (("</svg> releases</li>", "</svg> takes out</li>"),),
@@ -469,8 +473,8 @@ FALSIFIED_LOCK = {
 FALSIFIED_LOCK_RELEASED = {
     "tried": (
         (
-            '<tr><th scope="row">2</th><td></td><td><code>held by another</code></td><td><a class="ref" href="#o2"><b>#2</b> <code>unlock 1</code></a></td>'
-            "<td>is not possible</td></tr>\n",
+            '<tr><th scope="row">2</th><td></td><td><code>held by another</code></td><td><a class="ref" href="#o2"><b>#2</b> '
+            "<code>unlock 1</code></a></td><td>is not possible</td></tr>\n",
             "",
         ),
         ("<span>Every order breaks. All 3 ways", "<span>Every order breaks. Both ways"),
@@ -563,10 +567,10 @@ def falsified_styles(program, report):
         page, told, _ = drawn[name]
         path = f"{program.folder}/{program.write(f'style {number}.html', page.out.replace(b'</style>', style.encode() + b'</style>', 1))}"
         wanted[path] = (style, words, wanted_of(cases[name], told, path))
-    for file, bad in found_in_browser(program, report, [it for _, _, it in wanted.values()]):
+    for file, bad in found_in_browser(program, report, [looked for _, _, looked in wanted.values()]):
         style, words, _ = wanted[file]
-        found = [re.sub(r"^(wide|phone|paper|light|dark|\d+ pixels): ", "", it) for it in bad]
-        report.holds(f"draw: {style}: what the browser finds", bad and all(re.fullmatch(words, it) for it in found), bad)
+        faults = [re.sub(r"^(wide|phone|paper|light|dark|\d+ pixels): ", "", fault) for fault in bad]
+        report.holds(f"draw: {style}: what the browser finds", bad and all(re.fullmatch(words, fault) for fault in faults), bad)
 
 
 # ---- large ones
@@ -574,22 +578,22 @@ def falsified_styles(program, report):
 
 def rounds(processes, maps, on=None):
     """A history of a queue of n maps: in rounds each process puts a value in, and then takes the values out in their order."""
-    made, order, value = [], [], 0
-    while len(made) < maps:
-        count = min(processes, (maps - len(made)) // 4)
-        begun, values = len(made), range(value, value + count)
-        made += [text_writers.invoke(number, "enqueue", value + number, on) for number in range(count)]
-        made += [text_writers.ok(number, "enqueue", value + number, on) for number in range(count)]
-        made += [text_writers.invoke(number, "dequeue", None, on) for number in range(count)]
-        made += [text_writers.ok(it, "dequeue", own, on) for it, own in enumerate(values)]
+    events, order, value = [], [], 0
+    while len(events) < maps:
+        count = min(processes, (maps - len(events)) // 4)
+        begun, values = len(events), range(value, value + count)
+        events += [text_writers.invoke(number, "enqueue", value + number, on) for number in range(count)]
+        events += [text_writers.ok(number, "enqueue", value + number, on) for number in range(count)]
+        events += [text_writers.invoke(number, "dequeue", None, on) for number in range(count)]
+        events += [text_writers.ok(process, "dequeue", own, on) for process, own in enumerate(values)]
         order += [*range(begun, begun + count), *range(begun + 2 * count, begun + 3 * count)]
         value += count
-    return made, order
+    return events, order
 
 
 def with_wrong_reply(maps, at):
     """The history in which the first value that is taken out from a map on is another."""
-    number = next(it for it in range(at, len(maps)) if ":ok" in maps[it] and ":dequeue" in maps[it])
+    number = next(place for place in range(at, len(maps)) if ":ok" in maps[place] and ":dequeue" in maps[place])
     return [*maps[:number], maps[number].replace(":value ", ":value 9"), *maps[number + 1 :]]
 
 
@@ -640,7 +644,7 @@ def large_cases():
     yield Case("1 000 processes, one wrong", text_writers.lines(*with_wrong_reply(maps, 20_000)), text_writers.order(*order), says=("c6",))
     yield Case("1 000 processes without an order", text_writers.lines(*with_value_twice(maps, 20_000)), says=("too_often",))
     yield Case("a reason of 4 000 operations", of_two_values(2_000, 12), reads=False, says=("general",))
-    many = [it for on in range(65_536) for it in (text_writers.invoke(0, "push", on, on), text_writers.ok(0, "push", on, on))]
+    many = [event for on in range(65_536) for event in (text_writers.invoke(0, "push", on, on), text_writers.ok(0, "push", on, on))]
     yield Case("65 536 objects", text_writers.lines(*many), reads=False)
     yield Case("65 536 objects, the last one alone", text_writers.lines(*many), None, ("--object", "65535"), reads=False)
 
@@ -648,21 +652,21 @@ def large_cases():
 def large_drawings(program, report):
     """Large histories have pages of at most a megabyte, in the browser too."""
     wanted = [look(program, report, case) for case in large_cases()]
-    in_browser(program, report, [it for it in wanted if it])
+    in_browser(program, report, [page for page in wanted if page])
 
 
 def rounds_of_a_map(processes, maps):
     """A history of a map object of n maps: in rounds each process puts a value under a key of its own, and then gets it."""
-    made, value = [], 0
+    events, value = [], 0
     before = dict.fromkeys(range(processes))
-    while len(made) < maps:
-        made += [text_writers.invoke(number, "put", (number, value + number)) for number in range(processes)]
-        made += [text_writers.ok(number, "put", before[number]) for number in range(processes)]
+    while len(events) < maps:
+        events += [text_writers.invoke(number, "put", (number, value + number)) for number in range(processes)]
+        events += [text_writers.ok(number, "put", before[number]) for number in range(processes)]
         before = {number: value + number for number in range(processes)}
-        made += [text_writers.invoke(number, "get", number) for number in range(processes)]
-        made += [text_writers.ok(number, "get", before[number]) for number in range(processes)]
+        events += [text_writers.invoke(number, "get", number) for number in range(processes)]
+        events += [text_writers.ok(number, "get", before[number]) for number in range(processes)]
         value += processes
-    return made
+    return events
 
 
 def histories_of_cost(maps):

@@ -19,7 +19,7 @@ OF_EACH_FORM = 5
 # Of how many kinds there is a spoilt history with each seed.
 SPOILT = 5
 CONTAINERS = (("enqueue", "dequeue"), ("push", "pop"), ("insert", "extract-min"))
-WITHOUT_TOKENS = tuple(it for it in histories.ALL_FUNCTIONS if it not in histories.TOKENS)
+WITHOUT_TOKENS = tuple(kind for kind in histories.ALL_FUNCTIONS if kind not in histories.TOKENS)
 PUTTERS = (*histories.REPLY_ARGUMENT, *histories.HOLDS, "put", "assoc", "put-if-absent", "create", "add", "fetch-add")
 
 
@@ -63,7 +63,7 @@ def checked(name, made, *options, **more):
 
 def around(maps, word, before, after):
     """The numbers of maps from this many before the first with this word on, to this many after it."""
-    at = next(number for number, it in enumerate(maps) if word in it)
+    at = next(number for number, map_text in enumerate(maps) if word in map_text)
     return str(at - before), str(at + after)
 
 
@@ -103,8 +103,8 @@ def paused_map():
 
 def orders_of(certificates):
     """The orders in a text of certificates, by their objects."""
-    found = re.findall(r"\{:object (\d+), :order \[([^\]]*)\]", certificates.decode() if isinstance(certificates, bytes) else certificates or "")
-    return {int(on): [int(number) for number in order.split()] for on, order in found}
+    orders = re.findall(r"\{:object (\d+), :order \[([^\]]*)\]", certificates.decode() if isinstance(certificates, bytes) else certificates or "")
+    return {int(on): [int(number) for number in order.split()] for on, order in orders}
 
 
 def found_orders(program, name, history):
@@ -120,7 +120,7 @@ WRONG_TURN = text_writers.one_process(
     ("dequeue", None, 3),
     ("dequeue", None, 2),
 )
-WRONG_REPLY_OF_A_QUEUE = text_writers.one_process(*[("enqueue", it, it) for it in range(20)], ("dequeue", None, 7))
+WRONG_REPLY_OF_A_QUEUE = text_writers.one_process(*[("enqueue", number, number) for number in range(20)], ("dequeue", None, 7))
 WRONG_REPLY_OF_A_MAP = text_writers.one_process(("put", (1, 10), None), ("put", (2, 20), None), ("get", 1, 20))
 # The only one that puts in what the operation returned is the operation.
 OWN_VALUE_OF_A_CAS = text_writers.one_process(("write", 1, 1), ("cas", (5, 5), (5, 5)))
@@ -151,7 +151,11 @@ BUSY = text_writers.lines(
     text_writers.invoke(0, "write", 3),
     text_writers.ok(0, "read", 1),
 )
-NOT_CLOSED = "{:process 0, :type :invoke, :f :enqueue, :value 1}\n{:process 0, :type :ok, :f :enqueue, :value 1\n{:process 0, :type :invoke, :f :dequeue}\n"
+NOT_CLOSED = text_writers.lines(
+    "{:process 0, :type :invoke, :f :enqueue, :value 1}",
+    "{:process 0, :type :ok, :f :enqueue, :value 1",
+    "{:process 0, :type :invoke, :f :dequeue}",
+)
 MIXED = ("queue", "stack", "heap", "register", "map") * 2
 
 
@@ -174,7 +178,7 @@ def comes_too_late():
     """A queue whose order has an entry before one that had returned."""
     queue = played(("queue",), 600, 4)
     calls, _ = histories.calls_of(queue.text())
-    return Case("an entry that comes too late", queue.text(), queue.certificates(lambda it: too_late(calls, it)), says=("c5",))
+    return Case("an entry that comes too late", queue.text(), queue.certificates(lambda order: too_late(calls, order)), says=("c5",))
 
 
 def never_put():
@@ -201,7 +205,7 @@ def of_no(program):
     yield Case("a map that was paused, in a spoilt order", paused, text_writers.order(*order), says=("c6",))
     mutex = played(("mutex",), 400, 4)
     calls, _ = histories.calls_of(mutex.text())
-    order = mutex.certificates(lambda it: without_acquire(calls, it, 198))
+    order = mutex.certificates(lambda entries: without_acquire(calls, entries, 198))
     yield Case("a mutex of 400 without an acquire", mutex.text(), order, says=("c9 free since",))
     yield Case("a queue gives another value", WRONG_REPLY_OF_A_QUEUE, text_writers.order(*range(0, 42, 2)), says=("c6 turn",))
     yield Case("a map gives another value", WRONG_REPLY_OF_A_MAP, text_writers.order(0, 2, 4))
@@ -225,7 +229,7 @@ def of_two_values(count, processes, put="enqueue", take="dequeue"):
     taken = values[::-1] if take == "pop" else list(values)
     at = next(number for number in range(count // 2, count) if taken[number] != taken[number + 1])
     taken[at], taken[at + 1] = taken[at + 1], taken[at]
-    calls = [(put, value, value) for value in values] + [(take, None, it) for it in taken]
+    calls = [(put, value, value) for value in values] + [(take, None, reply) for reply in taken]
     return text_writers.lines(*[line for place, call in enumerate(calls) for line in one_call(place % processes, *call)])
 
 
@@ -336,8 +340,8 @@ def options_and_faults():
 
 def hostile():
     """Texts with markup, quotes, wide characters and control characters, in places where a text may have them."""
-    said = '"</script><script>alert(1)</script>&amp;\u202e\u3042\U0001f600\\n"'
-    note = f":note {said}, :error [:{'k' * 64} \"{'x' * 100_000}\"]"
+    markup = '"</script><script>alert(1)</script>&amp;\u202e\u3042\U0001f600\\n"'
+    note = f":note {markup}, :error [:{'k' * 64} \"{'x' * 100_000}\"]"
     history = f"{{:process 0, :type :invoke, :f :enqueue, :value {GREATEST}, {note}}}\n{{:process 0, :type :ok, :f :enqueue, :value {GREATEST}}}\n"
     history += f"{{:process {GREATEST}, :type :invoke, :f :dequeue}}\n{{:process {GREATEST}, :type :info, :f :dequeue}}\n"
     history += f"{{:process :{'n' * 64}, :type :info, :f :{'f' * 64}}}\n"
@@ -351,9 +355,10 @@ def hostile():
     )
     yield Case("long numbers of processes", both, text_writers.order(0, 2))
     yield Case("a faulty map of a process with a long number", both + text_writers.lines(text_writers.ok(GREATEST - 1, "pop", 1)))
-    bad = f"; {said}\n{{:process 0, :type :invoke, :f :pop, :note {said[:-1]}\x1b\t<b>\"}}\n{{:process 0, :type :invoke, :f :pop, :note {said[:-1]}\x1b\t<b>\"}}\n"
+    invoked_with_note = f"{{:process 0, :type :invoke, :f :pop, :note {markup[:-1]}\x1b\t<b>\"}}"
+    bad = text_writers.lines(f"; {markup}", invoked_with_note, invoked_with_note)
     yield Case("a faulty map with markup", bad, shows=shows)
-    yield Case("a fault in a line of markup", f"{{:process {said} <b>}}\n", shows=("</script><script>alert(1)</script>&amp;",))
+    yield Case("a fault in a line of markup", f"{{:process {markup} <b>}}\n", shows=("</script><script>alert(1)</script>&amp;",))
     yield Case("a text that is not UTF-8", b"{:process 0, :note \"\xff<b>\"}", shows=("\\xff<b>",))
     yield Case("a very long line", "[" * 16 + " " * 5000 + "x" * 5000 + "\n" * 3, shows=("…",))
 
@@ -412,7 +417,7 @@ def mutated(rng, made, code):
     """Certificates for a made history that check refuses with this code, where it can be made so."""
     order = list(made.order)
     calls, _ = histories.calls_of(made.text())
-    done = [it for it in order if calls[it].end == "ok"]
+    done = [number for number in order if calls[number].end == "ok"]
     if code == "C1" or not order or not done:
         return ""
     place = rng.randrange(len(order))
@@ -421,7 +426,7 @@ def mutated(rng, made, code):
     if code == "C3":
         numbers = [-1, len(made.maps) + 5]
         numbers += [call.at for call in calls.values() if call.at is not None]
-        numbers += [number for number, it in calls.items() if it.end == "fail"]
+        numbers += [number for number, call in calls.items() if call.end == "fail"]
         order.insert(place, rng.choice(numbers))
     if code == "C4":
         order.insert(rng.randrange(place, len(order)) + 1, order[place])
@@ -436,11 +441,11 @@ def mutated(rng, made, code):
 def without_one(rng, made):
     """The order without one that puts a value in, or with one of these at its end."""
     calls, _ = histories.calls_of(made.text())
-    putters = [it for it in made.order if calls[it].f in PUTTERS]
+    putters = [number for number in made.order if calls[number].f in PUTTERS]
     if not putters:
         return made.order
     gone = rng.choice(putters)
-    return [it for it in made.order if it != gone] + rng.choice(([], [gone]))
+    return [number for number in made.order if number != gone] + rng.choice(([], [gone]))
 
 
 def given_back_twice(seed, takes_hold="acquire"):
@@ -467,9 +472,9 @@ def past_its_end(seed):
     sign, more = rng.choice((1, -1)), rng.randrange(1, less + 1)
     start = GREATEST - rng.randrange(more) if sign > 0 else LEAST + rng.randrange(more)
     first, last = (-sign * less, start), (sign * more, start - sign * less)
-    maps = [*one_call(0, "fetch-add", start, 0), *[text_writers.invoke(it, "fetch-add", amount) for it, (amount, _) in enumerate((first, last))]]
-    maps += [text_writers.ok(it, "fetch-add", found) for it, (_, found) in enumerate((first, last))]
-    return histories.Made("counter", maps, [0, 3, 2])
+    invocations = [text_writers.invoke(process, "fetch-add", amount) for process, (amount, _) in enumerate((first, last))]
+    completions = [text_writers.ok(process, "fetch-add", reply) for process, (_, reply) in enumerate((first, last))]
+    return histories.Made("counter", [*one_call(0, "fetch-add", start, 0), *invocations, *completions], [0, 3, 2])
 
 
 def of_faults():
@@ -505,7 +510,7 @@ def of_several_objects():
     for seed in range(40):
         rng = random.Random(f"several {seed}")
         made = played(rng.sample(WITHOUT_TOKENS, 2), 12, 3, seed=seed, lost=1, refused=1, nemeses=2)
-        numbers = [number for number, it in enumerate(made.maps) if ":nemesis" in it] + made.orders.get(1, [])
+        numbers = [number for number, map_text in enumerate(made.maps) if ":nemesis" in map_text] + made.orders.get(1, [])
         order = list(made.orders.get(0, []))
         order.insert(rng.randrange(len(order) + 1), rng.choice(numbers))
         yield Case(f"several {seed}", made.text(), made.certificates(lambda _, order=order: order))

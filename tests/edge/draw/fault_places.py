@@ -48,7 +48,7 @@ class Faulty:
         if self.code == "E2":
             word = "string" if self.text[slice(*self.marked)] == b'"' else "map"
             return f"Where the {word} was opened"
-        return re.sub(r"byte (\d+)", lambda it: f"byte {grouped(int(it[1]))}", self.line().partition(": ")[2])
+        return re.sub(r"byte (\d+)", lambda match: f"byte {grouped(int(match[1]))}", self.line().partition(": ")[2])
 
 
 class Pieces:
@@ -75,13 +75,13 @@ def outstanding(calls, at):
 
 def idle(calls, at):
     """A process that has nothing outstanding before a map, and that no :info closed."""
-    busy = {it.process for it in calls.values() if it.number < at and (it.at is None or it.at >= at or it.end == "info")}
+    busy = {call.process for call in calls.values() if call.number < at and (call.at is None or call.at >= at or call.end == "info")}
     free = sorted({call.process for call in calls.values() if call.number < at} - busy)
     return int(free[0]) if free else 990
 
 
 def other_function(rng, kind, f):
-    return rng.choice([it for it in ALL_FUNCTIONS[kind] if it != f])
+    return rng.choice([function for function in ALL_FUNCTIONS[kind] if function != f])
 
 
 def argument_of(f):
@@ -122,8 +122,8 @@ def no_operation(rng, made):
             "[1 2 3]",
         )
     )
-    said = " is no operation: its :process, :type, :f or :object is missing or not of the right kind."
-    return whole(rng, "H1", made.maps, at, faulty, said)
+    sentence = " is no operation: its :process, :type, :f or :object is missing or not of the right kind."
+    return whole(rng, "H1", made.maps, at, faulty, sentence)
 
 
 def unknown_function(rng, made):
@@ -138,20 +138,20 @@ def wrong_value(rng, made):
     return whole(rng, "H3", made.maps, at, faulty, " does not fit its :f: it must be what that takes, or returns.")
 
 
-def of_value(it):
+def of_value(fault):
     """The value of a map is what is faulty, and the sentence begins otherwise."""
-    said = tuple(said.replace("no history. Event ", "no history. The :value of event ") for said in it.said)
-    return Faulty(it.code, it.text, it.named, it.marked, said, it.earlier)
+    said = tuple(sentence.replace("no history. Event ", "no history. The :value of event ") for sentence in fault.said)
+    return Faulty(fault.code, fault.text, fault.named, fault.marked, said, fault.earlier)
 
 
 def other_kind(rng, made):
     at = rng.randrange(1, len(made.maps) + 1)
-    kind = rng.choice([it for it in ALL_FUNCTIONS if word_of(it) != word_of(made.kind)])
+    kind = rng.choice([other for other in ALL_FUNCTIONS if word_of(other) != word_of(made.kind)])
     f = ALL_FUNCTIONS[kind][0]
     faulty = text_writers.invoke(991, f, argument_of(f), 0)
     first = before_of(made.maps, at)[0]
-    said = f" calls a function of another kind on an object that ⟨0|{label_of(first)}⟩ made a {word_of(made.kind)}."
-    return whole(rng, "H4", made.maps, at, faulty, said, (0, "The object’s first event, "))
+    sentence = f" calls a function of another kind on an object that ⟨0|{label_of(first)}⟩ made a {word_of(made.kind)}."
+    return whole(rng, "H4", made.maps, at, faulty, sentence, (0, "The object’s first event, "))
 
 
 def busy(rng, made):
@@ -161,8 +161,8 @@ def busy(rng, made):
     call = rng.choice(outstanding(before_of(made.maps, at), at))
     f = rng.choice(ALL_FUNCTIONS[made.kind])
     faulty = text_writers.invoke(call.process, f, argument_of(f), 0)
-    said = f" invokes an operation of process {call.process}, and ⟨{call.number}|{label_of(call)}⟩ of that process is still outstanding."
-    return whole(rng, "H5", made.maps, at, faulty, said, (call.number, "The operation that is outstanding, event "))
+    sentence = f" invokes an operation of process {call.process}, and ⟨{call.number}|{label_of(call)}⟩ of that process is still outstanding."
+    return whole(rng, "H5", made.maps, at, faulty, sentence, (call.number, "The operation that is outstanding, event "))
 
 
 def stray(rng, made):
@@ -179,8 +179,11 @@ def mismatch(rng, made):
     call = rng.choice(outstanding(before_of(made.maps, at), at))
     f = other_function(rng, made.kind, call.f)
     faulty = text_writers.ok(call.process, f, REPLIES.get(f), 0)
-    said = f" completes an operation of process {call.process}, but with another :f or :object than ⟨{call.number}|{label_of(call)}⟩, which is outstanding."
-    return whole(rng, "H7", made.maps, at, faulty, said, (call.number, "What the process invoked, event "))
+    sentence = (
+        f" completes an operation of process {call.process}, but with another :f or :object than ⟨{call.number}|{label_of(call)}⟩, "
+        "which is outstanding."
+    )
+    return whole(rng, "H7", made.maps, at, faulty, sentence, (call.number, "What the process invoked, event "))
 
 
 def after_info(rng, made):
@@ -192,11 +195,11 @@ def after_info(rng, made):
     call = before_of(maps, at)[begun]
     g = rng.choice(ALL_FUNCTIONS[made.kind])
     faulty = text_writers.invoke(992, g, argument_of(g), 0)
-    said = (
+    sentence = (
         f" is of process 992, which the :info at event {call.at} closed: ⟨{call.number}|{label_of(call)}⟩ may have happened or not, so what "
         "it does next must be of another process."
     )
-    return whole(rng, "H8", maps, at, faulty, said, (call.at, "The :info that closed the process, event "))
+    return whole(rng, "H8", maps, at, faulty, sentence, (call.at, "The :info that closed the process, event "))
 
 
 # ---- faults of the text
@@ -223,19 +226,19 @@ def at_token(code, text, at, token, said):
     return Faulty(code, text, at, (at, at + len(token)), (f"The history can’t be read. At byte {grouped(at)} {said}",))
 
 
-def around(it, start, at):
+def around(fault, start, at):
     """With where the map around the fault was opened, if that is in an earlier line."""
-    if it.text[start:at].count(b"\n") == 0:
-        return it
-    line = it.text[:start].count(b"\n") + 1
+    if fault.text[start:at].count(b"\n") == 0:
+        return fault
+    line = fault.text[:start].count(b"\n") + 1
     said = f"The map around it was opened at byte {grouped(start)}, in line {line}. Was it meant to be closed?"
-    return Faulty(it.code, it.text, it.named, it.marked, (*it.said, said), ((start, start + 1), "Where the map around it was opened"))
+    return Faulty(fault.code, fault.text, fault.named, fault.marked, (*fault.said, said), ((start, start + 1), "Where the map around it was opened"))
 
 
 def not_utf8(rng, made):
     text, _, at = in_map(rng, made, ':process 0, :note "a', rng.choice((b"\xff", b"\xc3", b"\x80")), 'b"}')
-    said = f"The history can’t be read. The text is not UTF-8: no whole character begins at byte {grouped(at)}."
-    return Faulty("E1", text, at, (at, at + 1), (said,))
+    sentence = f"The history can’t be read. The text is not UTF-8: no whole character begins at byte {grouped(at)}."
+    return Faulty("E1", text, at, (at, at + 1), (sentence,))
 
 
 def cut(rng, made):
@@ -244,19 +247,19 @@ def cut(rng, made):
     text = text[: at + (4 if is_string else 8)]
     opened, start = ("string", at + 1) if is_string else ("map", start)
     line = text[:start].count(b"\n") + 1
-    said = (
+    sentence = (
         f"The history can’t be read. The text ends inside a {opened}, at byte {grouped(len(text))}. It was opened at byte {grouped(start)}, "
         f"in line {line}."
     )
     end = ((len(text), len(text)), "Where the text ends")
-    return Faulty("E2", text, len(text), (start, start + 1), (said,), end, missing="end of the text")
+    return Faulty("E2", text, len(text), (start, start + 1), (sentence,), end, missing="end of the text")
 
 
 def bad_token(rng, made):
     token = rng.choice((b"007", b"1a", b"]", b"::x", b"-01", b":1", b"0" * 60))
     text, _, at = in_map(rng, made, ":process 0 :value ", token, " :f :x}")
-    said = f"stands {quoted(token)}, which is no keyword, integer or escape, and closes no bracket that is open."
-    return at_token("E3", text, at, token, said)
+    sentence = f"stands {quoted(token)}, which is no keyword, integer or escape, and closes no bracket that is open."
+    return at_token("E3", text, at, token, sentence)
 
 
 def out_of_range(rng, made):
@@ -313,8 +316,8 @@ def no_certificate(rng, made):
     forms = forms_of(rng, made)
     at = rng.randrange(len(forms) + 1)
     faulty = rng.choice(("[0 1]", "{:object 9}", "{:object 9, :order 1}", "{:object 65536, :order []}", "{:order []}", "7"))
-    said = " is no certificate: a map with :object and :order, a vector of integers."
-    return of_forms(rng, "K1", forms, at, faulty, said)
+    sentence = " is no certificate: a map with :object and :order, a vector of integers."
+    return of_forms(rng, "K1", forms, at, faulty, sentence)
 
 
 def certificate_twice(rng, made):
@@ -366,8 +369,8 @@ def longest_texts():
         faulty = rng.choice((OF_NEMESIS, text_writers.invoke(991, ALL_FUNCTIONS[kind][0], 1)))
         text = text_writers.lines(*made.maps, *beside, faulty).encode()
         end = len(text) - 1
-        said = f"The text can be read, but it is no history. Event {MOST_MAPS} is one too many: a history has at most 1,000,000."
-        yield made, Faulty("H9", text, MOST_MAPS, (end - len(faulty), end), (said,))
+        sentence = f"The text can be read, but it is no history. Event {MOST_MAPS} is one too many: a history has at most 1,000,000."
+        yield made, Faulty("H9", text, MOST_MAPS, (end - len(faulty), end), (sentence,))
 
 
 # ---- what is on the page
@@ -427,7 +430,7 @@ def why_mark_wrong(row, text, marked, missing):
     if start >= end:
         if not row.is_missing or row.mark != missing:
             return f"{row.mark} is marked where nothing is"
-    elif row.is_missing or row.mark not in [marked_text(text[start:end], MARKED + it) for it in range(4)]:
+    elif row.is_missing or row.mark not in [marked_text(text[start:end], MARKED + more) for more in range(4)]:
         return f"{row.mark} is marked"
     shown = min(end, start + MARKED)
     before = text[first:start]
@@ -444,10 +447,10 @@ def why_mark_wrong(row, text, marked, missing):
 
 def why_excerpt_wrong(figure, text, marked, caption, missing):
     """What is wrong with a piece of the text on a page, or None."""
-    said = spelled(figure.find("figcaption"))
-    if said != caption:
-        return f"the caption is {said}"
-    rows = [(it.get("class") == "at", Row(it)) for it in figure.iter("tr")]
+    printed = spelled(figure.find("figcaption"))
+    if printed != caption:
+        return f"the caption is {printed}"
+    rows = [(row.get("class") == "at", Row(row)) for row in figure.iter("tr")]
     places = [place for place, (is_marked, _) in enumerate(rows) if is_marked]
     if len(places) != 1:
         return f"{len(places)} lines are marked"
@@ -457,7 +460,7 @@ def why_excerpt_wrong(figure, text, marked, caption, missing):
     lines, number = text.split(b"\n"), rows[places[0]][1].number
     # After the last line feed there is no line, except where the mark is there.
     count = max(number, len(lines) - (1 if lines[-1] == b"" else 0))
-    wanted = [it for it in range(max(1, number - LINES), min(count, number + LINES) + 1)]
+    wanted = list(range(max(1, number - LINES), min(count, number + LINES) + 1))
     if [row.number for _, row in rows] != wanted:
         return f"lines {[row.number for _, row in rows]} are there, and not {wanted}"
     others = [row for is_marked, row in rows if not is_marked]
@@ -470,7 +473,7 @@ def why_history_wrong(page, faulty):
     figure = page.by_id("figm")
     if figure is None:
         return None if faulty.code[0] != "H" else "the history before the map is missing"
-    crosses = [it.find("title").text for it in found(figure, "g", "cross")]
+    crosses = [cross.find("title").text for cross in found(figure, "g", "cross")]
     # A map without a process has no lane.
     has_process = re.search(rb":process \d", faulty.text[slice(*faulty.marked)])
     if crosses != ([f"event {faulty.named}: {faulty.code}"] if has_process else []):

@@ -21,7 +21,7 @@ def case_of(seed):
     processes = PROCESSES[seed % len(PROCESSES)]
     calls = max(rng.choice((5, 40, 120, 400)), processes + rng.randrange(50))
     lost = calls * rng.choice((0, 5, 20, 40)) // 100
-    kind = rng.choice([it for it in KINDS if not lost or it not in histories.TOKENS])
+    kind = rng.choice([kind for kind in KINDS if not lost or kind not in histories.TOKENS])
     made = played((kind,), calls, processes, seed=seed, lost=lost, refused=rng.choice((0, 3)), nemeses=rng.choice((0, 2)))
     options = () if rng.random() < 0.6 else ("--from", str(rng.randrange(2 * calls)))
     return Case(f"case {seed}", made.text(), rng.choice((made.certificates(), "")), options)
@@ -30,7 +30,7 @@ def case_of(seed):
 def why_something_is_left_out(page, history):
     """The figure of the object, and each other stretch, whose operations are not all drawn or counted, or None."""
     calls, _ = histories.calls_of(history)
-    figures = [("the figure", page.by_id("fig0"))] + [(f"the stretch {stretch}", it) for stretch, it in stretches_of(page, 0)]
+    figures = [("the figure", page.by_id("fig0"))] + [(f"the stretch {stretch}", figure) for stretch, figure in stretches_of(page, 0)]
     for name, figure in figures:
         drawn, counted = shown_counts(figure)
         if figure is None or drawn + counted != len(calls) and drawn > 0:

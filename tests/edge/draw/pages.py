@@ -21,7 +21,7 @@ def classes(element):
 
 def found(element, tag, name=None):
     """The elements of this tag, and of this class if one is given, in the order of the page."""
-    return [it for it in element.iter(tag) if name is None or name in classes(it)]
+    return [inner for inner in element.iter(tag) if name is None or name in classes(inner)]
 
 
 def spelled(element):
@@ -49,17 +49,17 @@ class Drawn:
         self.body = self.root.find("body")
         self.answer = self.body.get("class")
         self.title = self.root.find("head/title").text
-        self.said = [spelled(it) for it in found(self.body, "p", "say")]
+        self.said = [spelled(sentence) for sentence in found(self.body, "p", "say")]
         self.facts = "".join(found(self.body, "p", "facts")[0].itertext())
         self.lines = "".join(found(self.body, "pre", "verdict")[0].itertext())
 
     def by_id(self, name):
-        return next((it for it in self.body.iter() if it.get("id") == name), None)
+        return next((element for element in self.body.iter() if element.get("id") == name), None)
 
     def lost_links(self):
         """The links that lead to no place of the page."""
-        places = {f"#{it.get('id')}" for it in self.body.iter() if it.get("id")}
-        return sorted({it.get("href") for it in found(self.body, "a")} - places)
+        places = {f"#{element.get('id')}" for element in self.body.iter() if element.get("id")}
+        return sorted({link.get("href") for link in found(self.body, "a")} - places)
 
     def bars(self, figure):
         """The numbers of the operations that have a bar in the figure with this name."""
@@ -69,9 +69,9 @@ class Drawn:
 
     def orders(self):
         """The orders in the tables, by their objects, of those that have all entries."""
-        tables = [it.get("id") for it in self.body.iter("table") if "order" in classes(it)]
+        tables = [table.get("id") for table in self.body.iter("table") if "order" in classes(table)]
         whole = [table for table in tables if not any("skip" in name for name, _ in self.rows(table))]
-        return {int(it[1:]): [int(re.match(r"⟨(\d+)", cells[1])[1]) for _, cells in self.rows(it)] for it in whole}
+        return {int(name[1:]): [int(re.match(r"⟨(\d+)", cells[1])[1]) for _, cells in self.rows(name)] for name in whole}
 
     def rows(self, table):
         """The rows of a table: its class, and the texts of its cells."""

@@ -4,7 +4,7 @@ import re
 
 from ..histories import ALL_FUNCTIONS, HOLDS, KIND_OF, REPLY_ARGUMENT, REPLY_NIL, TOKENS, calls_of
 from .pages import REF, found, spelled
-from ..verify.reasons import NEXT, OPEN, has_order, maps_of
+from ..verify.reasons import OPEN, has_order, maps_of
 from ..text_writers import value
 
 PUTS = ("enqueue", "push", "insert", "write", "put", "cas")
@@ -76,8 +76,8 @@ def key_of(call):
 
 def integers_of(call):
     """The integers that a call takes and replies."""
-    those = [it for own in (call.argument, call.reply) for it in (own if isinstance(own, tuple) else (own,))]
-    return {it for it in those if it is not None and not isinstance(it, bool)}
+    those = [part for own in (call.argument, call.reply) for part in (own if isinstance(own, tuple) else (own,))]
+    return {part for part in those if part is not None and not isinstance(part, bool)}
 
 
 # What a call on a cell of a register, map or set replies where the cell contains this, or nothing, and what it then sets it to; ... where it sets
@@ -178,11 +178,11 @@ class Walked:
             return value(values[0] if values else None)
         if self.kind in ("map", "set"):
             more = f", … {len(values) - 6} more" if len(values) > 6 else ""
-            entries = [f"{it[0]} {it[1]}" if self.kind == "map" else str(it) for it in values[:6]]
+            entries = [f"{item[0]} {item[1]}" if self.kind == "map" else str(item) for item in values[:6]]
             return "{" + ", ".join(entries) + more + "}"
         if len(values) > 11:
             first = 2 if self.kind == "stack" else 8
-            shown = (" ".join(map(str, it)) for it in (values[:first], values[first - 10 :]))
+            shown = (" ".join(map(str, part)) for part in (values[:first], values[first - 10 :]))
             return "[" + f" … {len(values) - 10} more … ".join(shown) + "]"
         return "[" + " ".join(map(str, values)) + "]"
 
@@ -192,7 +192,7 @@ class Said:
 
     def __init__(self, history, orders):
         self.calls, self.maps = calls_of(history)
-        self.orders, self.processes = orders, [it["process"] for it in maps_of(history)]
+        self.orders, self.processes = orders, [event["process"] for event in maps_of(history)]
 
     def on(self, x):
         return [call for call in self.calls.values() if call.on == x]
@@ -285,11 +285,11 @@ class Said:
 
     def source(self, call, order, k, walk, rest):
         """Checks the sentence for the value that the call returned."""
-        live = [it for it in self.on(call.on) if it.is_live() and it.number < call.at]
-        same_key = [it for it in live if key_of(it) == key_of(call)]
+        live = [other for other in self.on(call.on) if other.is_live() and other.number < call.at]
+        same_key = [other for other in live if key_of(other) == key_of(call)]
         nothing = re.fullmatch(r" No (other )?operation that was invoked before event (\d+) put (-?\d+)\.", rest)
         if nothing:
-            putters = [it.number for it in same_key if value_put(it) == int(nothing[3])]
+            putters = [other.number for other in same_key if value_put(other) == int(nothing[3])]
             return int(nothing[2]) == call.at and putters == ([call.number] if nothing[1] else [])
         by = re.fullmatch(rf" (-?\d+) was put by {REF}, (.*)\.", rest)
         if not by or value_put(self.calls[int(by[2])]) != int(by[1]) or int(by[2]) == call.number:
@@ -321,16 +321,21 @@ class Said:
 
     def never_put(self, n, v, at, f, again):
         call = self.calls[int(n)]
-        others = [it for it in self.on(call.on) if it.number < call.at and it.is_live()]
+        others = [other for other in self.on(call.on) if other.number < call.at and other.is_live()]
         is_so = (call.returned(), call.reply) == (int(at), int(v)) and v == again and call.f in TAKES
         return is_so and not any(other.f == f and other.argument == int(v) for other in others)
 
     def not_empty(self, n, kind, p, at, until, v):
         call, put = self.calls[int(n)], self.calls[int(p)]
-        others = [it for it in self.on(call.on) if it.number < int(until) and it.f in TAKES and it.is_live()]
+        others = [other for other in self.on(call.on) if other.number < int(until) and other.f in TAKES and other.is_live()]
         is_so = call.reply is None and call.end == "ok" and put.returned() == int(at) < call.number
         is_so &= put.argument == int(v) and call.at == int(until)
         return is_so and not any(other.end != "ok" or other.reply == int(v) for other in others)
+
+    def running_between(self, x, since, until):
+        """The live calls on an object that were invoked before one event, and had not returned at an earlier one."""
+        begun = [call for call in self.on(x) if call.is_live() and call.number < until]
+        return [call for call in begun if call.returned() is None or call.returned() > since]
 
     def out_of_date(self, n, verb, v, by, how, at, first, last, again, so):
         later, earlier = self.calls[int(n)], self.calls[int(by)]
@@ -340,8 +345,8 @@ class Said:
         is_so &= verb == ("returned" if later.f in ("read", "get") else "found")
         is_so &= how == self.left_in_words(earlier, value(None if left is Ellipsis else left))
         is_so &= earlier.returned() == int(at) < later.number and (earlier.number, later.at) == (int(first), int(last))
-        ran = [it for it in self.on(later.on) if it.is_live() and it.number < later.at and (it.returned() is None or it.returned() > earlier.number)]
-        others = [it for it in ran if it.number != later.number and key_of(it) == key_of(later)]
+        between = self.running_between(later.on, earlier.number, later.at)
+        others = [other for other in between if other.number != later.number and key_of(other) == key_of(later)]
         if found is None:
             return is_so and not any(other.f in ("del", "dissoc", "clear") for other in others)
         # What replaces a value by the same does not make it that again.
@@ -361,11 +366,10 @@ class Said:
         one, two = self.calls[int(a)], self.calls[int(b)]
         is_so = one.f == two.f == "release" and one.end == two.end == "ok" and one.on == two.on
         is_so &= (min(one.number, two.number), max(one.at, two.at)) == (int(first), int(last))
-        ran = [it for it in self.on(one.on) if it.is_live() and it.number < int(last) and (it.returned() is None or it.returned() > int(first))]
-        return is_so and not any(it.f == "acquire" for it in ran)
+        return is_so and not any(other.f == "acquire" for other in self.running_between(one.on, int(first), int(last)))
 
     def wrong_turn(self, a, at, b, v, w, t, again, until, once_more, then):
-        one, two, taker = (self.calls[int(it)] for it in (a, b, t))
+        one, two, taker = (self.calls[int(number)] for number in (a, b, t))
         others = [call for call in self.on(one.on) if call.number < int(until) and call.is_live()]
         is_so = one.returned() == int(at) < two.number and (one.argument, two.argument) == (int(v), int(w))
         is_so &= (taker.reply, taker.at) == (int(w), int(until)) and (again, once_more) == (w, v)
@@ -377,20 +381,20 @@ class Said:
 
     def lost(self, n, took, count, lesser, place, how, most, values):
         call, found = self.calls[int(n)], None if took is None else int(took)
-        live = [it for it in self.on(call.on) if it.is_live() and it.number != call.number]
+        live = [other for other in self.on(call.on) if other.is_live() and other.number != call.number]
         kind, named = KIND_OF[call.f], [(int(v), int(times or 1)) for v, times in re.findall(r"(-?\d+)(?: \((\d+) times\))?", values)]
-        own = [it for it in live if it.f in PUTS and it.argument == found] if found is not None else []
+        own = [other for other in live if other.f in PUTS and other.argument == found] if found is not None else []
         # From which number on a put counts, and before which number it must have returned.
-        first = max((it.returned() or call.at for it in own), default=0) if kind == "stack" else 0
+        first = max((other.returned() or call.at for other in own), default=0) if kind == "stack" else 0
         # Of a queue it is that of the last one that may be meant: a part may leave out what was done with the found value before.
-        limit = max((it.number for it in own if it.number < call.at), default=call.number) if kind == "queue" and own else call.number
-        ahead = [it.argument for it in live if it.f in PUTS and it.number >= first and (it.returned() or call.at) < limit]
-        taken = [it.reply for it in live if it.f in TAKES and it.end == "ok" and it.at < call.at]
+        limit = max((other.number for other in own if other.number < call.at), default=call.number) if kind == "queue" and own else call.number
+        ahead = [other.argument for other in live if other.f in PUTS and other.number >= first and (other.returned() or call.at) < limit]
+        taken = [other.reply for other in live if other.f in TAKES and other.end == "ok" and other.at < call.at]
         # What else may have taken one of the values: a removal that returned it late, or one that is pending, if no other took all of it.
-        takers = [it for it in live if it.f in TAKES and it.number < call.at]
+        takers = [other for other in live if other.f in TAKES and other.number < call.at]
         late = sum(taker.end == "ok" and taker.at > call.at and taker.reply in dict(named) for taker in takers)
-        replies = [it.reply for it in live if it.f in TAKES and it.end == "ok"]
-        left = sum(sum(it.f in PUTS and it.argument == v for it in live) - replies.count(v) for v, _ in named)
+        replies = [other.reply for other in live if other.f in TAKES and other.end == "ok"]
+        left = sum(sum(other.f in PUTS and other.argument == v for other in live) - replies.count(v) for v, _ in named)
         others = late + min(sum(taker.end != "ok" for taker in takers), left)
         places = {"heap": f"in the heap before {found} was found", "queue": f"enqueued before {found}", "stack": f"pushed on {found}"}
         is_so = (call.end, call.reply) == ("ok", found) and place == (f"in the {kind} before that" if found is None else places[kind])
@@ -401,9 +405,9 @@ class Said:
         return is_so and counted > most >= min(others, counted) and (counted == int(count) or values.endswith(" and others"))
 
     def too_often(self, v, put, putters, taken, takers, f, again, until):
-        named = [those and [int(it[0]) for it in re.findall(REF, those)] for those in (putters, takers)]
-        counts = [TIMES.get(it, None) or number_in(it.removesuffix(" times")) for it in (put, taken)]
-        by = [self.calls[it] for those in named if those for it in those]
+        named = [those and [int(ref[0]) for ref in re.findall(REF, those)] for those in (putters, takers)]
+        counts = [TIMES.get(times, None) or number_in(times.removesuffix(" times")) for times in (put, taken)]
+        by = [self.calls[number] for those in named if those for number in those]
 
         def is_so(x):
             live = [call for call in self.on(x) if call.is_live()]
@@ -412,7 +416,7 @@ class Said:
             are_named = all(those == own if those else len(own) > FEW_NAMED for those, own in zip(named, (puts, takes)))
             return are_named and counts == [len(puts), len(takes)] and len(takes) > len(puts)
 
-        return v == again and any(is_so(x) for x in ({it.on for it in by} or {call.on for call in self.calls.values()}))
+        return v == again and any(is_so(x) for x in ({call.on for call in by} or {call.on for call in self.calls.values()}))
 
     def left_open(self, x, why):
         return bool(self.on(int(x))) and why in ("out of steps", "out of memory")
@@ -426,7 +430,7 @@ class Said:
         calls = [call for call in self.on(x) if call.number < until and call.is_live()]
         ended = [call.returned() if (call.returned() or until) < until else None for call in calls]
         few = len(calls) <= FEW_NAMED
-        return has_order([(it.number, end, it.f, it.argument, it.reply) for it, end in zip(calls, ended)]) if few else None
+        return has_order([(call.number, end, call.f, call.argument, call.reply) for call, end in zip(calls, ended)]) if few else None
 
     def first_event(self, n):
         x = next((call.on for call in self.calls.values() if call.returned() == int(n)), None)
@@ -448,10 +452,10 @@ class Said:
         if kind == "counter":
             return contents_of_counter(calls)
         if kind in ("register", *TOKENS):
-            return [(), *[(it,) for it in (("held",) if kind == "mutex" else seen)]]
+            return [(), *[(content,) for content in (("held",) if kind == "mutex" else seen)]]
         sizes = range(3)
-        found = [it for size in sizes for it in itertools.product(sorted(seen), repeat=size)]
-        return [tuple(sorted(it)) if kind == "heap" else it for it in found]
+        contents = [items for size in sizes for items in itertools.product(sorted(seen), repeat=size)]
+        return [tuple(sorted(items)) if kind == "heap" else items for items in contents]
 
     def general(self, bars, begin, last, returned):
         """The operations that have bars have no valid order, and where one is named it is among them."""
@@ -468,7 +472,7 @@ class Said:
         free = [call for call in calls if since is not None and call.number < since]
         for left_out in itertools.chain.from_iterable(itertools.combinations(free, size) for size in range(len(free) + 1)):
             kept = [call for call in calls if call not in left_out and call.is_live()]
-            if is_ordered(kept, content):
+            if has_order([(call.number, call.returned(), call.f, call.argument, call.reply) for call in kept], content):
                 return True
         return False
 
@@ -479,35 +483,14 @@ def contents_by_keys(kind, calls):
     if kind == "set":
         return [those for size in range(len(keys) + 1) for those in itertools.combinations(keys, size)]
     values = [{number for call in calls if key_of(call) == key for number in integers_of(call)} | {-99, None} for key in keys]
-    return [tuple((key, it) for key, it in zip(keys, those) if it is not None) for those in itertools.product(*values)]
+    return [tuple((key, number) for key, number in zip(keys, those) if number is not None) for those in itertools.product(*values)]
 
 
 def contents_of_counter(calls):
     """The numbers before the calls of which one may be told: before the first of them that returned some pending ones may have added."""
     pending = [call.argument for call in calls if call.returned() is None and call.f == "fetch-add"]
     sums = {sum(those) for size in range(len(pending) + 1) for those in itertools.combinations(pending, size)}
-    return [(it,) for it in {call.reply - amount for call in calls if call.returned() is not None for amount in sums}]
-
-
-def is_ordered(calls, content):
-    """Whether some order of the calls is valid after this content."""
-    live = [(call.number, call.returned(), call.f, call.argument, call.reply) for call in calls]
-    if not content:
-        return has_order(live)
-
-    def goes_on(left, content):
-        ends = [it[1] for it in left if it[1] is not None]
-        if not ends:
-            return True
-        for it in left:
-            if any(end < it[0] for end in ends if end != it[1]):
-                continue
-            taken = NEXT[it[2]](content, it[2], it[3])
-            if taken and (it[1] is None or taken[1] == it[4]) and goes_on(left - {it}, taken[0]):
-                return True
-        return False
-
-    return goes_on(frozenset(live), content)
+    return [(total,) for total in {call.reply - amount for call in calls if call.returned() is not None for amount in sums}]
 
 
 VALID = (
@@ -546,12 +529,14 @@ FORMS = {
     "twice_released": rf"Between event (\d+) and event (\d+) the mutex was released twice, by {REF} and {REF}, and no acquire ran in between.",
     "wrong_turn": rf"{REF} returned \(event (\d+)\) before {REF} was invoked, so (-?\d+) went in before (-?\d+). But {REF} took (-?\d+) out, "
     rf"and nothing invoked before event (\d+) took (-?\d+) out(?:\.|: only then {REF} began\.)",
-    "lost": rf"{REF} (?:found nothing|took (-?\d+) out)\. But (\d+) (lesser )?values? (?:was|were) (in the \w+ before that|in the heap before -?\d+ was found|"
-    r"enqueued before -?\d+|pushed on -?\d+), and (none of them|at most (\d+) of them) can have been taken out by then: (.*)\.",
+    "lost": rf"{REF} (?:found nothing|took (-?\d+) out)\. But (\d+) (lesser )?values? (?:was|were) (in the \w+ before that|"
+    r"in the heap before -?\d+ was found|enqueued before -?\d+|pushed on -?\d+), "
+    r"and (none of them|at most (\d+) of them) can have been taken out by then: (.*)\.",
     "first_event": r"Event (\d+) is the first that leaves no order\.",
     "first_events": r"The first event that leaves no order is one from event (\d+) to event (\d+)\. They were not all tried\.",
     "left_open": r"No order was found for object (\d+), and none was excluded: ([\w ]+). So the history is not decided.",
-    "longest": r"The longest order that was found for this page has ([\d ]+) of ([\d ]+) operations?\. (It has each operation that returned, but the judge did not find it\.|After it comes .*\.)",
+    "longest": r"The longest order that was found for this page has ([\d ]+) of ([\d ]+) operations?\. "
+    r"(It has each operation that returned, but the judge did not find it\.|After it comes .*\.)",
     "too_often": r"(-?\d+) was \w+ (once|twice|[\d ]+ times)(?:, by (.*))?, and \w+ (once|twice|[\d ]+ times)(?:, by (.*))?\. No other ([\w-]+) of "
     r"(-?\d+) was invoked before event (\d+).",
 }
@@ -615,21 +600,21 @@ ENDINGS = {
 
 def form_of(sentence):
     """The form of a sentence, or None."""
-    forms = {**FORMS, "general": GENERAL, **{f"aside {number}": it for number, it in enumerate(ASIDES)}}
+    forms = {**FORMS, "general": GENERAL, **{f"aside {number}": aside for number, aside in enumerate(ASIDES)}}
     return next((form for form, pattern in forms.items() if re.fullmatch(pattern, sentence)), None)
 
 
 def forms_of(page):
     """The forms of the sentences of a page, and the ways in which they go on."""
-    said = [(form_of(sentence), sentence) for sentence in page.said]
-    ways = [way for form, it in said for way, (of, words) in ENDINGS.items() if of == form and re.search(words, it)]
-    return [*[form for form, _ in said], *ways]
+    sentences = [(form_of(sentence), sentence) for sentence in page.said]
+    ways = [way for form, sentence in sentences for way, (of, words) in ENDINGS.items() if of == form and re.search(words, sentence)]
+    return [*[form for form, _ in sentences], *ways]
 
 
 def groups_of(form, match):
     """The groups of a match without labels."""
-    names = [it for it in re.finditer(r"\((?!\?)", FORMS[form].replace(r"\(", "  "))]
-    labels = {number for number, it in enumerate(names, 1) if FORMS[form][it.start() :].startswith("([^⟩]*)")}
+    names = [group for group in re.finditer(r"\((?!\?)", FORMS[form].replace(r"\(", "  "))]
+    labels = {number for number, group in enumerate(names, 1) if FORMS[form][group.start() :].startswith("([^⟩]*)")}
     return [match[number] for number in range(1, len(names) + 1) if number not in labels]
 
 
@@ -647,7 +632,7 @@ def why_false(page, history, orders):
 
 
 def why_sentence_false(page, said, sentence):
-    if any(re.fullmatch(it, sentence) for it in ASIDES):
+    if any(re.fullmatch(aside, sentence) for aside in ASIDES):
         return None
     for form, pattern in FORMS.items():
         match = re.fullmatch(pattern, sentence)
@@ -670,7 +655,7 @@ def why_sentence_false(page, said, sentence):
 
 def line_of(page):
     """What the lines say of the object that is drawn, where it has no valid order."""
-    drawn = next((it.get("id")[3:] for it in page.body.iter("figure") if re.fullmatch(r"fig\d+", it.get("id", ""))), None)
+    drawn = next((figure.get("id")[3:] for figure in page.body.iter("figure") if re.fullmatch(r"fig\d+", figure.get("id", ""))), None)
     told = re.search(rf"^; object {drawn}: impossible\n; (?!events? \d|\{{)(.*)$", page.lines, re.M)
     return told[1] if told else SAYS_NO_MORE
 
@@ -713,9 +698,9 @@ def why_bars_false(figure, calls):
         call = calls[int(bar.get("data-op"))]
         if bar.get("class").split()[1:3] != [ROLES[call.f], STATES[call.end]]:
             return f"the bar of operation {call.number} is {bar.get('class')}"
-        said = re.sub(r"\nfrom .*", "", bar.find("title").text)
-        if said != f"{label_of(call)}\nevent {call.number}, process {call.process}, object {call.on}\n{became(call)}":
-            return f"the bar of operation {call.number} says {said}"
+        title = re.sub(r"\nfrom .*", "", bar.find("title").text)
+        if title != f"{label_of(call)}\nevent {call.number}, process {call.process}, object {call.on}\n{became(call)}":
+            return f"the bar of operation {call.number} says {title}"
     return None
 
 
@@ -750,8 +735,8 @@ def why_open_false(page, history, told):
     """What is false of a page that says that a history is open, by what judge told, or None."""
     objects = [OPEN.fullmatch(line) for line in told.splitlines()]
     x, why = next((int(match[1]), match[2]) for match in objects if match)
-    said = f"No order was found for object {x}, and none was excluded: {re.sub(' after .*', '', why)}. So the history is not decided."
-    if page.said[0] != said:
+    sentence = f"No order was found for object {x}, and none was excluded: {re.sub(' after .*', '', why)}. So the history is not decided."
+    if page.said[0] != sentence:
         return f"it says {page.said[0]}"
     calls, _ = calls_of(history)
     bars = page.bars(f"fig{x}")
@@ -763,35 +748,34 @@ def why_open_false(page, history, told):
 def why_longest_false(page, calls, x):
     """What is false of the longest order that a page of an open object has, or None: each entry has its reply, and what
     may come next does not fit."""
-    said = next((re.fullmatch(FORMS["longest"], sentence) for sentence in page.said if form_of(sentence) == "longest"), None)
-    if not said:
+    longest = next((re.fullmatch(FORMS["longest"], sentence) for sentence in page.said if form_of(sentence) == "longest"), None)
+    if not longest:
         return "there is no longest order"
-    live = {number: it for number, it in calls.items() if it.on == x and it.is_live()}
+    live = {number: other for number, other in calls.items() if other.on == x and other.is_live()}
     rows = page.rows(f"t{x}")
     numbers = [int(re.match(r"⟨(\d+)", cells[1])[1]) for name, cells in rows if name != "skip"]
-    if number_in(said[2]) != len(live) or len(numbers) > number_in(said[1]):
+    if number_in(longest[2]) != len(live) or len(numbers) > number_in(longest[1]):
         return f"the longest order has {len(numbers)} entries"
-    if len(numbers) < number_in(said[1]):
+    if len(numbers) < number_in(longest[1]):
         return None if any(name == "skip" for name, _ in rows) else f"rows of {numbers}"
     walk, left = Walked(KIND_OF[next(iter(live.values())).f]), dict(live)
-    fits = lambda it: walk.is_possible(it)
     for number in numbers:
         call = left.pop(number)
-        ends = [it.returned() for it in left.values() if it.returned() is not None]
-        if any(end < call.number for end in ends) or not fits(call) or walk.take(call) != call.reply and call.end == "ok":
+        ends = [other.returned() for other in left.values() if other.returned() is not None]
+        if any(end < call.number for end in ends) or not walk.is_possible(call) or walk.take(call) != call.reply and call.end == "ok":
             return f"entry {number} of the longest order"
-    ends = [it.returned() for it in left.values() if it.returned() is not None]
-    following = sorted(it.number for it in left.values() if it.end == "ok" and not any(end < it.number for end in ends))
-    named = sorted(int(it) for it, _ in re.findall(REF, said[3]))
+    ends = [other.returned() for other in left.values() if other.returned() is not None]
+    following = sorted(other.number for other in left.values() if other.end == "ok" and not any(end < other.number for end in ends))
+    named = sorted(int(digits) for digits, _ in re.findall(REF, longest[3]))
     if following and len(following) <= FEW_NAMED and named != following:
         return f"{following} may come next, and not {named}"
-    return f"{said[3]}" if bool(following) != said[3].startswith("After") else None
+    return f"{longest[3]}" if bool(following) != longest[3].startswith("After") else None
 
 
 def why_order_false(page, history):
     """What is false of the tables of orders of a page whose history is linearizable, or None."""
     said = Said(history, {})
-    for x in sorted({it.on for it in said.calls.values()}):
+    for x in sorted({other.on for other in said.calls.values()}):
         rows = page.rows(f"t{x}")
         walk, last, entries = Walked(KIND_OF[said.on(x)[0].f]), 0, []
         if any("skip" in name for name, _ in rows):
@@ -807,6 +791,6 @@ def why_order_false(page, history):
                 return f"rank {rank} of object {x}"
         if any(a.returned() is not None and a.returned() < b.number for b, a in itertools.combinations(entries, 2)):
             return f"the order of object {x}"
-        if rows and {it.number for it in said.on(x) if it.end == "ok"} - {entry.number for entry in entries}:
+        if rows and {other.number for other in said.on(x) if other.end == "ok"} - {entry.number for entry in entries}:
             return f"an operation is left out of object {x}"
     return None

@@ -10,13 +10,24 @@ from ..verify.reasons import IMPOSSIBLE, TOLD, maps_of, value_of
 from .sentences import FEW_NAMED, FORMS, Said, Walked, grouped, key_of, label_of, number_in, why_bars_false
 from ..text_writers import value
 
-# The most events of an object that is drawn whole, and how many of a larger one without a focus are drawn.
-WHOLE, FIRST, MOST = 160, 160, 400
+# The most events of an object that is drawn whole.
+WHOLE = 160
+# How many events of a larger object are drawn where nothing in it is the focus.
+FIRST = 160
+# The most events of an object that are drawn.
+MOST = 400
 # The events before and after each of the focus, where the pairs before are too many.
 AROUND = ((20, 10), (10, 5), (5, 2), (2, 1), (1, 0), (0, 0))
-HOLE, LANES, ALONE = 7, 24, 12
-# The most rows of tried orders, the operations of a part that are tried, and the steps.
-TRIED, MOST_TRIED, STEPS = 24, 64, 2000
+# The most events between two that are drawn which are drawn too, and not left out.
+HOLE = 7
+# The most processes that have a lane.
+LANES = 24
+# The most rows of the table of tried orders.
+TRIED = 24
+# The most operations of a part whose orders are tried.
+MOST_TRIED = 64
+# The most steps that are taken to try them.
+STEPS = 2000
 # The most operations of a reason that are drawn alone.
 MOST_ALONE = 200
 # Of a reason with this many operations all orders are tried.
@@ -30,12 +41,12 @@ LEFT = {"queue": ", first at the left", "stack": ", bottom at the left", "heap":
 
 # Why an entry is refused, by the groups of the sentence.
 BECAUSE = {
-    "c3": lambda it: "no operation",
-    "c4": lambda it: f"stands already as entry {it[4]}",
-    "c5": lambda it: f"returned at event {it[6]}, before #{it[7]} was invoked",
-    "c6": lambda it: f"gives {it[4]}, returned {it[7]}",
-    "c9": lambda it: "not possible",
-    "past_end": lambda it: "not possible",
+    "c3": lambda groups: "no operation",
+    "c4": lambda groups: f"stands already as entry {groups[4]}",
+    "c5": lambda groups: f"returned at event {groups[6]}, before #{groups[7]} was invoked",
+    "c6": lambda groups: f"gives {groups[4]}, returned {groups[7]}",
+    "c9": lambda groups: "not possible",
+    "past_end": lambda groups: "not possible",
 }
 
 
@@ -52,7 +63,7 @@ class Shown:
         self.walked = {}
         self.calls, self.maps = calls_of(history)
         self.process_at = {at: call.process for call in self.calls.values() for at in (call.number, call.at) if at is not None}
-        self.nemeses = [number for number, it in enumerate(maps_of(history)) if it["process"].startswith(":")]
+        self.nemeses = [number for number, event in enumerate(maps_of(history)) if event["process"].startswith(":")]
 
     def on(self, x):
         return [call for call in self.calls.values() if call.on == x]
@@ -63,8 +74,8 @@ class Shown:
     @cached_property
     def figures(self):
         """The whole figures, by their objects."""
-        those = [it for it in self.page.body.iter("figure") if re.fullmatch(r"fig\d+", it.get("id", ""))]
-        return [(int(it.get("id")[3:]), it) for it in those]
+        those = [figure for figure in self.page.body.iter("figure") if re.fullmatch(r"fig\d+", figure.get("id", ""))]
+        return [(int(figure.get("id")[3:]), figure) for figure in those]
 
     def refused(self, x):
         """The rank of the entry that is refused, or None."""
@@ -109,11 +120,11 @@ def reason_of(told, x=None):
         is_first |= bool(named) and x in (None, int(named[1]))
         if not is_first:
             continue
-        it = TOLD.fullmatch(line.removeprefix("; "))
-        if it:
-            f, argument, reply = (it[7], it[8], it[9]) if it[7] else (it[4], it[5], it[6])
-            number, at = int(it[1]), int(it[2]) if it[2] else None
-            calls[number] = Call(number, it[3], 0, f, value_of(argument), at, "open" if at is None else "ok", value_of(reply))
+        match = TOLD.fullmatch(line.removeprefix("; "))
+        if match:
+            f, argument, reply = (match[7], match[8], match[9]) if match[7] else (match[4], match[5], match[6])
+            number, at = int(match[1]), int(match[2]) if match[2] else None
+            calls[number] = Call(number, match[3], 0, f, value_of(argument), at, "open" if at is None else "ok", value_of(reply))
         elif "{:object" in line:
             starts, others = re.findall(r"\{:from (\d+)\}", line), re.findall(r":other (-?\d+)", line)
             since, other = int(starts[-1]) if starts else None, int(others[-1]) if others else None
@@ -128,7 +139,7 @@ def reason_of(told, x=None):
 def because_of(page):
     """Why an entry is refused, in a few words, by what the sentences say."""
     for form, words in BECAUSE.items():
-        told = [it for it in (re.fullmatch(FORMS[form], said) for said in page.said) if it]
+        told = [match for match in (re.fullmatch(FORMS[form], sentence) for sentence in page.said) if match]
         if told:
             return words(told[0])
     return None
@@ -168,9 +179,9 @@ def why_points_false(shown, x, figure):
         title = "".join(point.find("title").itertext())
         if shown.orders[x][rank - 1] != call.number or is_bad != (rank == shown.refused(x)):
             return f"the point {rank}"
-        said = f"{rank}: {label_of(call)}\n" + ("" if is_bad else f"event {call.number}, process {call.process}\n")
+        text = f"{rank}: {label_of(call)}\n" + ("" if is_bad else f"event {call.number}, process {call.process}\n")
         content = f"{because}\ncontent before: {contents[rank - 1]}" if is_bad else f"content after: {contents[rank]}"
-        if title != said + content:
+        if title != text + content:
             return f"the point {rank} says {title}"
     return None
 
@@ -191,7 +202,7 @@ def why_marks_collide(figure):
     not neighbours, or an arrow that breaks another one or the bar at which it begins, or None."""
     for line in found(figure, "svg", "sys"):
         # In the order in which they are drawn.
-        parts = [name for it in line.iter() for name in classes(it)]
+        parts = [name for element in line.iter() for name in classes(element)]
         last = lambda name: len(parts) - parts[::-1].index(name)
         if "thread" in parts and "op" in parts[: last("thread")]:
             return "the thread runs over a bar"
@@ -202,7 +213,7 @@ def why_marks_collide(figure):
             if any(left <= x <= right and top <= y < low for _, left, right, top, low in bars_of(line)):
                 return "the halo of an arrow notches the bar at which it begins"
         points = found(line, "a", "pt")
-        ranks = [int(it.get("data-rank")) for it in points]
+        ranks = [int(point.get("data-rank")) for point in points]
         joined = "".join(re.findall("[ML]", found(line, "path", "thread")[0].get("d"))) if found(line, "path", "thread") else ""
         if joined[1:] != "".join("L" if b == a + 1 else "M" for a, b in zip(ranks, ranks[1:])) and joined:
             return f"the thread joins {ranks} as {joined}"
@@ -218,7 +229,7 @@ def why_marks_collide(figure):
 def bars_of(line):
     """The bars of a line: each operation, and where its bar is: left, right, top and bottom."""
     for bar in found(line, "g", "op"):
-        x, y, width, height = (int(next(bar.iter("rect")).get(it)) for it in ("x", "y", "width", "height"))
+        x, y, width, height = (int(next(bar.iter("rect")).get(attribute)) for attribute in ("x", "y", "width", "height"))
         yield bar.get("data-op"), x, x + width, y, y + height
 
 
@@ -228,9 +239,9 @@ def bars_of(line):
 def boxes_of(figure):
     """The boxes of a figure: what each is, its text, and what is under it."""
     boxes = []
-    for it in found(figure, "g", "box"):
-        text, *under = ("".join(own.itertext()) for own in it.iter("text"))
-        boxes.append((" ".join(classes(it)[1:]), text, tuple(under)))
+    for box in found(figure, "g", "box"):
+        text, *under = ("".join(own.itertext()) for own in box.iter("text"))
+        boxes.append((" ".join(classes(box)[1:]), text, tuple(under)))
     return boxes
 
 
@@ -238,7 +249,7 @@ def boxes_of_list(walk, call, boxes):
     """The boxes of a list that are right, of which as many are left out as it says."""
     items, wanted, place = walk.items, [], 0
     gives = None if call.f in REPLY_ARGUMENT or not items else len(items) - 1 if walk.kind == "stack" else 0
-    others = [it for it in range(len(items)) if it != gives and items[it][0] == call.reply and call.reply is not None]
+    others = [at for at in range(len(items)) if at != gives and items[at][0] == call.reply and call.reply is not None]
     returned = others[0] if others else None
     for name, text, _ in boxes:
         if name == "skip":
@@ -274,9 +285,9 @@ def boxes_wanted(walk, call, boxes):
 def boxes_of_entries(walk, call):
     """The boxes of the keys of a map, or of the elements of a set; of many that of the call alone."""
     key, own = key_of(call), walk.entry_of(call)
-    text = lambda it: f"{it[0]} {it[1]}" if walk.kind == "map" else str(it)
+    text = lambda item: f"{item[0]} {item[1]}" if walk.kind == "map" else str(item)
     entries = [("gives" if item is own else "", text(item[0]), item) for item in walk.items if item is own or len(walk.items) <= FEW]
-    found_before = [(name, words, (f"put by #{it[1]}",)) for name, words, it in entries]
+    found_before = [(name, words, (f"put by #{item[1]}",)) for name, words, item in entries]
     given = walk.take(call)
     gives = "gives nil" if given is None else f"gives {value(given)}" if isinstance(given, bool) else "gives"
     boxes = [(name, words, (gives, *under) if name else under) for name, words, under in found_before]
@@ -310,17 +321,17 @@ def tries_of(calls, other, recorded):
     ways, reached, rows, steps = [], set(), [], 0
 
     def ways_after(before):
-        left = [it for it in part if it not in before]
-        ends = [it.at for it in left if it.returned() is not None]
-        return [(before, it) for it in left if not any(end < it.number for end in ends)]
+        left = [operation for operation in part if operation not in before]
+        ends = [operation.at for operation in left if operation.returned() is not None]
+        return [(before, operation) for operation in left if not any(end < operation.number for end in ends)]
 
     ways = ways_after(())[::-1] if len(part) <= MOST_TRIED else []
     while ways and steps < STEPS:
         steps += 1
         before, call = ways.pop()
         walk = Walked(kind)
-        for it in before:
-            walk.take(it)
+        for placed in before:
+            walk.take(placed)
         text = "other" if kind == "register" and walk.items and walk.items[0][0] == other else walk.text()
         old = walk.state()
         if not walk.is_possible(call):
@@ -334,7 +345,7 @@ def tries_of(calls, other, recorded):
             rows.append((before, text, call, f"gives {'other' if is_other else value(given)}, returned {value(own.reply)}"))
             continue
         new = walk.state()
-        state = frozenset(it.number for it in (*before, call)), repr(new)
+        state = frozenset(placed.number for placed in (*before, call)), repr(new)
         if state in reached or call.end == "open" and old == new:
             continue
         reached.add(state)
@@ -345,7 +356,8 @@ def tries_of(calls, other, recorded):
 def leaves_nothing(call):
     """Whether the object is empty, or free, after a call, by its reply."""
     removes = call.f in ("del", "dissoc", "clear", "remove", *HOLDS.values())
-    return removes or call.f == "contains" and call.reply is False or call.f in ("dequeue", "pop", "extract-min", "read", "get") and call.reply is None
+    finds_nothing = call.f in ("dequeue", "pop", "extract-min", "read", "get") and call.reply is None
+    return removes or call.f == "contains" and call.reply is False or finds_nothing
 
 
 def prior_content(shown, since):
@@ -354,21 +366,21 @@ def prior_content(shown, since):
         return []
     first = shown.calls[since]
     contents = ("held",) if first.f in HOLDS else ("free",) if first.f == "release" else ("free", "held by another")
-    return [((), it, first, "is not possible") for it in contents]
+    return [((), content, first, "is not possible") for content in contents]
 
 
 def why_tried_false(shown):
     """What is false of the table of the orders of a reason, or None."""
     calls, since, other = shown.reason
     begins = [shown.calls[since]] if since is not None and calls[since] is None and leaves_nothing(shown.calls[since]) else []
-    tries, is_all = tries_of([it for it in calls.values() if it], other, shown.calls)
+    tries, is_all = tries_of([call for call in calls.values() if call], other, shown.calls)
     if not tries:
         return None if shown.page.by_id("tried") is None else "there is a table of no orders"
     tries = [*prior_content(shown, since), *(((*begins, *before), *more) for before, *more in tries)]
     rows = shown.page.rows("tried")
     name = lambda call: said_of(shown.calls[call.number])
     wanted = [
-        ("", [str(place), ", ".join(name(it) for it in before), f"`{text}`", name(call), which])
+        ("", [str(place), ", ".join(name(placed) for placed in before), f"`{text}`", name(call), which])
         for place, (before, text, call, which) in enumerate(tries[:TRIED], 1)
     ]
     more = len(tries) - len(wanted)
@@ -378,8 +390,8 @@ def why_tried_false(shown):
     several = f"{'Both' if len(tries) == 2 else f'All {len(tries)}'} ways to begin, up to equal content, each up to the operation that does not fit"
     caption = f"Every order breaks. {one if len(tries) == 1 else several}" if is_all else "Ways to begin"
     caption += ". “other” is any value that the reason does not keep" if other is not None else ""
-    said = spelled(shown.page.by_id("tried").find("caption"))
-    return None if said == caption else f"the caption of the tried orders is {said}, and not {caption}"
+    printed = spelled(shown.page.by_id("tried").find("caption"))
+    return None if printed == caption else f"the caption of the tried orders is {printed}, and not {caption}"
 
 
 def drawn_alone(shown, numbers):
@@ -389,7 +401,7 @@ def drawn_alone(shown, numbers):
     for call in few:
         begins.setdefault(call.process, call.number)
     lanes = sorted(begins, key=begins.get)[:LANES]
-    return [it.number for it in few if it.process in lanes]
+    return [call.number for call in few if call.process in lanes]
 
 
 def outside_note(calls):
@@ -425,13 +437,13 @@ def why_reason_false(shown):
         return f"the caption is {spelled(zoom.find('figcaption'))}, and not {caption}"
     if len(calls) <= FEW_ORDERED and not Said(shown.history, {}).general(sorted(calls), since, None, None):
         return f"the operations {sorted(calls)} have a valid order"
-    outside = [shown.calls[n] for n, it in sorted(calls.items()) if it and it.end == "open" and shown.calls[n].end == "ok"]
+    outside = [shown.calls[n] for n, call in sorted(calls.items()) if call and call.end == "open" and shown.calls[n].end == "ok"]
     if since is not None and calls[since] is not None and calls[since].end == "open":
         return "the operation that begins the part is pending"
     if any("the table says where" in sentence for sentence in shown.page.said) and not shown.page.rows("tried"):
         return "the table of tried orders is empty"
     wanted = outside_note(outside)
-    notes = [spelled(it) for it in found(zoom, "p", "note")]
+    notes = [spelled(note) for note in found(zoom, "p", "note")]
     return None if notes == wanted else f"the notes are {notes}, and not {wanted}"
 
 
@@ -447,7 +459,7 @@ def chosen(numbers, focus, stretch):
         return list(numbers)
     if not focus:
         return list(numbers)[:FIRST]
-    places = [numbers.index(it) for it in focus]
+    places = [numbers.index(spot) for spot in focus]
     for before, after in AROUND:
         drawn = sorted({number for at in places for number in range(max(0, at - before), min(len(numbers), at + after + 1))})
         if len(drawn) <= MOST:
@@ -455,7 +467,7 @@ def chosen(numbers, focus, stretch):
     for one, other in zip(list(drawn), drawn[1:]):
         if other - one - 1 <= HOLE:
             drawn += range(one + 1, other)
-    return [numbers[it] for it in sorted(set(drawn))[:MOST]]
+    return [numbers[place] for place in sorted(set(drawn))[:MOST]]
 
 
 def starts_of(numbers, drawn):
@@ -470,19 +482,19 @@ class View:
     def __init__(self, shown, x, figure, stretch=None):
         self.calls, focus = shown.on(x), shown.focus
         events = sorted([call.number for call in self.calls] + [call.at for call in self.calls if call.at is not None] + shown.nemeses)
-        spots = [it for call in self.calls if call.number in focus for it in (call.number, call.at) if it is not None]
+        spots = [number for call in self.calls if call.number in focus for number in (call.number, call.at) if number is not None]
         drawn = set(chosen(events, spots, stretch or shown.stretch))
-        self.bars = {int(it.get("data-op")) for it in found(figure, "g", "op")}
+        self.bars = {int(bar.get("data-op")) for bar in found(figure, "g", "op")}
         self.lanes = {shown.calls[bar].process for bar in self.bars}
         inside = [call for call in self.calls if call.number in drawn or call.at in drawn]
         # Those without a lane.
-        self.gone = [it for it in inside if it.process not in self.lanes]
-        self.inside = {it.number for it in inside} - {it.number for it in self.gone}
+        self.gone = [call for call in inside if call.process not in self.lanes]
+        self.inside = {call.number for call in inside} - {call.number for call in self.gone}
         own = {None, *self.lanes}
         self.kept = events
         self.drawn = [event for event in events if event in drawn and (not self.gone or shown.process_at.get(event) in own)]
         starts = starts_of(self.kept, set(self.drawn))
-        ends = lambda it: float("inf") if it.end in ("open", "info") else it.at
+        ends = lambda call: float("inf") if call.end in ("open", "info") else call.at
         others = [call for call in self.calls if call.number not in drawn and call.at not in drawn]
         self.through = {other.number for other in others if any(other.number < at < ends(other) for at in starts)}
 
@@ -490,7 +502,7 @@ class View:
         """The sentence for what is left out."""
         words, hidden = "", len(self.through - self.bars)
         if self.gone:
-            processes = len({it.process for it in self.gone})
+            processes = len({call.process for call in self.gone})
             words += f"Not drawn: {grouped(len(self.gone))} operation{'' if len(self.gone) == 1 else 's'} of {grouped(processes)} other "
             words += f"process{'' if processes == 1 else 'es'} in the same stretch. "
         if len(self.bars) < len(self.calls):
@@ -503,7 +515,7 @@ class View:
     def gaps(self, maps):
         """The maps that are left out before, between and after the drawn events, where some of them are events of the object."""
         places = {number: place for place, number in enumerate(self.kept)}
-        ends = [(-1, -1)] + [(places[it], it) for it in self.drawn] + [(len(self.kept), maps)]
+        ends = [(-1, -1)] + [(places[number], number) for number in self.drawn] + [(len(self.kept), maps)]
         return [range(earlier + 1, later) for (one, earlier), (other, later) in zip(ends, ends[1:]) if other - one > 1]
 
     def words_of(self, gap):
@@ -528,11 +540,11 @@ def why_view_false(shown, x, figure, stretch=None):
     view = View(shown, x, figure, stretch)
     if not view.inside <= view.bars <= view.inside | view.through or len(view.lanes) > LANES:
         return f"there are bars of {sorted(view.bars)}, and not {sorted(view.inside)}"
-    notes = [spelled(it) for it in found(figure, "p", "note")]
+    notes = [spelled(note) for note in found(figure, "p", "note")]
     if notes != view.note():
         return f"the notes are {notes}, and not {view.note()}"
-    titles = ["".join(it.find("title").itertext()) for it in found(figure, "g", "gap")]
-    texts = ["".join(it.find("text").itertext()).removeprefix("⋯ ") for it in found(figure, "g", "gap")]
+    titles = ["".join(gap.find("title").itertext()) for gap in found(figure, "g", "gap")]
+    texts = ["".join(gap.find("text").itertext()).removeprefix("⋯ ") for gap in found(figure, "g", "gap")]
     gaps = view.gaps(shown.maps) if view.drawn else []
     wanted = [view.words_of(gap) for gap in gaps]
     if titles != wanted or texts != [grouped(len(gap)) for gap in gaps]:
@@ -549,27 +561,27 @@ def why_view_false(shown, x, figure, stretch=None):
 
 def shown_counts(figure):
     """How many operations have bars in a figure, and how many its gaps count."""
-    titles = ["".join(it.find("title").itertext()) for it in found(figure, "g", "gap")]
-    bars = {it.get("data-op") for it in found(figure, "g", "op")}
+    titles = ["".join(gap.find("title").itertext()) for gap in found(figure, "g", "gap")]
+    bars = {bar.get("data-op") for bar in found(figure, "g", "op")}
     return len(bars), sum(number_in(re.search(r"with ([\d ]+) op", title)[1]) for title in titles)
 
 
 def stretches_of(page, x):
     """The other stretches of an object: the maps from one on and before one, and the figure."""
-    for it in found(page.body, "details", "stretch"):
-        if it.get("id").startswith(f"s{x}-"):
-            since, until = re.fullmatch(r"Maps (\d+) to (\d+)", it.find("summary").text).groups()
-            yield (int(since), int(until) + 1), it.find("figure")
+    for details in found(page.body, "details", "stretch"):
+        if details.get("id").startswith(f"s{x}-"):
+            since, until = re.fullmatch(r"Maps (\d+) to (\d+)", details.find("summary").text).groups()
+            yield (int(since), int(until) + 1), details.find("figure")
 
 
 def why_stretches_false(shown, x, figure):
     """What is false of the other stretches of an object, or None."""
-    drawn = {int(it.get("data-op")) for it in found(figure, "g", "op")}
+    drawn = {int(bar.get("data-op")) for bar in found(figure, "g", "op")}
     for stretch, own in stretches_of(shown.page, x):
         wrong = why_view_false(shown, x, own, stretch) or why_points_false(shown, x, own)
         if wrong:
             return f"the stretch {stretch}: {wrong}"
-        inside = {it for it in View(shown, x, own, stretch).inside if any(since <= it for since in stretch[:1])}
+        inside = {number for number in View(shown, x, own, stretch).inside if any(since <= number for since in stretch[:1])}
         if inside & drawn:
             return f"the stretch {stretch} has operations that are drawn before"
         drawn |= inside
@@ -585,13 +597,15 @@ COLUMNS, COLUMN = 480, 2
 
 def at_once(calls, maps):
     """How many calls run at most at one time. One that is pending runs until its :info."""
-    changes = sorted((at, change) for it in calls if it.is_live() for at, change in ((it.number, 1), ((maps if it.at is None else it.at + 1), -1)))
+    live = [call for call in calls if call.is_live()]
+    ends = [maps if call.at is None else call.at + 1 for call in live]
+    changes = sorted([*((call.number, 1) for call in live), *((end, -1) for end in ends)])
     return max(itertools.accumulate((change for _, change in changes), initial=0))
 
 
 def why_strip_false(shown, x, figure):
     """What is false of the strip of an object, or None."""
-    view, strips = View(shown, x, figure), [it for it in found(shown.page.body, "figure", "strip")]
+    view, strips = View(shown, x, figure), [strip for strip in found(shown.page.body, "figure", "strip")]
     is_wanted = len(view.drawn) > 0 and len(view.inside) < len(view.calls)
     if len(shown.figures) > 1:
         return None
@@ -604,15 +618,15 @@ def why_strip_false(shown, x, figure):
     if not caption.startswith(wanted):
         return f"the caption of the strip is {caption}, and not {wanted}"
     column = lambda number: number * min(COLUMNS, maps) // maps
-    frames = [(int(it.get("x")) // COLUMN, int(it.get("width")) // COLUMN) for it in found(strips[0], "rect", "shown")]
-    framed = {it for start, width in frames for it in range(start, start + width)}
-    if not {column(it) for it in view.drawn} <= framed:
+    frames = [(int(frame.get("x")) // COLUMN, int(frame.get("width")) // COLUMN) for frame in found(strips[0], "rect", "shown")]
+    framed = {place for start, width in frames for place in range(start, start + width)}
+    if not {column(number) for number in view.drawn} <= framed:
         return "what is drawn is not framed in the strip"
-    links = [(it.get("href"), int(it.find("rect").get("x")) // COLUMN) for it in found(strips[0], "a")]
+    links = [(link.get("href"), int(link.find("rect").get("x")) // COLUMN) for link in found(strips[0], "a")]
     if links != [(f"#s{x}-{place}", column(stretch[0])) for place, (stretch, _) in enumerate(stretches_of(shown.page, x), 1)]:
         return f"the strip leads to {links}"
-    spots = {it for call in view.calls if call.number in shown.focus for it in (call.number, call.at) if it is not None}
-    marks = [int(it) // COLUMN for path in found(strips[0], "path", "marked") for it in re.findall(r"M(\d+) ", path.get("d"))]
+    spots = {number for call in view.calls if call.number in shown.focus for number in (call.number, call.at) if number is not None}
+    marks = [int(start) // COLUMN for path in found(strips[0], "path", "marked") for start in re.findall(r"M(\d+) ", path.get("d"))]
     return None if marks == sorted({column(spot) for spot in spots}) else f"the strip has marks at {marks}"
 
 
@@ -629,11 +643,11 @@ OUTLINED = "In its surroundings: the operations of the reason are outlined, the 
 def why_caption_false(shown, number, x, figure):
     """What is false of the caption of the figure of an object, which is this many after the first one, or None."""
     caption, points = spelled(figure.find("figcaption")), found(figure, "a", "pt")
-    focus, bars = shown.focus, [(int(it.get("data-op")), classes(it)) for it in found(figure, "g", "op")]
+    focus, bars = shown.focus, [(int(bar.get("data-op")), classes(bar)) for bar in found(figure, "g", "op")]
     if any(("focus" in those) != (number in focus) for number, those in bars):
         return f"other operations than {sorted(focus)} are outlined"
     if caption == OUTLINED:
-        is_so = shown.page.answer == "impossible" and all("dim" in those for it, those in bars if it not in focus)
+        is_so = shown.page.answer == "impossible" and all("dim" in those for bar, those in bars if bar not in focus)
     elif caption == "In its surroundings.":
         is_so = shown.page.by_id("zoom") is not None
     elif caption == "As above.":
@@ -671,13 +685,13 @@ def is_of_token(bar):
 
 def signs_of(page):
     """What the figures of a page show, each as the legend names it."""
-    lines = [it for it in page.body.iter("svg") if "sys" in classes(it)]
-    bars = [it for line in lines for it in found(line, "g", "op")]
-    has = lambda name: any(name in classes(it) for it in bars)
-    shining = [(classes(it), is_of_token(it)) for it in bars if "dim" not in classes(it)]
+    lines = [line for line in page.body.iter("svg") if "sys" in classes(line)]
+    bars = [bar for line in lines for bar in found(line, "g", "op")]
+    has = lambda name: any(name in classes(bar) for bar in bars)
+    shining = [(classes(bar), is_of_token(bar)) for bar in bars if "dim" not in classes(bar)]
     shines = lambda name, of_token=False: any(name in those and of_token == is_so for those, is_so in shining)
     is_open = lambda bar: "pending" not in classes(bar) and not bar.find(".//path[@class='edge']").get("d").endswith("Z")
-    points = [it for line in lines for it in found(line, "a", "pt")]
+    points = [point for line in lines for point in found(line, "a", "pt")]
     among = lambda name: any(found(line, "g", name) for line in lines)
     return {
         " puts in or sets": shines("put"),
@@ -688,7 +702,7 @@ def signs_of(page):
         " compares and sets": shines("swap"),
         " pending: open at the right, it may have happened or not": has("pending"),
         " failed: it did not happen": has("failed"),
-        " open at an end: it goes on outside of this line": any(is_open(it) for it in bars),
+        " open at an end: it goes on outside of this line": any(is_open(bar) for bar in bars),
         " what the sentence above speaks of": has("focus"),
         " its rank in the order": bool(points),
         " the entry that is refused": any("bad" in classes(point) for point in points),
@@ -701,7 +715,7 @@ def signs_of(page):
 
 def why_legend_false(page):
     """What is false of the legend of a page, or None: it explains what is there, and nothing else."""
-    told = [it.find("svg").tail for legend in found(page.body, "details", "legend") for it in legend.iter("li")]
+    told = [item.find("svg").tail for legend in found(page.body, "details", "legend") for item in legend.iter("li")]
     wanted = [name for name, is_there in signs_of(page).items() if is_there]
     return None if told == wanted else f"the legend has {told}, and not {wanted}"
 
@@ -716,23 +730,23 @@ def first_of(wrongs):
 
 def all_figures(page):
     """The figures with lines: those of objects and of their other stretches, and that of a fault or a reason."""
-    return [it for it in page.body.iter("figure") if it.find("div/svg[@class='sys']") is not None]
+    return [figure for figure in page.body.iter("figure") if figure.find("div/svg[@class='sys']") is not None]
 
 
 def of_each(check):
     """A check of each figure."""
-    return lambda shown: first_of(check(it) for it in all_figures(shown.page))
+    return lambda shown: first_of(check(figure) for figure in all_figures(shown.page))
 
 
 def of_objects(check):
     """A check of the whole figure of each object."""
-    return lambda shown: first_of(check(shown, x, it) for x, it in shown.figures)
+    return lambda shown: first_of(check(shown, x, figure) for x, figure in shown.figures)
 
 
 # What is checked on a page beside its sentences, each by its name.
 CHECKS = {
     "legend": lambda shown: why_legend_false(shown.page),
-    "bars": lambda shown: first_of(why_bars_false(it, shown.calls) for it in all_figures(shown.page)),
+    "bars": lambda shown: first_of(why_bars_false(figure, shown.calls) for figure in all_figures(shown.page)),
     "labels": of_each(why_labels_false),
     "marks": of_each(why_marks_collide),
     "touching": of_each(why_bars_touch),
@@ -742,7 +756,7 @@ CHECKS = {
     "view": of_objects(why_view_false),
     "stretches": of_objects(why_stretches_false),
     "strip": of_objects(why_strip_false),
-    "captions": lambda shown: first_of(why_caption_false(shown, number, x, it) for number, (x, it) in enumerate(shown.figures)),
+    "captions": lambda shown: first_of(why_caption_false(shown, number, x, figure) for number, (x, figure) in enumerate(shown.figures)),
     "points": of_objects(why_points_false),
     "rows": lambda shown: first_of(why_rows_false(shown, x) for x, _ in shown.figures if x in shown.orders),
 }

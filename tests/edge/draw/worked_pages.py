@@ -26,7 +26,8 @@ PAGES = (
         "no",
         (
             '<a class="skiplink" href="#fault">Go to the fault</a>',
-            ". But #0 returned at event 1, before #2 was invoked at event 2. An operation that returned before another began must stand before it.</p>",
+            ". But #0 returned at event 1, before #2 was invoked at event 2. "
+            "An operation that returned before another began must stand before it.</p>",
             '<path class="line" d="M139 35h10V77H190"/>',
             '<a class="pt bad" href="#r0-2"',
             "<td>returned at event 1, before #2 was invoked</td>",
@@ -102,7 +103,8 @@ FAULTS = (
         "{:process 0, :type :ok, :f :read, :value 1}\n",
         False,
         (
-            '<p class="say">The text can be read, but it is no history. Event 6 invokes an operation of process 0, and <a class="ref" href="#o4"><b>#4</b> <code>read → ?</code></a> of that process is still outstanding.</p>',
+            '<p class="say">The text can be read, but it is no history. Event 6 invokes an operation of process 0, and '
+            '<a class="ref" href="#o4"><b>#4</b> <code>read → ?</code></a> of that process is still outstanding.</p>',
             '<tr class="at"><th>7</th><td><mark>{:process 0, :type :invoke, :f :write, :value 3}</mark></td></tr><tr><th>8</th>',
             "<figcaption>The operation that is outstanding, event 4</figcaption>",
             'viewBox="0 0 341 80" width="511" height="120"',
@@ -117,7 +119,8 @@ FAULTS = (
         "{:process 0, :type :invoke, :f :enqueue, :value 2}\n",
         False,
         (
-            'Event 2 is of process 0, which the :info at event 1 closed: <a class="ref" href="#o0"><b>#0</b> <code>enqueue 1 → ?</code></a> may have happened or not, so what it does next must be of another process.</p>',
+            'Event 2 is of process 0, which the :info at event 1 closed: <a class="ref" href="#o0"><b>#0</b> <code>enqueue 1 → ?</code></a> '
+            "may have happened or not, so what it does next must be of another process.</p>",
             "<figcaption>The :info that closed the process, event 1</figcaption>",
             'viewBox="0 0 302 54" width="453" height="81"',
             '<text class="num on" x="180" y="12">2</text>',
@@ -199,14 +202,14 @@ def pages_of_orders(program, report):
         page = ran.out.decode()
         report.equal(f"draw: page {number}: status", (0 if answer == "yes" else 1, b""), (ran.status, ran.err))
         report.holds(f"draw: page {number}: class", f'<body class="{answer}">' in page, page[:500])
-        for it in texts:
-            report.holds(f"draw: page {number}: {it}", it in page, page)
+        for text in texts:
+            report.holds(f"draw: page {number}: {text}", text in page, page)
         report.holds(f"draw: page {number}: markup", "<script" not in page and ESCAPED in page, page)
 
 
 def numbers(pattern, text):
     """The numbers of each place that a pattern finds."""
-    return [tuple(int(it) for it in found) for found in re.findall(pattern, text)]
+    return [tuple(int(digits) for digits in found) for found in re.findall(pattern, text)]
 
 
 def bars_and_points(program, report):
@@ -232,8 +235,8 @@ def pages_of_faults(program, report):
         files = (program.write("history.edn", ""), name) if is_of_certificates else (name,)
         ran = program.run("draw", *files)
         report.equal(f"draw: fault {number}: status", (2, b""), (ran.status, ran.err))
-        for it in ("&lt;b&gt;", *texts):
-            report.holds(f"draw: fault {number}: {it}", it in ran.out.decode(), ran.out.decode())
+        for word in ("&lt;b&gt;", *texts):
+            report.holds(f"draw: fault {number}: {word}", word in ran.out.decode(), ran.out.decode())
         report.holds(f"draw: fault {number}: markup", b"<b></p>" not in ran.out)
 
 

@@ -129,7 +129,7 @@ def calls_of_values(kind):
 
 
 FOUND = {
-    **{it: calls_of_values(it) for it in PUTS_AND_TAKES},
+    **{kind: calls_of_values(kind) for kind in PUTS_AND_TAKES},
     "register": (
         done("write", 1, 1),
         done("write", 2, 2),
@@ -191,7 +191,7 @@ def found_by_force(program, report):
                 turns = digits(chance.below(3 ** (2 * size)), 3, 2 * size)
                 if are_turns(turns):
                     chosen = digits(chance.below(len(calls) ** size), len(calls), size)
-                    histories.add(history_of(turns, [calls[it] for it in chosen]))
+                    histories.add(history_of(turns, [calls[operation] for operation in chosen]))
         counts.append(histories.counts())
         report.holds(f"find: {kind}: there are small histories with an order and without", 0 < counts[-1][1] < counts[-1][0], counts)
         find_both_sorts(program, report, f"find: small histories of a {kind}", histories)
@@ -287,7 +287,7 @@ WHOLE = re.compile(rb":cuts \[\]\}$", re.M)
 def first_value(value):
     """The first of the values 1 and 2 that is named in an argument or a reply, or None."""
     named = value if isinstance(value, tuple) else (value,)
-    return next((it for it in named if it in (1, 2)), None)
+    return next((part for part in named if part in (1, 2)), None)
 
 
 class Every:
@@ -330,9 +330,9 @@ class Every:
                 for kind, value in (*[("ok", reply) for reply in replies], ("fail", argument)):
                     self.step(text, maps, left, others, state, is_named, (process, kind, f, value))
             elif left and (process == 0 or maps):
-                for it in self.calls:
-                    others = (it, waiting[1]) if process == 0 else (waiting[0], it)
-                    self.step(text, maps, left - 1, others, state, is_named, (process, "invoke", it[0], it[1]))
+                for begun in self.calls:
+                    others = (begun, waiting[1]) if process == 0 else (waiting[0], begun)
+                    self.step(text, maps, left - 1, others, state, is_named, (process, "invoke", begun[0], begun[1]))
 
 
 def judge_both_sorts(program, report, name, histories):
@@ -346,8 +346,8 @@ def judge_both_sorts(program, report, name, histories):
 
     def impossible(history, _, count):
         ran = program.run(*words, history)
-        said = b"".join(line for line in ran.out.splitlines(True) if line.startswith(b"; object "))
-        differs = brute_force.difference(brute_force.all_say(count, "impossible"), said)
+        of_objects = b"".join(line for line in ran.out.splitlines(True) if line.startswith(b"; object "))
+        differs = brute_force.difference(brute_force.all_say(count, "impossible"), of_objects)
         reasons = ran.out.count(b"\n; {:object "), len(WHOLE.findall(ran.out))
         return [(f"{name}, without an order", (1, b"", None, (count, 0)), (ran.status, ran.err, differs, reasons))]
 
@@ -359,9 +359,9 @@ def judged_by_force(program, report):
     """judge finds a reason for each small history that has no valid order, and for no other."""
     for kind, calls, operations, of_two, *counts in ALL:
         name = f"judge: all small histories of a {kind} of at most {operations} operations"
-        made = Every(JUDGED[kind][:calls], operations, of_two, lambda it: judge_both_sorts(program, report, name, it))
-        report.equal(f"{name}, and those without an order", tuple(counts), (made.count, made.without))
-    return f"{sum(it[4] for it in ALL)} histories"
+        every = Every(JUDGED[kind][:calls], operations, of_two, lambda lot: judge_both_sorts(program, report, name, lot))
+        report.equal(f"{name}, and those without an order", tuple(counts), (every.count, every.without))
+    return f"{sum(row[4] for row in ALL)} histories"
 
 
 def search_and_judge_both_sorts(program, report, name, histories):
@@ -375,8 +375,8 @@ def search_and_judge_both_sorts(program, report, name, histories):
 
     def impossible(history, _, count):
         ran = program.run("judge", history)
-        said = b"".join(line for line in ran.out.splitlines(True) if line.startswith(b"; object "))
-        differs = brute_force.difference(brute_force.all_say(count, "impossible"), said)
+        of_objects = b"".join(line for line in ran.out.splitlines(True) if line.startswith(b"; object "))
+        differs = brute_force.difference(brute_force.all_say(count, "impossible"), of_objects)
         reasons = b"".join(line[2:] for line in ran.out.splitlines(True) if line.startswith(b"; {:object "))
         refuted = program.run("refute", history, program.write(f"{history}.reasons", reasons))
         shown = refuted.out.count(b"not linearizable: object ")
@@ -391,11 +391,11 @@ def later_by_force(program, report):
     judged = 0
     for kind, calls, operations in LATER:
         name = f"all small histories of a {kind} of at most {operations} operations"
-        made = Every(
-            SEARCHED_FOR[kind][:calls], operations, False, lambda it: search_and_judge_both_sorts(program, report, name, it)  # noqa: B023
+        every = Every(
+            SEARCHED_FOR[kind][:calls], operations, False, lambda lot: search_and_judge_both_sorts(program, report, name, lot)  # noqa: B023
         )
-        report.holds(f"{name}: some have an order and some have none", 0 < made.without < made.count, (made.count, made.without))
-        judged += made.count
+        report.holds(f"{name}: some have an order and some have none", 0 < every.without < every.count, (every.count, every.without))
+        judged += every.count
     return f"{judged} histories"
 
 

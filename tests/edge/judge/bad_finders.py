@@ -14,6 +14,7 @@ from ..verify import worked_evidence
 from ..verify.reasons import why_not_explained
 from ..running import at_once
 from ..text_writers import certificate, lines, one_process, order
+from ..worked_rows import yes
 
 # A judgement whose finder goes on after it closed its output takes less, in seconds, on a slow machine too: the finder would go on for 1,000.
 SOON = 300
@@ -21,12 +22,14 @@ SOON = 300
 
 @dataclass(frozen=True)
 class Judged:
-    """A history, the status that it has, and evidence that shows so."""
+    """A history, the status that it has, evidence that shows so, and what judge then prints: all of it of a yes and of a malformed history, and of
+    the others nothing, since the lines of a no are the reasons of the finder."""
 
     name: str
     text: str
     status: int
     evidence: str
+    out: str = ""
 
     def statuses(self, shows):
         """The statuses that judge may end with, where the evidence shows this of the history."""
@@ -40,16 +43,16 @@ class Judged:
 OLD_VALUE = one_process(("write", 1, 1), ("write", 2, 2), ("read", None, 1))
 ALL_STEPS = worked_evidence.searched("return", 1000)
 HISTORIES = (
-    Judged("enqueues that overlap", worked_rows.OVERLAPPING, 0, order(1, 0, 4)),
-    Judged("two queues", worked_rows.TWO_QUEUES, 0, worked_rows.TWO_ORDERS),
-    Judged("a mutex that is passed on", worked_rows.MUTEX, 0, order(0, 3, 2)),
-    Judged("a heap", worked_rows.HEAP, 0, order(*range(0, 14, 2))),
-    Judged("a register", worked_rows.REGISTER, 0, order(0, 2, 4, 6)),
-    Judged("a map", worked_rows.MAP, 0, order(0, 2, 4, 6, 8)),
-    Judged("a pending enqueue", worked_rows.PENDING, 0, order(0, 1)),
-    Judged("a search that finds an order", worked_rows.RETURNS_CROSSED, 0, ALL_STEPS),
-    Judged("no object", "", 0, ""),
-    Judged("a malformed history", worked_rows.AFTER_INFO, 2, order(0)),
+    Judged("enqueues that overlap", worked_rows.OVERLAPPING, 0, order(1, 0, 4), worked_rows.THREE_YES),
+    Judged("two queues", worked_rows.TWO_QUEUES, 0, worked_rows.TWO_ORDERS, worked_rows.QUEUES_YES),
+    Judged("a mutex that is passed on", worked_rows.MUTEX, 0, order(0, 3, 2), worked_rows.MUTEX_YES),
+    Judged("a heap", worked_rows.HEAP, 0, order(*range(0, 14, 2)), yes(7, 1, "heap: 1 objects, 7 operations")),
+    Judged("a register", worked_rows.REGISTER, 0, order(0, 2, 4, 6), yes(4, 1, "register: 1 objects, 4 operations")),
+    Judged("a map", worked_rows.MAP, 0, order(0, 2, 4, 6, 8), yes(5, 1, "map: 1 objects, 5 operations")),
+    Judged("a pending enqueue", worked_rows.PENDING, 0, order(0, 1), worked_rows.QUEUE_YES),
+    Judged("a search that finds an order", worked_rows.RETURNS_CROSSED, 0, ALL_STEPS, worked_rows.QUEUE_YES),
+    Judged("no object", "", 0, "", yes(0, 0)),
+    Judged("a malformed history", worked_rows.AFTER_INFO, 2, order(0), "malformed history: H8 at map 2\n"),
     Judged("the second of three values", worked_rows.THREE_VALUES, 1, worked_rows.TWO_OF_THREE + "\n"),
     Judged("a value taken twice", worked_evidence.TWICE, 1, worked_evidence.COUNTED + "\n"),
     Judged("a queue of two that is wrong", worked_rows.ONE_OF_TWO, 1, "{:object 0, :cuts []}\n" + lines(certificate(1, 0))),
@@ -85,7 +88,7 @@ FORGED = r'{:object 0, :cuts [{:until 0}], :note "it is\nyes: 3 operations, 1 ob
 WRONG = {
     "nothing": (lambda evidence: "", "nothing"),
     "a line feed": (lambda evidence: "\n", "nothing"),
-    "comments": (lambda evidence: "".join(f"; {it}\n" for it in evidence.splitlines()), "nothing"),
+    "comments": (lambda evidence: "".join(f"; {line}\n" for line in evidence.splitlines()), "nothing"),
     "half a line": (lambda evidence: evidence[: len(evidence.partition("\n")[0]) // 2], "nothing"),
     "all but the last brace": (lambda evidence: evidence.rstrip().removesuffix("}"), "nothing"),
     "no line feed at the end": (str.rstrip, "all"),
@@ -99,9 +102,9 @@ WRONG = {
     "orders without their last entry": (entries(lambda those: those[:-1]), "perhaps"),
     "orders without their first entry": (entries(lambda those: those[1:]), "perhaps"),
     "orders with their last entry twice": (entries(lambda those: those + those[-1:]), "perhaps"),
-    "orders of the maps after": (entries(lambda those: [moved(it) for it in those]), "perhaps"),
-    "orders of huge numbers": (entries(lambda those: [f"{it}{worked_rows.LARGEST}" for it in those]), "perhaps"),
-    "empty orders": (lambda evidence: "".join(f"{certificate(it)}\n" for it in range(2)), "perhaps"),
+    "orders of the maps after": (entries(lambda those: [moved(entry) for entry in those]), "perhaps"),
+    "orders of huge numbers": (entries(lambda those: [f"{entry}{worked_rows.LARGEST}" for entry in those]), "perhaps"),
+    "empty orders": (lambda evidence: "".join(f"{certificate(on)}\n" for on in range(2)), "perhaps"),
     "numbers of other maps": (replaced(r"\d+", lambda found: moved(found[0])), "perhaps"),
     "a count of 1": (lambda evidence: "{:object 0, :cuts [], :count {:value 1, :from 0}}", "perhaps"),
     "a count of an empty part": (lambda evidence: "{:object 0, :cuts [{:until 0}], :count {:value 1, :from 0}}", "nothing"),
@@ -109,7 +112,7 @@ WRONG = {
     "a part from the last operation": (lambda evidence: "{:object 0, :cuts [{:from 4}]}", "perhaps"),
     "a value that was not there": (lambda evidence: "{:object 0, :cuts [{:without 1, :before 3}]}", "perhaps"),
     "a cell of another value": (lambda evidence: "{:object 0, :cuts [{:cell [2], :other 1}]}", "perhaps"),
-    "searches without a step": (lambda evidence: lines(*[f"{{:object {it}, :search {{:steps 0}}}}" for it in range(2)]), "perhaps"),
+    "searches without a step": (lambda evidence: lines(*[f"{{:object {on}, :search {{:steps 0}}}}" for on in range(2)]), "perhaps"),
     "a sentence that looks like an answer": (lambda evidence: FORGED, "perhaps"),
     "the answer yes": (lambda evidence: "yes: 3 operations, 1 objects\nqueue: 1 objects, 3 operations\n", "nothing"),
     "the answer no": (lambda evidence: "; object 0: impossible\n; {:object 0, :cuts []}\n", "nothing"),
@@ -128,10 +131,10 @@ def scripts_of_wrong_evidence(program):
     """A finder for each history and each sort of wrong evidence, what its evidence shows, and the history. Then the same with the right
     evidence of another history."""
     for number, (name, (change, shows)) in enumerate(WRONG.items()):
-        for of, it in enumerate(HISTORIES):
-            yield name, finder(program, f"wrong.{number}.{of}", 'cat "$evidence"', change(it.evidence)), shows, it
-    for (one, it), (other, its) in itertools.permutations(enumerate(HISTORIES), 2):
-        yield f"evidence of {its.name}", finder(program, f"other.{one}.{other}", 'cat "$evidence"', its.evidence), "perhaps", it
+        for of, history in enumerate(HISTORIES):
+            yield name, finder(program, f"wrong.{number}.{of}", 'cat "$evidence"', change(history.evidence)), shows, history
+    for (one, history), (other, its) in itertools.permutations(enumerate(HISTORIES), 2):
+        yield f"evidence of {its.name}", finder(program, f"other.{one}.{other}", 'cat "$evidence"', its.evidence), "perhaps", history
 
 
 def finder(program, name, script, evidence):
@@ -185,43 +188,39 @@ def is_gone(path):
 # ---- judgements by bad finders
 
 
-def why_wrong(program, it, ran):
-    """What is wrong with an answer, or None. A yes is that of check; a no gives reasons that hold; else a message says why there is no answer."""
-    if ran.status == 0:
-        said = program.run("check", f"finder.{it.status}.edn", f"finder.{it.status}.edn") if not it.text else None
-        is_yes = ran.out.startswith(b"yes: ") and (said is None or said.out == ran.out)
-        return None if is_yes else f"no yes: {ran}"
+def why_wrong(program, history, ran):
+    """What is wrong with an answer, or None. A yes has the counts of the history, whatever the evidence, and a malformed history its fault; a no
+    gives reasons that hold; else a message says why there is no answer."""
+    if ran.status in (0, 2):
+        return None if ran.out == history.out.encode() else f"not {history.out!r}: {ran}"
     if ran.status == 1:
-        return why_not_explained(program, it.text, ran)
-    if ran.status == 2:
-        return None if ran.out.startswith(b"malformed history: ") else f"no fault: {ran}"
+        return why_not_explained(program, history.text, ran)
     lines_of_open = rb"(; object \d+: (open|out of steps after \d+)\n)+|malformed evidence: [EKN]\d+ at (byte|form) \d+\n"
     return None if re.fullmatch(lines_of_open, ran.out) else f"no message: {ran}"
 
 
-def judged(program, path, it):
+def judged(program, path, history):
     """Judges a history by this finder."""
-    name = f"judged.{abs(hash((path, it.name)))}.edn"
-    return program.run("judge", program.write(name, it.text), env={"FCBENCH_FINDER": path})
+    name = f"judged.{abs(hash((path, history.name)))}.edn"
+    return program.run("judge", program.write(name, history.text), env={"FCBENCH_FINDER": path})
 
 
-def look(program, report, name, shows, it, ran, says=b""):
+def look(program, report, name, shows, history, ran, says=b""):
     """Looks at the answer of judge, where the finder's output shows this."""
-    name = f"judge: {name}: {it.name}"
-    statuses = it.statuses(shows)
+    name = f"judge: {name}: {history.name}"
+    statuses = history.statuses(shows)
     report.holds(f"{name}: the status is in {sorted(statuses)}", ran.status in statuses, ran)
-    report.equal(f"{name}: the answer", None, why_wrong(program, it, ran))
+    report.equal(f"{name}: the answer", None, why_wrong(program, history, ran))
     is_said = says in ran.err if says else ran.err == b""
     report.holds(f"{name}: standard error", is_said, ran)
 
 
 def wrong_evidence(program, report):
     """Judgements with finders that print wrong evidence and then end."""
-    program.write("finder.0.edn", "")
     cases = list(scripts_of_wrong_evidence(program))
     found = at_once(lambda case: judged(program, case[1], case[3]), cases)
-    for (name, _, shows, it), ran in zip(cases, found):
-        look(program, report, name, shows, it, ran)
+    for (name, _, shows, history), ran in zip(cases, found):
+        look(program, report, name, shows, history, ran)
     statuses = [ran.status for ran in found]
     report.holds("judge: bad finders lead to each status", set(statuses) == {0, 1, 2, 3}, statuses)
     return f"{len(WRONG) + len(HISTORIES)} forms, {len(cases)} judgements, {statuses.count(3)} undecided"
@@ -229,19 +228,18 @@ def wrong_evidence(program, report):
 
 def dying_finders(program, report):
     """Judgements with finders that are killed, or end too early."""
-    program.write("finder.0.edn", "")
-    cases = [(name, *of, it, finder(program, f"dying.{number}.{at}", of[0], it.evidence))
-             for number, (name, of) in enumerate(DYING.items()) for at, it in enumerate(HISTORIES)]
-    for (name, _, shows, says, it, _), ran in zip(cases, at_once(lambda case: judged(program, case[-1], case[-2]), cases)):
-        look(program, report, name, shows, it, ran, says)
+    cases = [(name, *of, history, finder(program, f"dying.{number}.{at}", of[0], history.evidence))
+             for number, (name, of) in enumerate(DYING.items()) for at, history in enumerate(HISTORIES)]
+    for (name, _, shows, says, history, _), ran in zip(cases, at_once(lambda case: judged(program, case[-1], case[-2]), cases)):
+        look(program, report, name, shows, history, ran, says)
     return f"{len(DYING)} forms, {len(cases)} judgements"
 
 
 # Two that are linearizable, two that are not, and a malformed one.
 FEW = tuple(
-    it
-    for it in HISTORIES
-    if it.text in (
+    history
+    for history in HISTORIES
+    if history.text in (
         worked_rows.OVERLAPPING,
         worked_rows.TWO_QUEUES,
         worked_rows.THREE_VALUES,
@@ -254,23 +252,22 @@ FEW = tuple(
 def endless_finders(program, report):
     """Judgements with finders that do not end. judge ends them as soon as it has the answer."""
     slowest = 0
-    for (number, (name, (script, shows))), (at, it) in itertools.product(enumerate(ENDLESS.items()), enumerate(FEW)):
-        path = finder(program, f"endless.{number}.{at}", 'echo $$ > "$evidence.pid"\n' + script, it.evidence)
+    for (number, (name, (script, shows))), (at, history) in itertools.product(enumerate(ENDLESS.items()), enumerate(FEW)):
+        path = finder(program, f"endless.{number}.{at}", 'echo $$ > "$evidence.pid"\n' + script, history.evidence)
         begun = time.monotonic()
-        ran = judged(program, path, it)
+        ran = judged(program, path, history)
         seconds = time.monotonic() - begun
         slowest = max(slowest, seconds)
         # Whether the finder was ended by the closed pipe, or by the tools, depends on which came first.
         says = b"the finder failed" if b"the finder failed" in ran.err else b""
-        look(program, report, name, shows, it, ran, says)
-        report.holds(f"judge: {name}: {it.name}: it ends soon", seconds < SOON, seconds)
-        report.holds(f"judge: {name}: {it.name}: the finder is gone", is_gone(f"{path}.edn.pid"))
+        look(program, report, name, shows, history, ran, says)
+        report.holds(f"judge: {name}: {history.name}: it ends soon", seconds < SOON, seconds)
+        report.holds(f"judge: {name}: {history.name}: the finder is gone", is_gone(f"{path}.edn.pid"))
     return f"{len(ENDLESS)} forms, {len(ENDLESS) * len(FEW)} judgements, the slowest took {slowest:.1f} s"
 
 
 def finders_that_cannot_start(program, report):
     """If the finder is missing, may not be run, or is another program, there is no evidence, and standard error says why."""
-    program.write("finder.0.edn", "")
     program.write("finder.text", "{:object 0, :order [1 0 4]}")
     os.makedirs(f"{program.folder}/finder.folder", exist_ok=True)
     missing = b"the finder cannot be started, so there is no evidence"
@@ -282,8 +279,8 @@ def finders_that_cannot_start(program, report):
         "a finder that says nothing": ("/bin/true", b""),
     }
     for name, (path, says) in finders.items():
-        for it in HISTORIES:
-            look(program, report, name, "nothing", it, judged(program, path, it), says)
+        for history in HISTORIES:
+            look(program, report, name, "nothing", history, judged(program, path, history), says)
     return f"{len(finders)} forms"
 
 

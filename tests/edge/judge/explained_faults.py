@@ -73,7 +73,11 @@ OF_CODES = (
         f"{READ}\n{{:process 0, :type :info, :f :read}}\n{READ}",
         "; event 2, line 3: event 1 is the :info of process 0, which has no events after it: its thread goes on as another process",
     ),
-    ("H9 at map 1000000", "{:process :x}\n" * 1_000_001, "; event 1000000, line 1000001: a history has at most 1,000,000 events; fcbench split divides a longer one"),
+    (
+        "H9 at map 1000000",
+        "{:process :x}\n" * 1_000_001,
+        "; event 1000000, line 1000001: a history has at most 1,000,000 events; fcbench split divides a longer one",
+    ),
     ("E1 at byte 7", b"; first\xff", "; line 1: \\xff: the text is not UTF-8"),
     ("E1 at byte 1", b"\x1f\x8b\x08\x00", "; line 1: the file is compressed: decompress it with zcat first"),
     ("E9 at byte 0", "\ufeff{:process 0}", "; line 1: a byte order mark: remove it"),
@@ -132,7 +136,7 @@ def import_is_advised(program, report):
         ran, lines = said_of(program, path)
         line = f"fcbench import --names names.edn{options} '{path}' > judged.edn && fcbench judge --names names.edn judged.edn"
         advice = [] if options is None else [f"; it can be imported: {line}"]
-        report.equal(f"judge: import is advised: {text}", (2, advice), (ran.returncode, [it for it in lines if "import" in it]))
+        report.equal(f"judge: import is advised: {text}", (2, advice), (ran.returncode, [line for line in lines if "import" in line]))
         if options is not None:
             judged = subprocess.run(["sh", "-c", line.replace("fcbench ", f"{program.tools} ")], capture_output=True, cwd=program.folder, check=False)
             report.holds(f"judge: what is imported as advised: {text}", judged.returncode == 0 and judged.stdout.startswith(b"yes: "), judged)
@@ -140,7 +144,7 @@ def import_is_advised(program, report):
 
 def explained_faults(program, report):
     """judge says that each text is malformed, and in a second line what is wrong. check prints the first line alone."""
-    events = [(f"{{:process 0, :type :invoke, {keys}}}", f"; event 0, line 1: {said}") for keys, said in OF_EVENTS]
+    events = [(f"{{:process 0, :type :invoke, {keys}}}", f"; event 0, line 1: {sentence}") for keys, sentence in OF_EVENTS]
     for text, wanted in (*events, *OF_TEXTS):
         path = program.write("explained.edn", text)
         ran, (first, *more) = said_of(program, path)
@@ -224,12 +228,12 @@ def out_of_steps(program, report):
     path = program.write("long.edn", worked_rows.FIRST_WRITE_LAST)
     for steps, wanted in (("7", 1), ("1000000", 0)):
         ran = subprocess.run(program.line(("judge", "--steps", steps, path)), capture_output=True, cwd=program.folder, check=False)
-        said = [
-            it
-            for it in ran.stderr.decode().splitlines()
-            if it.startswith("fcbench: out of steps: --steps N lets the search take longer; distinct values and fewer :info ")
+        lines_told = [
+            line
+            for line in ran.stderr.decode().splitlines()
+            if line.startswith("fcbench: out of steps: --steps N lets the search take longer; distinct values and fewer :info ")
         ]
-        report.equal(f"judge: --steps {steps}: what to do is said", (3 * wanted, wanted), (ran.returncode, len(said)), ran)
+        report.equal(f"judge: --steps {steps}: what to do is said", (3 * wanted, wanted), (ran.returncode, len(lines_told)), ran)
 
 
 PARTS = (explained_faults, explained_codes, import_is_advised, summaries, out_of_steps)

@@ -83,13 +83,13 @@ def imports(program, report):
     folder = program.folder
     store = program.write("store.edn", STORE)
     names = f"{folder}/names.edn"
-    made = program.run("import", "--names", names, store)
-    report.equal("import: the text of a store", Ran(0, TEXT, b""), made)
+    imported = program.run("import", "--names", names, store)
+    report.equal("import: the text of a store", Ran(0, TEXT, b""), imported)
     with open(names, encoding="utf-8") as file:
         report.equal("import: its table of names", NAMES, file.read())
-    text = program.write("imported.edn", made.out)
+    text = program.write("imported.edn", imported.out)
     judged = program.run("judge", "--names", names, text)
-    report.holds("import: it is judged in its words", judged.status == 1 and all(it in judged.out for it in SAID), judged)
+    report.holds("import: it is judged in its words", judged.status == 1 and all(words in judged.out for words in SAID), judged)
     reason = b"".join(line[2:] for line in judged.out.splitlines(True) if line.startswith(b"; {"))
     refuted = program.run("refute", text, program.write("reasons.edn", reason))
     report.equal("import: its reason is accepted", 1, refuted.status, refuted)
@@ -106,9 +106,9 @@ def failed_operations(program, report):
     for error, option, warns in EMPTIES:
         path = program.write("empty.edn", WRONGLY_EMPTY.format(error))
         left_out, reply = program.run("import", path), program.run("import", option, path)
-        said = [it for it in left_out.err.decode().splitlines() if it.startswith("fcbench: warning: left out: 1 failed :dequeue with ")]
-        report.equal(f"import: {error}: warnings", (0, int(warns), b""), (left_out.status, len(said), reply.err), left_out.err)
-        statuses = [program.run("judge", program.write("text.edn", it.out)).status for it in (left_out, reply)]
+        warnings = [line for line in left_out.err.decode().splitlines() if line.startswith("fcbench: warning: left out: 1 failed :dequeue with ")]
+        report.equal(f"import: {error}: warnings", (0, int(warns), b""), (left_out.status, len(warnings), reply.err), left_out.err)
+        statuses = [program.run("judge", program.write("text.edn", imported.out)).status for imported in (left_out, reply)]
         report.equal(f"import: {error}: {option} makes a no of a yes", [0, 1], statuses)
 
 
@@ -119,7 +119,7 @@ def failed_swaps(program, report):
         left_out, reply = program.run("import", path), program.run("import", option, path)
         is_said = left_out.err.startswith(b"fcbench: warning: left out: 1 failed :cas with") and left_out.err.count(b"\n") == 1
         report.equal(f"import: a swap with {error}: warnings", (0, True, b""), (left_out.status, is_said, reply.err), left_out.err)
-        statuses = [program.run("judge", program.write("text.edn", it.out)).status for it in (left_out, reply)]
+        statuses = [program.run("judge", program.write("text.edn", imported.out)).status for imported in (left_out, reply)]
         report.equal(f"import: a swap with {error}: {option} makes a no of a yes", [0, 1], statuses)
 
 
@@ -128,7 +128,8 @@ def standard_input(program, report):
     ran = subprocess.run(program.line(("import", "-")), input=STORE.encode(), capture_output=True, cwd=program.folder, check=False)
     report.equal("import -: standard input", (0, TEXT, b""), (ran.returncode, ran.stdout, ran.stderr))
     path = program.write("store.edn.gz", gzip.compress(STORE.encode()))
-    report.answers("import: gzip", program.run("import", path), "", 4, f"fcbench: cannot read {path}: the file is compressed: decompress it with zcat first\n")
+    refused = f"fcbench: cannot read {path}: the file is compressed: decompress it with zcat first\n"
+    report.answers("import: gzip", program.run("import", path), "", 4, refused)
     path = program.write("queue.edn", WRONGLY_EMPTY.format(":error :gone"))
     ran = program.run("import", "--initial", "0", path)
     report.equal(
@@ -170,8 +171,9 @@ def drawn(seed):
 
     def call(f, key, value, reply):
         process = rng.choice(PROCESSES)
-        for kind, it in (("invoke", value), ("ok", reply)):
-            events.append(f"{{:index {len(events)}, :time {len(events) * 1000}, :process {process}, :type :{kind}, :f :{f}, :value [{key} {it}]}}")
+        for kind, own in (("invoke", value), ("ok", reply)):
+            times = f":index {len(events)}, :time {len(events) * 1000}"
+            events.append(f"{{{times}, :process {process}, :type :{kind}, :f :{f}, :value [{key} {own}]}}")
         return process
 
     def write(key):
@@ -194,7 +196,7 @@ def drawn(seed):
     process = call("read", key, "nil", old)
     form = rng.choice(("{}", "[{}]"))
     tag = rng.choice(("", "#jepsen.history.Op"))
-    return form.format("\n".join(tag + it for it in events)), events, key, old, place, process
+    return form.format("\n".join(tag + event for event in events)), events, key, old, place, process
 
 
 def named(table, sort, number):
@@ -204,13 +206,13 @@ def named(table, sort, number):
 def told_back(events, text, table):
     """Whether each operation of a text has the words of its event, by the table of names."""
     for event, line in zip(events, text.splitlines(), strict=True):
-        found = re.fullmatch(r"{:process (\d+), :type :(\w+), :f :(\w+), :value (-?\d+|nil), :object (\d+), :time (\d+), :index (\d+)}", line)
-        if not found:
+        match = re.fullmatch(r"{:process (\d+), :type :(\w+), :f :(\w+), :value (-?\d+|nil), :object (\d+), :time (\d+), :index (\d+)}", line)
+        if not match:
             of_nemesis = re.fullmatch(r"{:process :nemesis, :f :(\w+), :index (\d+)}", line)
             if not of_nemesis or not event.startswith("{:index %s, :process :nemesis, :type :info, :f :%s, " % of_nemesis.group(2, 1)):
                 return False
             continue
-        process, kind, f, value, on, moment, index = found.groups()
+        process, kind, f, value, on, moment, index = match.groups()
         words = f"[{named(table, 'object', on)} {named(table, 'value', value)}]"
         if event != f"{{:index {index}, :time {moment}, :process {named(table, 'process', process)}, :type :{kind}, :f :{f}, :value {words}}}":
             return False
@@ -222,19 +224,19 @@ def judged_in_words(program, seed):
     file, events, key, old, place, process = drawn(seed)
     stem = f"generated.{seed}"
     store, names = program.write(f"{stem}.edn", file), f"{program.folder}/{stem}.names.edn"
-    made = program.run("import", "--independent", "--names", names, store)
+    imported = program.run("import", "--independent", "--names", names, store)
     with open(names, encoding="utf-8") as lines:
         entries = [re.fullmatch(r"{:(\w+) (-?\d+), :is (.*)}\n", line).groups() for line in lines]
     table = {(sort, number): name for sort, number, name in entries}
     if not len(entries) == len(table) == len({(sort, name) for sort, _, name in entries}):
         return f"not one to one: {entries}"
-    if made.status != 0 or not told_back(events, made.out.decode(), table):
-        return f"other words: {file} {made}"
-    ran = program.run("judge", "--names", names, program.write(f"{stem}.text.edn", made.out))
+    if imported.status != 0 or not told_back(events, imported.out.decode(), table):
+        return f"other words: {file} {imported}"
+    ran = program.run("judge", "--names", names, program.write(f"{stem}.text.edn", imported.out))
     own = next((number for (sort, number), name in table.items() if (sort, name) == ("object", key)), None)
     on = key if own is None else f"{own}, which is {key}"
     wanted = (f"; object {on}: impossible\n", f"; events {place} and {place + 1}: process {process}, :read nil, :ok {old}\n")
-    return None if ran.status == 1 and all(it in ran.out.decode() for it in wanted) else f"{wanted}: {file} {ran}"
+    return None if ran.status == 1 and all(words in ran.out.decode() for words in wanted) else f"{wanted}: {file} {ran}"
 
 
 def generated_files(program, report):

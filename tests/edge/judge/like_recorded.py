@@ -32,8 +32,8 @@ class Played:
     def by_return(self):
         """For each object its calls that returned, in the order in which they did so."""
         calls, orders = calls_of(self.text())[0].values(), {}
-        for it in sorted((it for it in calls if it.end == "ok"), key=lambda it: it.at):
-            orders.setdefault(it.on, []).append(it.number)
+        for call in sorted((call for call in calls if call.end == "ok"), key=lambda call: call.at):
+            orders.setdefault(call.on, []).append(call.number)
         return orders
 
 

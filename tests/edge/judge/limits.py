@@ -21,18 +21,19 @@ def register(on):
     """The maps of a register that has one order, which is hard to find: of writes at once the one that returned first is the last, since none of
     the other values was there when they were looked for."""
     process = on * 100
-    writes = [(text_writers.invoke(process + it, "write", it, on), text_writers.ok(process + it, "write", it, on)) for it in range(WRITES)]
+    invocations = [text_writers.invoke(process + value, "write", value, on) for value in range(WRITES)]
+    completions = [text_writers.ok(process + value, "write", value, on) for value in range(WRITES)]
     looked = [
         call
-        for it in range(WRITES - 1, 0, -1)
-        for call in (text_writers.invoke(process, "cas", (it, -1), on), text_writers.ok(process, "cas", False, on))
+        for value in range(WRITES - 1, 0, -1)
+        for call in (text_writers.invoke(process, "cas", (value, -1), on), text_writers.ok(process, "cas", False, on))
     ]
-    return [*(begun for begun, _ in writes), *(ended for _, ended in writes), *looked]
+    return [*invocations, *completions, *looked]
 
 
 def long_history(first):
     """A text of many such registers, and before them an object 0 of these maps."""
-    return first + text_writers.lines(*[it for on in range(1, OBJECTS) for it in register(on)])
+    return first + text_writers.lines(*[event for on in range(1, OBJECTS) for event in register(on)])
 
 
 YES = text_writers.lines(text_writers.invoke(0, "enqueue", 1, 0), text_writers.ok(0, "enqueue", 1, 0))
@@ -91,25 +92,25 @@ def with_enough(run, is_enough):
 
 def done_in(ran):
     """How many objects were done in a judgement that was stopped, and how many there are, as it says."""
-    said = re.fullmatch(b"fcbench: stopped, " + DONE, ran.err)
-    return (int(said[1]), int(said[2])) if said else (0, None)
+    match = re.fullmatch(b"fcbench: stopped, " + DONE, ran.err)
+    return (int(match[1]), int(match[2])) if match else (0, None)
 
 
 def stopped_searches(program, report):
     """If a long search is stopped, the objects that it reached are decided, and the others are open."""
     most = 0
-    for (number, it), (name, stop) in itertools.product(enumerate(LONG), STOPS.items()):
-        path = program.write(f"stopped.{number}.edn", it.text)
+    for (number, history), (name, stop) in itertools.product(enumerate(LONG), STOPS.items()):
+        path = program.write(f"stopped.{number}.edn", history.text)
         ran = with_enough(lambda seconds: stop(program, path, seconds), lambda ran: done_in(ran)[0] > 0)
-        name = f"judge: {name}: {it.name}"
+        name = f"judge: {name}: {history.name}"
         done, objects = done_in(ran)
         report.equal(f"{name}: standard error", OBJECTS, objects, ran)
         most = max(most, done)
         report.holds(f"{name}: some objects were done, and some were not", 0 < done < OBJECTS, ran)
-        report.equal(f"{name}: the status", it.status, ran.status, ran)
-        report.equal(f"{name}: the answer", None, why_wrong(program, it, ran))
-        found = [int(it) for it in re.findall(rb"; object (\d+): open\n", ran.out)]
-        report.equal(f"{name}: the objects that are open", list(range(done, OBJECTS)), found, ran)
+        report.equal(f"{name}: the status", history.status, ran.status, ran)
+        report.equal(f"{name}: the answer", None, why_wrong(program, history, ran))
+        open_objects = [int(on) for on in re.findall(rb"; object (\d+): open\n", ran.out)]
+        report.equal(f"{name}: the objects that are open", list(range(done, OBJECTS)), open_objects, ran)
     return f"at most {most} of {OBJECTS} objects were done"
 
 
@@ -118,9 +119,9 @@ def stopped_finds(program, report):
     path = program.write("stopped.edn", LONG[0].text)
     stop = lambda seconds: ended(started(program, "find", "--workers", "1", "--seconds", str(seconds), path))  # noqa: E731
     ran = with_enough(stop, lambda ran: ran.out)
-    said = re.fullmatch(b"; stopped, " + DONE, ran.err)
+    match = re.fullmatch(b"; stopped, " + DONE, ran.err)
     is_whole = re.fullmatch(rb"({:object \d+, :order \[[\d ]+\]}\n)+", ran.out)
-    report.holds("find: --seconds", ran.status == 3 and said and is_whole and ran.out.count(b"\n") == int(said[1]), ran)
+    report.holds("find: --seconds", ran.status == 3 and match and is_whole and ran.out.count(b"\n") == int(match[1]), ran)
     one, none = program.write("one.edn", text_writers.lines(*register(0))), program.write("none.edn", "")
     calls = 2 * WRITES - 1
     report.answers(
@@ -142,20 +143,20 @@ GOING_ON = {
 def stopped_finders(program, report):
     """Other finders are stopped too, and what they wrote is judged."""
     def stopped(case):
-        (number, (name, script)), (at, it) = case
+        (number, (name, script)), (at, history) = case
         path = finder(
             program,
             f"stopped.{number}.{at}",
             f'echo $$ > "$evidence.pid"\ncat "$evidence"\necho > "$evidence.told"\n{script}',
-            it.evidence,
+            history.evidence,
         )
-        text = program.write(f"stopped.{number}.{at}.history.edn", it.text)
+        text = program.write(f"stopped.{number}.{at}.history.edn", history.text)
         stop = lambda seconds: ended(started(program, "judge", "--seconds", str(seconds), text, env={"FCBENCH_FINDER": path}))  # noqa: E731
         ran = with_enough(stop, lambda _: os.path.exists(f"{path}.edn.told"))
-        return f"judge: --seconds: {name}: {it.name}", it, ran, is_gone(f"{path}.edn.pid")
+        return f"judge: --seconds: {name}: {history.name}", history, ran, is_gone(f"{path}.edn.pid")
 
-    for name, it, ran, gone in at_once(stopped, itertools.product(enumerate(GOING_ON.items()), enumerate(FEW))):
-        report.equal(f"{name}: the status", it.status, ran.status, ran)
+    for name, history, ran, gone in at_once(stopped, itertools.product(enumerate(GOING_ON.items()), enumerate(FEW))):
+        report.equal(f"{name}: the status", history.status, ran.status, ran)
         report.equal(f"{name}: standard error", STOPPED, ran.err)
         report.holds(f"{name}: the finder is gone", gone)
 
@@ -163,7 +164,7 @@ def stopped_finders(program, report):
 def told_in(ran):
     """What a judgement tells on a terminal: objects that are done, of how many, and after how many seconds."""
     lines = re.findall(rb"fcbench: (?:stopped, )?objects done: (\d+) of (\d+), after (\d+) s\r\n", ran.err)
-    return [tuple(map(int, it)) for it in lines]
+    return [tuple(map(int, numbers)) for numbers in lines]
 
 
 def is_in_time(ran):
@@ -184,7 +185,7 @@ def progress(program, report):
         ran, _ = on_terminal(program, words)
         if is_in_time(ran):
             break
-    done = [it for it, _, _ in told_in(ran)]
+    done = [count for count, _, _ in told_in(ran)]
     report.holds("judge: progress on a terminal: its times", is_in_time(ran), ran)
     report.equal("judge: progress on a terminal: all objects", {OBJECTS}, {all_objects for _, all_objects, _ in told_in(ran)}, ran)
     report.holds("judge: progress on a terminal: it rises", done == sorted(done) and done[:1] < done[-1:], ran)

@@ -26,7 +26,7 @@ PAIRS = 2_049
 
 def idle_calls(kind):
     """The maps of 4,098 calls of a process of its own, and how many there are."""
-    events = [it for f, argument in IDLE[kind] for it in ((89, "invoke", f, argument), (89, "ok", f, None))]
+    events = [event for f, argument in IDLE[kind] for event in ((89, "invoke", f, argument), (89, "ok", f, None))]
     return brute_force.template(events) * PAIRS, len(events) * PAIRS
 
 
@@ -131,7 +131,7 @@ def history_of(chance, calls):
 
 def some_pending(chance, events):
     """The maps of a history; of its calls one in eight does not return."""
-    return [it for it in events if it[1] != "ok" or chance.below(8) > 0]
+    return [event for event in events if event[1] != "ok" or chance.below(8) > 0]
 
 
 def repeated_values(kind):
@@ -186,10 +186,10 @@ def drawn_are_found(program, report):
 
 def found_after_idle_calls(program, report):
     """find finds the orders also after more calls than a search takes, and if values repeat."""
-    sorts = [(it, "", each_value_once(it, brute_force.Chance(2026)), 40, 150) for it in KINDS]
-    sorts += [(it, ", where values repeat", repeated_values(it), 40, 150) for it in ("register", "map")]
-    sorts += [(it, " over two values", of_two_values(it, False), 25, 100) for it in NAMES]
-    sorts += [(it, " over two values with pending calls", of_two_values(it, True), 25, 100) for it in NAMES]
+    sorts = [(kind, "", each_value_once(kind, brute_force.Chance(2026)), 40, 150) for kind in KINDS]
+    sorts += [(kind, ", where values repeat", repeated_values(kind), 40, 150) for kind in ("register", "map")]
+    sorts += [(name, " over two values", of_two_values(name, False), 25, 100) for name in NAMES]
+    sorts += [(name, " over two values with pending calls", of_two_values(name, True), 25, 100) for name in NAMES]
     for kind, more, those, least, most in sorts:
         name, histories = f"find: drawn histories of a {kind}{more}, after idle calls", sorted_of(those)
         has_between(report, name, histories, least, most)

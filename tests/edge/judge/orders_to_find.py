@@ -163,7 +163,7 @@ def invocation_at(number):
 
 
 QUEUE_AND_STACK = lines(
-    *[invocation_at(it) for it in range(14)], *[ok(it, f, reply, on) for it, (f, _, reply, on) in OVERLAPPING_CALLS.items()]
+    *[invocation_at(process) for process in range(14)], *[ok(process, f, reply, on) for process, (f, _, reply, on) in OVERLAPPING_CALLS.items()]
 )
 
 READ = [
@@ -349,7 +349,7 @@ MUTEXES_YES = yes(5, 4, "mutex: 4 objects, 5 operations")
 def of_mutexes(answer, **orders):
     """A row of the four mutexes, with an order for each that has a certificate: a is object 0, b is 4, c is 8, d is 12, e is 2."""
     numbers = dict(a=0, b=4, c=8, d=12, e=2)
-    return FOUR_MUTEXES, lines(*[certificate(numbers[it], *entries) for it, entries in orders.items()]), answer
+    return FOUR_MUTEXES, lines(*[certificate(numbers[on], *entries) for on, entries in orders.items()]), answer
 
 
 # Histories and certificates that each number of workers answers alike. Each object, and each of its operations, is told from any other.

@@ -143,7 +143,7 @@ UNDER_TWO = lines(
 # A read, a swap or a removal gives what only operations wrote that failed, or were refused.
 DIRTY_READ = lines(invoke(0, "write", 9), fail(0, "write", 9), invoke(0, "read"), ok(0, "read", 9))
 DIRTY_SWAP = lines(invoke(0, "write", 9), fail(0, "write", 9), invoke(0, "cas", (9, 4)), ok(0, "cas", (9, 4)))
-DIRTY_READS = lines(*[it for _ in range(3) for it in (invoke(0, "write", 9), fail(0, "write", 9))], invoke(0, "read"), ok(0, "read", 9))
+DIRTY_READS = lines(*[event for _ in range(3) for event in (invoke(0, "write", 9), fail(0, "write", 9))], invoke(0, "read"), ok(0, "read", 9))
 READ_OF_A_REFUSED_SWAP = lines(invoke(0, "cas", (1, 9)), ok(0, "cas", False), invoke(0, "read"), ok(0, "read", 9))
 DEQUEUED_FAILED = lines(invoke(0, "enqueue", 9), fail(0, "enqueue", 9), invoke(0, "dequeue"), ok(0, "dequeue", 9))
 GOT_FAILED = lines(invoke(0, "put", (7, 5)), fail(0, "put", (7, 5)), invoke(0, "get", 7), ok(0, "get", 5))
@@ -378,7 +378,7 @@ LONG_MAP = lines(
 
 # Two reads that overlap find two values, which are written twice each, and not after both reads begin.
 LONG_READS = lines(
-    *[of for it in range(100) for of in (invoke(0, "write", it), ok(0, "write", it))],
+    *[of for number in range(100) for of in (invoke(0, "write", number), ok(0, "write", number))],
     invoke(0, "write", 1),
     invoke(1, "write", 2),
     ok(0, "write", 1),
@@ -484,10 +484,10 @@ SENTENCES = (
     ),
     (
         lines(
-            *[of for it in (0, 1) for of in (invoke(it, "write", 5),)],
-            *[ok(it, "write", 5) for it in (0, 1)],
-            *[invoke(it, "cas", (5, it)) for it in (0, 1, 2)],
-            *[ok(it, "cas", (5, it)) for it in (0, 1, 2)],
+            *[of for process in (0, 1) for of in (invoke(process, "write", 5),)],
+            *[ok(process, "write", 5) for process in (0, 1)],
+            *[invoke(process, "cas", (5, process)) for process in (0, 1, 2)],
+            *[ok(process, "cas", (5, process)) for process in (0, 1, 2)],
         ),
         "value 5 was replaced by :cas more often than it can have been there",
     ),
@@ -497,7 +497,7 @@ SENTENCES = (
             invoke(1, "write", 2),
             ok(0, "write", 1),
             ok(1, "write", 2),
-            *[of for it in (1, 2) for of in (invoke(0, "cas", (it, 9)), ok(0, "cas", False))],
+            *[of for value in (1, 2) for of in (invoke(0, "cas", (value, 9)), ok(0, "cas", False))],
         ),
         "the following operations have no valid order",
     ),
@@ -538,9 +538,9 @@ def planted_bugs(program, report):
         report.equal(name, (1, b"", f"; {sentence}"), (ran.status, ran.err, AFTER.sub("", ran.out.decode().splitlines()[1])))
         report.holds(f"{name}: its operations", least <= len(explained[0][1]) <= most, ran)
         report.equal(f"{name}: why", None, why_not_explained(program, history, ran), ran)
-    for history, said in LINEARIZABLE:
+    for history, first_line in LINEARIZABLE:
         ran = program.run("judge", "--steps", "0", program.write(HISTORY, history))
-        report.equal("judge: nothing is wrong", (0, said), (ran.status, ran.out.decode().splitlines()[0]))
+        report.equal("judge: nothing is wrong", (0, first_line), (ran.status, ran.out.decode().splitlines()[0]))
 
 
 PARTS = (planted_bugs,)

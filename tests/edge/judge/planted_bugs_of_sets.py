@@ -1,7 +1,8 @@
 """Bugs that are planted in long histories of a set: how many operations judge lists of each.
 
 A history has 4,000 calls on 100 elements, 16 of them at once, of which two in a hundred are pending. Each call takes effect at a moment that
-is drawn, on a set that is right except for one call. The bug counts where a second look, at the calls on its element alone, shows that no order is valid."""
+is drawn, on a set that is right except for one call. The bug counts where a second look, at the calls on its element alone, shows that no order
+is valid."""
 import random
 
 from ..brute_force import has_order
@@ -87,16 +88,17 @@ def bugs_of_sets(program, report):
     """judge shows nearly each bug by a few operations, and every reason is valid."""
     for bug in BUGS:
         shown, counted = 0, 0
-        made = [history_of(bug, seed) for seed in range(OF_EACH)]
-        bad = [events for events, element in made if not has_order(calls_on(events, element))]
+        drawn = [history_of(bug, seed) for seed in range(OF_EACH)]
+        bad = [events for events, element in drawn if not has_order(calls_on(events, element))]
         texts = [text_of(events) for events in bad]
-        runs = at_once(lambda it: program.run("judge", program.write(f"{it}.{HISTORY}", texts[it])), range(len(texts)))  # noqa: B023
+        runs = at_once(lambda number: program.run("judge", program.write(f"{number}.{HISTORY}", texts[number])), range(len(texts)))  # noqa: B023
         for text, ran in zip(texts, runs):
             report.equal(f"judge: {bug}: why", None, why_not_explained(program, text, ran), ran)
             explained, _ = explained_in(ran.out)
             counted += 1
             shown += len(explained) == 1 and len(explained[0][1]) <= MOST_OPERATIONS
-        report.holds(f"judge: {bug}: of {counted} bugs {shown} are shown by {MOST_OPERATIONS} operations", counted > 20 and shown >= LEAST_SHARE * counted)
+        name = f"judge: {bug}: of {counted} bugs {shown} are shown by {MOST_OPERATIONS} operations"
+        report.holds(name, counted > 20 and shown >= LEAST_SHARE * counted)
 
 
 PARTS = (bugs_of_sets,)

@@ -32,7 +32,7 @@ def recorded_histories(program, report):
     for name in SHORT:
         with open(f"{EXAMPLES}/{name}.history.edn", "rb") as file:
             texts[name] = file.read()
-    report.equal("recorded: every file is asked about", sorted(f"{it}.edn.gz" for it in texts if it not in SHORT), sorted(os.listdir(FOLDER)))
+    report.equal("recorded: every file is asked about", sorted(f"{name}.edn.gz" for name in texts if name not in SHORT), sorted(os.listdir(FOLDER)))
     slowest = 0
     for name, text in texts.items():
         file = program.write(f"{name}.edn", text)
@@ -42,8 +42,8 @@ def recorded_histories(program, report):
         report.holds(f"recorded {name}: decided in {MOST_SECONDS} s", seconds <= MOST_SECONDS, seconds)
         if name in LINEARIZABLE:
             report.answers(f"recorded {name}: linearizable", ran, yes(*LINEARIZABLE[name]), 0)
-            found = program.run("find", file)
-            again = program.run("check", file, program.write("found.edn", found.out))
+            order = program.run("find", file)
+            again = program.run("check", file, program.write("found.edn", order.out))
             report.equal(f"recorded {name}: check accepts the order", (0, ran.out), (again.status, again.out))
         else:
             report.equal(f"recorded {name}: why it is not linearizable", None, why_not_explained(program, text.decode(), ran), ran)

@@ -381,12 +381,12 @@ CELLS = (
 
 def idle_calls(kind):
     """4,098 calls of a process of its own that leave a new object as it is."""
-    return lines(*[it for f, argument in IDLE[kind] for it in (invoke(100, f, argument), ok(100, f))]) * PAIRS
+    return lines(*[event for f, argument in IDLE[kind] for event in (invoke(100, f, argument), ok(100, f))]) * PAIRS
 
 
 def is_valid(history):
     """Whether some order of a history is valid, by force."""
-    return brute_force.has_order([(it["process"], it["type"][1:], it["f"][1:], value_of(it.get("value"))) for it in maps_of(history)])
+    return brute_force.has_order([(event["process"], event["type"][1:], event["f"][1:], value_of(event.get("value"))) for event in maps_of(history)])
 
 
 def repeated_values(program, report):
@@ -417,15 +417,15 @@ def is_searched(program, report, name, valid):
         told = brute_force.of_orders(program, name, words, HISTORY, 1)
     else:
         told = brute_force.of_each(program, name, words, HISTORY, 1, "impossible", 1)
-    for it in told:
-        report.equal(*it)
+    for comparison in told:
+        report.equal(*comparison)
 
 
 def is_found(program, report, name, valid):
     """Whether an order is printed that check accepts, or else no order."""
     told = brute_force.of_orders(program, name, ("find",), HISTORY, 1) if valid else brute_force.of_no_orders(program, name, HISTORY, 1)
-    for it in told:
-        report.equal(*it)
+    for comparison in told:
+        report.equal(*comparison)
 
 
 # Histories of gen.py in which 5 % of the calls failed and others are pending. Stacks of different values, where pending

@@ -84,16 +84,16 @@ def built(program, report, compiler, source, name):
 
 def names_of(path, letters, *words):
     """The names in a library of these kinds, which are letters of nm."""
-    said = subprocess.run(["nm", *words, path], capture_output=True, text=True, check=True).stdout
-    return sorted(name.partition("@")[0] for kind, name in re.findall(r"^[0-9a-f]* +(\w) (\S+)$", said, re.M) if kind in letters)
+    symbols = subprocess.run(["nm", *words, path], capture_output=True, text=True, check=True).stdout
+    return sorted(name.partition("@")[0] for kind, name in re.findall(r"^[0-9a-f]* +(\w) (\S+)$", symbols, re.M) if kind in letters)
 
 
 def state_of(path):
     """The names of data that can be written in a library, and its parts that hold some, with their sizes. What is written once, as it is
     loaded, is no state."""
     names = {re.sub(r"[.]\d+$", "", name) for name in names_of(path, "bBcCdDgGsSuvV")}
-    said = subprocess.run(["readelf", "--sections", "--wide", path], capture_output=True, text=True, check=True).stdout
-    parts = re.findall(r"\] (\S+) +\S+ +[0-9a-f]+ [0-9a-f]+ ([0-9a-f]+) [0-9a-f]+ +W", said)
+    sections = subprocess.run(["readelf", "--sections", "--wide", path], capture_output=True, text=True, check=True).stdout
+    parts = re.findall(r"\] (\S+) +\S+ +[0-9a-f]+ [0-9a-f]+ ([0-9a-f]+) [0-9a-f]+ +W", sections)
     return names, {part: int(size, 16) for part, size in parts if int(size, 16) and not part.startswith(".data.rel.ro")}
 
 
@@ -141,8 +141,8 @@ def proved_alone(program, report):
     path = f"{program.folder}/checks"
     done(report, "a caller of a proved function is built", [*C, f"{program.folder}/{program.write('checks.c', CHECKS)}", LIBRARY, "-o", path])
     done(report, "and runs", [path])
-    said = subprocess.run(["nm", path], capture_output=True, text=True, check=True).stdout
-    report.equal("embedding: functions of the library in it", HALVES["proved.o"], sorted(re.findall(r" T (fcbench_\w+)", said)))
+    symbols = subprocess.run(["nm", path], capture_output=True, text=True, check=True).stdout
+    report.equal("embedding: functions of the library in it", HALVES["proved.o"], sorted(re.findall(r" T (fcbench_\w+)", symbols)))
 
 
 def cases():
@@ -314,7 +314,7 @@ def rust_callers(program, report):
         return missing("cargo")
     package = ["--quiet", "--offline", "--manifest-path", f"{SOURCES}/rust/Cargo.toml"]
     words, elsewhere = ["cargo", "test", *package], {**os.environ, "CARGO_TARGET_DIR": f"{program.folder}/cargo", "FCBENCH_LIB": EXAMPLES}
-    said = done(
+    output = done(
         report,
         "Rust: the tests of the package",
         words,
@@ -323,7 +323,7 @@ def rust_callers(program, report):
         FCBENCH_RUNS=str(RUNS),
         RUSTFLAGS="-D warnings",
     )
-    report.equal("embedding: Rust: how many tests passed", 32, sum(map(int, re.findall(r"(\d+) passed", said))), said[-2000:])
+    report.equal("embedding: Rust: how many tests passed", 32, sum(map(int, re.findall(r"(\d+) passed", output))), output[-2000:])
     ran = subprocess.run(["cargo", "check", *package], env=elsewhere, capture_output=True, text=True)
     advice = f"libfcbench.a is not in {EXAMPLES}: run callers/build, or set FCBENCH_LIB to the absolute path of its folder"
     report.holds("embedding: Rust: what is said where the library is missing", ran.returncode != 0 and advice in ran.stderr, ran.stderr[-2000:])
@@ -332,9 +332,9 @@ def rust_callers(program, report):
 
 def python_callers(program, report):
     """The caller and the recorder in Python, by ctypes, pass their tests."""
-    said = ""
+    output = ""
     for name in ("judge", "recorder"):
-        said += done(
+        output += done(
             report,
             f"Python: test_{name}.py",
             [f"{SOURCES}/python/test_{name}.py"],
@@ -343,7 +343,7 @@ def python_callers(program, report):
             FCBENCH_RUNS=str(RUNS),
             PYTHONDONTWRITEBYTECODE="1",
         )
-    report.equal("embedding: Python: how many tests ran", ["9", "16"], re.findall(r"Ran (\d+) tests", said), said[-2000:])
+    report.equal("embedding: Python: how many tests ran", ["9", "16"], re.findall(r"Ran (\d+) tests", output), output[-2000:])
 
 
 def go_callers(program, report):
@@ -357,8 +357,8 @@ def go_callers(program, report):
         "GOFLAGS": "-mod=mod",
         "FCBENCH_RUNS": str(RUNS),
     }
-    said = done(report, "Go: the tests of the package", ["go", "test", "-count=1", "-v", "."], "\nok ", FOLDER=f"{SOURCES}/go", **env)
-    report.equal("embedding: Go: how many tests passed", 19, said.count("--- PASS"), said[-2000:])
+    output = done(report, "Go: the tests of the package", ["go", "test", "-count=1", "-v", "."], "\nok ", FOLDER=f"{SOURCES}/go", **env)
+    report.equal("embedding: Go: how many tests passed", 19, output.count("--- PASS"), output[-2000:])
     return None
 
 

@@ -41,31 +41,31 @@ TYPED = (
 
 def put_in(folder):
     """What was put into a folder: the files there, and the folders that are empty."""
-    found = []
+    paths = []
     for base, inner, files in os.walk(folder):
-        found += [f"{base}/{it}" for it in files]
+        paths += [f"{base}/{file}" for file in files]
         if not inner + files and base != folder:
-            found.append(base)
-    return sorted(os.path.relpath(it, folder) for it in found)
+            paths.append(base)
+    return sorted(os.path.relpath(path, folder) for path in paths)
 
 
 def times_in(folder):
     """When each file and folder in a folder was changed, and how long it is; without what git keeps."""
     times = {}
     for base, inner, files in os.walk(folder):
-        inner[:] = [it for it in inner if it != ".git"]
-        for it in (base, *(f"{base}/{file}" for file in files)):
-            info = os.lstat(it)
-            times[it] = (info.st_mtime_ns, info.st_size)
+        inner[:] = [name for name in inner if name != ".git"]
+        for path in (base, *(f"{base}/{file}" for file in files)):
+            info = os.lstat(path)
+            times[path] = (info.st_mtime_ns, info.st_size)
     return times
 
 
 def installed(program, report):
     """./install prints each file that it puts under its prefix, and a caller can be built from these files alone."""
     prefix = f"{program.folder}/prefix"
-    said = done(report, "./install", [f"{ROOT}/install", prefix], seconds=SECONDS_TO_PROVE)
+    output = done(report, "./install", [f"{ROOT}/install", prefix], seconds=SECONDS_TO_PROVE)
     report.equal("installed: the files", INSTALLED, put_in(prefix))
-    report.equal("installed: what ./install says", [f"{prefix}/{it}" for it in INSTALLED], sorted(said.split()))
+    report.equal("installed: what ./install says", [f"{prefix}/{name}" for name in INSTALLED], sorted(output.split()))
     ran = subprocess.run([f"{prefix}/bin/fcbench", "judge", f"{EXAMPLES}/queue.history.edn"], capture_output=True)
     report.holds("installed: the program judges", ran.returncode == 0 and ran.stdout.startswith(b"yes: 2 operations"), ran)
     env = {**os.environ, "FCBENCH": "/bin/true", "FCBENCH_TOOLS": "/bin/true"}
@@ -88,7 +88,7 @@ def installed(program, report):
 
 def nothing_elsewhere(program, report):
     """./install writes below its prefix alone: nothing at home, where temporary files go, where it is called, or in the repository."""
-    folders = {it: f"{program.folder}/{it}" for it in ("home", "temporary", "here", "elsewhere")}
+    folders = {name: f"{program.folder}/{name}" for name in ("home", "temporary", "here", "elsewhere")}
     for folder in folders.values():
         os.mkdir(folder)
     env = {"PATH": os.environ["PATH"], "HOME": folders["home"], "TMPDIR": folders["temporary"]}
@@ -97,7 +97,7 @@ def nothing_elsewhere(program, report):
     report.equal("installed: once more, from another folder", (0, ""), (ran.returncode, ran.stderr))
     wanted = {"home": [], "temporary": [], "here": [], "elsewhere": INSTALLED}
     report.equal("installed: nothing outside of PREFIX", wanted, {name: put_in(folder) for name, folder in folders.items()})
-    report.equal("installed: nothing in the repository", [], sorted({it for it, _ in before.items() ^ times_in(ROOT).items()}))
+    report.equal("installed: nothing in the repository", [], sorted({path for path, _ in before.items() ^ times_in(ROOT).items()}))
 
 
 def completions(prefix, folder, report):
@@ -142,13 +142,13 @@ def zsh_completes(prefix, folder, *words):
     try:
         # The line that is typed has no `ready` in it, so what says `ready` is the prompt after it.
         told(own, f"{begin}; fcbench() {{ print -r -- \"<$*>\" }}; PS1=rea''dy\r", b"ready")
-        said = told(own, f"{' '.join(words)}\t\r", b">")
+        output = told(own, f"{' '.join(words)}\t\r", b">")
     finally:
         shell.kill()
         shell.wait()
         os.close(own)
-    offered = re.findall(r"^([\w-]+) +-- ", said, re.M)
-    return offered or re.findall(r"[^\s<]+(?=>)", said)
+    offered = re.findall(r"^([\w-]+) +-- ", output, re.M)
+    return offered or re.findall(r"[^\s<]+(?=>)", output)
 
 
 def told(end, keys, until, seconds=120):
@@ -169,7 +169,7 @@ def manual(page, report):
     for name in ("commands", "formats", "import"):
         with open(f"{ROOT}/docs/{name}.md") as file:
             heads += re.findall(r"^## (.*)$", file.read(), re.M)
-    report.equal("installed: sections of the manual", [], [it for it in heads if f'.SH "{it}"' not in text.replace("\\-", "-")])
+    report.equal("installed: sections of the manual", [], [head for head in heads if f'.SH "{head}"' not in text.replace("\\-", "-")])
     if shutil.which("groff"):
         ran = subprocess.run(["groff", "-man", "-ww", "-z", "-Tutf8", page], capture_output=True, text=True)
         report.equal("installed: groff says nothing of the manual", (0, ""), (ran.returncode, ran.stderr))

@@ -35,7 +35,7 @@ def refused_reserve(program, report):
         (0, SERVED + REFUSED, b""): "a call for which the object gets no memory is refused",
         (1, b"", OUT): "there is no desk",
     }
-    came = [ends.get((it.status, it.out, it.err)) for it in runs]
+    came = [ends.get((run.status, run.out, run.err)) for run in runs]
     for at, end, ran in zip(numbers, came, runs):
         report.holds(f"desk: allocation {at} of {count} is refused", end is not None, ran)
     for end in ends.values():
@@ -62,9 +62,9 @@ def refused_passes(program, report):
         whole, count, _ = tests.counts(name)
         report.holds(f"desk: {name}: with ample memory", whole.status == 0 and line not in whole.out, whole)
         runs = at_once(lambda at: tests.run(name, faults={"REFUSE_AT": at}), range(1, count + 1))
-        shown = [it for it in runs if line in it.out]
+        shown = [run for run in runs if line in run.out]
         report.holds(f"desk: {name}: some run shows it", shown != [])
-        report.holds(f"desk: {name}: and the next pass answers", all(it.status == 0 for it in shown), shown)
+        report.holds(f"desk: {name}: and the next pass answers", all(run.status == 0 for run in shown), shown)
         tried += count
     return f"{tried} allocations refused"
 

@@ -21,11 +21,11 @@ def refused_heaps(program, report):
         report.holds(f"heap: {name}: with ample memory", whole.status == 0, whole)
         runs = at_once(lambda at: tests.run(name, faults={"REFUSE_AT": at}), range(1, count + 1))
         # The heaps that are compared have to be made first.
-        failed = [it for it in runs if it.status != 0 and b"AllocError" not in it.err]
+        failed = [run for run in runs if run.status != 0 and b"AllocError" not in run.err]
         report.equal(f"heap: {name}: no other answer where memory is refused", [], failed)
-        report.holds(f"heap: {name}: some run goes on without", any(it.status == 0 for it in runs), runs)
+        report.holds(f"heap: {name}: some run goes on without", any(run.status == 0 for run in runs), runs)
         tried += count
-    counts = [tests.counts(it)[1] for it in (FEW, MANY)]
+    counts = [tests.counts(number)[1] for number in (FEW, MANY)]
     report.holds("heap: later values take the memory of those that were extracted", counts[1] <= counts[0] + 1, counts)
     return f"{tried} allocations refused"
 

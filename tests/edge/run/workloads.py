@@ -58,22 +58,22 @@ def argument(f, first, second):
 
 def calls_of(kind, objects, client, calls, seed):
     """The calls of one client, as (object, function, argument)."""
-    generator, made = Generator(seed, client), []
+    generator, drawn = Generator(seed, client), []
     for number in range(calls - calls % 2 if kind in IN_PAIRS else calls):
-        on, choice, first, second = [generator.below(it) for it in (objects, 6, 100, 100)]
+        on, choice, first, second = [generator.below(limit) for limit in (objects, 6, 100, 100)]
         names = OPERATIONS[kind_of(kind, on)]
         if kind in IN_PAIRS:
-            made.append((made[-1][0] if number % 2 else on, names[number % 2], client if kind == "lock" else None))
+            drawn.append((drawn[-1][0] if number % 2 else on, names[number % 2], client if kind == "lock" else None))
             continue
         f = names[choice % len(names)]
-        made.append((on, f, argument(f, first, second)))
-    return made
+        drawn.append((on, f, argument(f, first, second)))
+    return drawn
 
 
 def calls_of_all(kind, objects, clients, calls, seed):
     """The invocation lines of each client, by its number."""
-    of = {it: calls_of(kind, objects, it, calls, seed) for it in range(clients)}
-    return {it: [invoke(it, f, value, on) for on, f, value in made] for it, made in of.items() if made}
+    of = {client: calls_of(kind, objects, client, calls, seed) for client in range(clients)}
+    return {client: [invoke(client, f, value, on) for on, f, value in made] for client, made in of.items() if made}
 
 
 def calls_in(output):

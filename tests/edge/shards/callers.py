@@ -160,7 +160,10 @@ def by_workers_of_one_machine(python, program, report):
 def with_its_finder_killed(python, program, report):
     """If a process that runs a finder is killed, the finder ends too."""
     installed(program, f'echo $$ >"{program.folder}/finder"; exec sleep 60')
-    look = f"import sys; sys.path.insert(0, {os.path.dirname(CLIENT)!r}); import fcbench_dask; fcbench_dask.find({program.folder + '/bin/fcbench'!r}, 'x', [])"
+    look = (
+        f"import sys; sys.path.insert(0, {os.path.dirname(CLIENT)!r}); import fcbench_dask; "
+        f"fcbench_dask.find({program.folder + '/bin/fcbench'!r}, 'x', [])"
+    )
     worker = subprocess.Popen([python, "-B", "-c", look])
     finder = f"{program.folder}/finder"
     is_so_soon(lambda: os.path.exists(finder) and os.path.getsize(finder) > 0)

@@ -49,7 +49,7 @@ def divided(history, shards):
         if on is not None:
             files[f"{shard_of(on, shards)}.edn"].append(in_its_shard(text, on))
             files[f"{shard_of(on, shards)}.places"].append(str(place).encode())
-    return {name: b"".join(it + b"\n" for it in those) for name, those in files.items()}
+    return {name: b"".join(line + b"\n" for line in those) for name, those in files.items()}
 
 
 def evidence_in_shards(found, numbers, shards):
@@ -59,7 +59,7 @@ def evidence_in_shards(found, numbers, shards):
         head, on, rest = re.fullmatch(rb"(\{:object )(\d+)(.*\n)", line).groups()
         on = numbers[int(on)]
         of_shards[shard_of(on, shards)].append((name_of(on), head + b"%d" % name_of(on) + rest))
-    return [b"".join(text for _, text in sorted(it)) for it in of_shards]
+    return [b"".join(text for _, text in sorted(texts)) for texts in of_shards]
 
 
 @dataclass(frozen=True)
@@ -90,18 +90,18 @@ class Folder:
 
     def find_all(self):
         """Writes the evidence for each shard that has maps, and returns that of all."""
-        found = [self.find(shard) if os.path.getsize(self.path(f"{shard}.edn")) else b"" for shard in range(self.shards)]
-        for shard, text in enumerate(found):
+        evidence = [self.find(shard) if os.path.getsize(self.path(f"{shard}.edn")) else b"" for shard in range(self.shards)]
+        for shard, text in enumerate(evidence):
             if text:
                 self.write(f"{shard}.evidence", text)
-        return found
+        return evidence
 
     def merge(self, *options, **how):
         return self.program.run("merge", self.name, *options, **how)
 
     def write(self, file, text):
-        with open(self.path(file), "wb") as it:
-            it.write(text)
+        with open(self.path(file), "wb") as opened:
+            opened.write(text)
 
     def is_whole(self):
         """Whether the folder says how many shards it has."""
@@ -122,5 +122,5 @@ class Folder:
 
 def judged(program, name, history):
     """What verify says of a whole history by what find prints of it, and that."""
-    found = program.run("find", program.write(f"{name}.edn", history))
-    return program.run("verify", f"{name}.edn", program.write(f"{name}.found", found.out)), found.out
+    evidence = program.run("find", program.write(f"{name}.edn", history))
+    return program.run("verify", f"{name}.edn", program.write(f"{name}.found", evidence.out)), evidence.out

@@ -28,22 +28,22 @@ def is_named(ran, name):
 def folders_that_are_there(program, report):
     """split makes the folder, or takes an empty one. It refuses one that has shards, and leaves its files as they are."""
     whole = program.write("whole.edn", TWO_QUEUES)
-    made = Folder(program, "made", 2)
-    report.answers("split: a folder that is missing", made.split(whole), TWO_SHARDS, 0)
+    folder = Folder(program, "made", 2)
+    report.answers("split: a folder that is missing", folder.split(whole), TWO_SHARDS, 0)
     empty = Folder(program, "empty", 2)
     os.makedirs(empty.path())
     report.answers("split: an empty folder", empty.split(whole), TWO_SHARDS, 0)
-    before = made.files()
+    before = folder.files()
     for shards in (1, 2, 3):
         ran = program.run("split", whole, "made", "--shards", str(shards))
         report.holds(f"split: a folder that has shards, into {shards}", ran.status == 4 and ran.out == b"" and b"made" in ran.err, ran)
-    report.equal("split: the files of the shards that are there", before, made.files())
+    report.equal("split: the files of the shards that are there", before, folder.files())
     # A split that was killed leaves no file `shards`.
-    os.remove(made.path("shards"))
+    os.remove(folder.path("shards"))
     ran = program.run("split", whole, "made", "--shards", "3")
     report.holds("split: a folder that has some of the files", ran.status == 4 and ran.out == b"" and b"made" in ran.err, ran)
     del before["shards"]
-    report.equal("split: some of the files, as they were", before, made.files())
+    report.equal("split: some of the files, as they were", before, folder.files())
 
 
 def files_that_are_there(program, report):
@@ -107,8 +107,8 @@ def shards_through_pipes(program, report):
     merged_with(program, "piped", {})
     for file in ("0.edn", "1.places", "2.evidence"):
         folder = Folder(program, "piped", 3)
-        with open(folder.path(file), "rb") as it:
-            text = it.read()
+        with open(folder.path(file), "rb") as opened:
+            text = opened.read()
         ran = through_pipes(program, ((f"piped/{file}", text),), ("merge", "piped"))
         report.answers(f"merge: {file} is a pipe", ran, MERGED_YES, 0)
         folder.write(file, text)
@@ -163,7 +163,7 @@ def refused_memory_of_shards(program, report):
             report.holds(f"split: {name}: allocation {at} fails", is_well and folder.is_whole() == (ran.status == 0), ran)
     wholes = {"merged": merged_with(program, "merged", {}), "wide": wide_objects.merged(program, "wide").merge()}
     wholes["refuted"] = wide_objects.refuted(program, "refuted").merge()
-    report.equal("merge: with ample memory", [0, 0, 1], [it.status for it in wholes.values()], wholes)
+    report.equal("merge: with ample memory", [0, 0, 1], [ran.status for ran in wholes.values()], wholes)
     for name, whole in wholes.items():
         for at in range(1, allocations_of(program, report, "merge", name) + 1):
             ran = program.run("merge", name, faults={"REFUSE_AT": at})

@@ -10,7 +10,8 @@ OBJECTS, SHARDS, MOST_MAPS = 100, 4, 1_000_000
 
 def calls(count, begin=0):
     """The maps of writes, each on the next object."""
-    return [it for at in range(begin, begin + count) for it in (invoke(at % 7, "write", at, at % OBJECTS), ok(at % 7, "write", at, at % OBJECTS))]
+    operations = [(at % 7, "write", at, at % OBJECTS) for at in range(begin, begin + count)]
+    return [event(*operation) for operation in operations for event in (invoke, ok)]
 
 
 def spread(text):
@@ -66,7 +67,8 @@ def too_many_maps(program, report):
     report.answers("split: a million maps in a shard", folder.split(program.write("most.edn", text)), f"{MOST_MAPS + 2} maps in 2 shards\n", 0)
     folder = Folder(program, "more", 2)
     program.write("more.edn", text + lines(invoke(0, "read", None, 1)))
-    too_many = f"{MOST_MAPS + 3} maps in 2 shards\n" + lines(*[f"{it} 1: {MOST_MAPS + 1} maps, too many for one text" for it in ("shard", "object")])
+    too_large = [f"{name} 1: {MOST_MAPS + 1} maps, too many for one text" for name in ("shard", "object")]
+    too_many = lines(f"{MOST_MAPS + 3} maps in 2 shards", *too_large)
     report.answers("split: one more", folder.split("more.edn"), too_many, 3)
     folder.write("0.evidence", b"{:object 2, :order [%d]}\n" % MOST_MAPS)
     report.answers("merge: one more", folder.merge(), "shard 1: too large\n", 3)

@@ -35,7 +35,7 @@ def changed_orders(rng, found, shard):
 
 def other_numbers(rng, found, shard):
     """Numbers that are less, as those of a worker that counts the maps of its shard."""
-    return re.sub(rb"\d+", lambda it: b"%d" % (int(it[0]) * 2 // 3), found[shard])
+    return re.sub(rb"\d+", lambda digits: b"%d" % (int(digits[0]) * 2 // 3), found[shard])
 
 
 def garbage(rng, found, shard):
@@ -48,7 +48,7 @@ def cut_short(rng, found, shard):
 
 def names_in(found):
     """The objects that are named in evidence, and some others."""
-    return sorted({*range(10), *(int(it) for it in re.findall(rb":object (\d+)", b"".join(found)))})
+    return sorted({*range(10), *(int(digits) for digits in re.findall(rb":object (\d+)", b"".join(found)))})
 
 
 def orders_for_all(rng, found, shard):
@@ -69,7 +69,7 @@ def all_shards(rng, found, shard):
 
 def numbers_of_the_whole(rng, found, shard):
     """Names of objects as they may be in the whole, past those of a shard."""
-    return re.sub(rb"(?<=:object )\d+", lambda it: b"%d" % (int(it[0]) + NAMES * rng.randrange(3)), found[shard])
+    return re.sub(rb"(?<=:object )\d+", lambda digits: b"%d" % (int(digits[0]) + NAMES * rng.randrange(3)), found[shard])
 
 
 def nothing(rng, found, shard):
@@ -102,12 +102,12 @@ def lied_about(program, number, is_wide):
             history, expected = wide.text, wide.answer(expected)
         folder = Folder(program, f"lies.{number}", SHARDS)
         folder.make(history)
-        found = folder.find_all()
+        evidence = folder.find_all()
         for lie in LIES_OF_WORKERS:
             rng = random.Random(f"{lie.__name__} {number}")
             liars = rng.sample(range(SHARDS), rng.choice((1, 2)))
             for shard in range(SHARDS):
-                folder.write(f"{shard}.evidence", lie(rng, found, shard) if shard in liars else found[shard])
+                folder.write(f"{shard}.evidence", lie(rng, evidence, shard) if shard in liars else evidence[shard])
             answers.append((lie.__name__, folder.merge()))
     return expected, answers
 
@@ -120,14 +120,14 @@ def impossible(ran):
 def lying(program, report, is_wide):
     """What workers lead to that lie about wholes."""
     came = {}
-    for number, (expected, answers) in enumerate(at_once(lambda it: lied_about(program, it, is_wide), range(WHOLES))):
+    for number, (expected, answers) in enumerate(at_once(lambda seed: lied_about(program, seed, is_wide), range(WHOLES))):
         for name, ran in answers:
             is_well = ran.status in ALLOWED[expected.status] and (ran.status != 0 or expected.status != 0 or ran.out == expected.out)
             # An object that is open in the whole may be shown to be impossible by a search that a liar asks for.
             is_well = is_well and (impossible(ran) <= impossible(expected) or b": open\n" in expected.out or b": out of" in expected.out)
             report.holds(f"merge: {name} about {'wide ' if is_wide else ''}whole {number}", is_well, (expected, ran))
             came[expected.status, ran.status] = came.get((expected.status, ran.status), 0) + 1
-    few = {it: came.get(it, 0) for it in ((0, 0), (0, 3), (1, 1), (1, 3)) if came.get(it, 0) < 10}
+    few = {statuses: came.get(statuses, 0) for statuses in ((0, 0), (0, 3), (1, 1), (1, 3)) if came.get(statuses, 0) < 10}
     report.equal("merge: of these answers there are too few", {}, few)
     return f"{sum(came.values())} merges"
 

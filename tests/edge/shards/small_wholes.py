@@ -58,13 +58,14 @@ def on_all(report, name, look_at):
     for number, (status, damage, wrong) in enumerate(at_once(look_at, range(WHOLES))):
         report.equal(f"{name} {number}, damage: {damage}", None, wrong)
         came[status] = came.get(status, 0) + 1
-    report.equal(f"{name}: of these statuses there are too few", {}, {it: came.get(it, 0) for it, least in FEWEST.items() if came.get(it, 0) < least})
+    too_few = {both: came.get(both, 0) for both, least in FEWEST.items() if came.get(both, 0) < least}
+    report.equal(f"{name}: of these statuses there are too few", {}, too_few)
     return ", ".join(f"{count} of status {status}" for status, count in sorted(came.items()))
 
 
 def small_wholes(program, report):
     """merge says of the shards of a thousand small histories, line for line, what verify says of the whole. split names the first fault."""
-    return on_all(report, "shards of whole", lambda it: look(program, it))
+    return on_all(report, "shards of whole", lambda number: look(program, number))
 
 
 def evidence_of_shards(program, report):

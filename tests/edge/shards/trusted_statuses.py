@@ -22,7 +22,7 @@ WORDS = {b"0\n": None, b"1\n": "no", b"2\n": "malformed", b"3\n": "undecided"}
 RANKS = ((2, {"malformed"}), (1, {"no"}), (3, {"undecided", "no status"}))
 # Texts that are no status from 0 to 3: those of other statuses, those that are cut, and other bytes.
 NO_STATUS = (
-    *(b"%d\n" % it for it in (4, 64, 70, 137, 255, 256, -1, 2**32, 2**64)),
+    *(b"%d\n" % status for status in (4, 64, 70, 137, 255, 256, -1, 2**32, 2**64)),
     *(b"", b"\n", b"0", b"1", b"+0\n", b"0\n\n", b"0\n1\n", b"0 \n", b" 0\n", b"0\r\n", b"0\x00\n", b"\x000\n", b"0;\n"),
     *(b"yes\n", b"x\n", b"\xff\n", b"0x0\n", b"0.0\n", b"\xef\xbb\xbf0\n", b"\xd9\xa0\n", b"0\n" * 100_000, b"0" * 100_000),
 )
@@ -63,7 +63,7 @@ def statuses_of_shards(program, report):
     report.answers(f"merge {TRUST}: one of each, by hand", with_statuses(program, "five", [*WORDS, None]).merge(TRUST), BELIEVED % 5 + out, 2)
     for count in (1, 2, 3):
         all_say_so(program, report, list(itertools.product((*WORDS, b"64\n", None), repeat=count)))
-    all_say_so(program, report, [place for it in NO_STATUS for place in ([it], [b"0\n", it], [it, b"0\n", b"1\n"])])
+    all_say_so(program, report, [place for text in NO_STATUS for place in ([text], [b"0\n", text], [text, b"0\n", b"1\n"])])
 
 
 def statuses_of_many_shards(program, report):
@@ -108,14 +108,14 @@ def folders_without_shards(program, report):
             os.remove(folder.path("shards"))
         else:
             folder.write("shards", text)
-        said = f"fcbench: cannot read without.{number}/shards\n"
-        report.answers(f"merge {TRUST}: the number of shards is {text}", folder.merge(TRUST), "", 4, said)
+        refusal = f"fcbench: cannot read without.{number}/shards\n"
+        report.answers(f"merge {TRUST}: the number of shards is {text}", folder.merge(TRUST), "", 4, refusal)
     folder = with_statuses(program, "more", [b"0\n"] * 2)
     folder.write("shards", b"10001\n")
     ran = folder.merge(TRUST)
     report.holds(f"merge {TRUST}: more shards than there may be: no yes", ran.status in (3, 4) and b"yes" not in ran.out, ran)
-    said = "fcbench: cannot read nowhere/shards\n"
-    report.answers(f"merge {TRUST}: a folder that is missing", program.run("merge", "nowhere", TRUST), "", 4, said)
+    refusal = "fcbench: cannot read nowhere/shards\n"
+    report.answers(f"merge {TRUST}: a folder that is missing", program.run("merge", "nowhere", TRUST), "", 4, refusal)
     program.write("file", "")
     report.answers(f"merge {TRUST}: a file", program.run("merge", "file", TRUST), "", 4, "fcbench: cannot read file/shards\n")
     with open("/dev/full", "wb") as full:
@@ -179,10 +179,10 @@ def look(program, number):
 
 def workers_that_judge(program, report):
     """Workers judge the shards of wide wholes, each alone, and end with the right statuses. With these merge ends as verify does on the whole."""
-    for number, (small, came, expected, ran) in enumerate(at_once(lambda it: look(program, it), range(WHOLES))):
+    for number, (small, came, expected, ran) in enumerate(at_once(lambda seed: look(program, seed), range(WHOLES))):
         if ran:
             report.equal(f"judge: the shards of whole {number}", expected, came)
-            report.answers(f"merge {TRUST}: whole {number}", ran, *trusted([b"%d\n" % it for it in came]))
+            report.answers(f"merge {TRUST}: whole {number}", ran, *trusted([b"%d\n" % status for status in came]))
             report.equal(f"merge {TRUST}: whole {number}: the status of verify", small.status, ran.status, came)
 
 

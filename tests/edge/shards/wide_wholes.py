@@ -37,14 +37,15 @@ class Wide:
         return on, re.sub(rb"^(; object |; \{:object )\d+", rb"\g<1>%d" % on, text, flags=re.M)
 
 
-def names_an_object(it, history):
-    return INTEGER.fullmatch(it[1]) and 0 <= int(it[1]) < NAMES and END.match(history, it.end())
+def names_an_object(match, history):
+    return INTEGER.fullmatch(match[1]) and 0 <= int(match[1]) < NAMES and END.match(history, match.end())
 
 
 def other_numbers(rng, objects, shards, least):
     """Another number of at least this for each object. All fit this many shards, and often some of them have the same name in two shards."""
     names = sorted({0, 1, NAMES - 1, rng.randrange(NAMES), rng.randrange(NAMES)})
-    few = [it for multiple in range(shards) for it in (multiple * NAMES + name for name in names) if it >= least]
+    with_names = [multiple * NAMES + name for multiple in range(shards) for name in names]
+    few = [number for number in with_names if number >= least]
     among = few if len(few) >= len(objects) and rng.random() < 0.6 else range(least, shards * NAMES)
     return dict(zip(objects, rng.sample(among, len(objects))))
 
@@ -53,15 +54,15 @@ def widened(history, rng, shards):
     """A small history with other numbers for its objects. Where a map of a client has no `:object`, object 0 keeps its number."""
     history = history.encode()
     named = [match for match in OBJECT.finditer(history) if names_an_object(match, history)]
-    keeps_0 = any(object_of(it) is not None and not OBJECT.search(it) for it in MAP.findall(history))
-    objects = sorted({int(it[1]) for it in named})
+    keeps_0 = any(object_of(map_text) is not None and not OBJECT.search(map_text) for map_text in MAP.findall(history))
+    objects = sorted({int(match[1]) for match in named})
     numbers = {**other_numbers(rng, objects, shards, 1 if keeps_0 else 0), **({0: 0} if keeps_0 else {})}
     parts, longer, begin = [], [], 0
-    for it in named:
-        number = b"%d" % numbers[int(it[1])]
-        parts += [history[begin : it.start(1)], number]
-        longer.append((it.end(), len(number) - len(it[1])))
-        begin = it.end()
+    for match in named:
+        number = b"%d" % numbers[int(match[1])]
+        parts += [history[begin : match.start(1)], number]
+        longer.append((match.end(), len(number) - len(match[1])))
+        begin = match.end()
     return Wide(b"".join((*parts, history[begin:])), numbers, tuple(longer))
 
 
@@ -82,7 +83,7 @@ def look(program, number):
 
 def wide_wholes(program, report):
     """Gives the objects of a thousand small histories numbers past 65,535: merge says of each, line for line, what verify says of the small one."""
-    return on_all(report, "shards of wide whole", lambda it: look(program, it))
+    return on_all(report, "shards of wide whole", lambda number: look(program, number))
 
 
 # How many keys a store has, and the one that is read as nil after it was written.
@@ -100,8 +101,8 @@ def imported_wholes(program, report):
     """Imports a store of 70,000 keys with a warning, and divides it: merge names the one object that is wrong, and the event that shows it."""
     store = program.write("store.edn", lines(*(text for key in range(KEYS) for text in calls_on(key))))
     ran = program.run("import", store)
-    said = b"fcbench: warning: there are %d objects, more than judge takes: use split\n" % KEYS
-    report.equal("import: more keys than a text may have objects", (0, said), (ran.status, ran.err))
+    warning = b"fcbench: warning: there are %d objects, more than judge takes: use split\n" % KEYS
+    report.equal("import: more keys than a text may have objects", (0, warning), (ran.status, ran.err))
     folder = Folder(program, "imported", 2)
     whole_text = program.write("imported.edn", ran.out)
     report.answers("split: an imported store", folder.split(whole_text), f"{4 * KEYS} maps in 2 shards\n", 0)

@@ -74,7 +74,11 @@ DIVIDED = (
 
 # Each shard is a history, and the whole is not. Object x is in shard x mod 2.
 FAULTS = (
-    ("busy in another shard", lines(invoke(3, "enqueue", 7, 1), invoke(3, "enqueue", 8, 2), ok(3, "enqueue", 7, 1), ok(3, "enqueue", 8, 2)), "H5 at map 1"),
+    (
+        "busy in another shard",
+        lines(invoke(3, "enqueue", 7, 1), invoke(3, "enqueue", 8, 2), ok(3, "enqueue", 7, 1), ok(3, "enqueue", 8, 2)),
+        "H5 at map 1",
+    ),
     ("busy in another shard, of another kind", lines(FOUR, invoke(0, "pop", None, 7), FOUR_OK), "H5 at map 1"),
     ("closed in another shard", lines(FOUR, info(0, "enqueue", 7, 4), invoke(0, "dequeue", None, 5)), "H8 at map 2"),
     ("closed in another shard, long before", lines(FOUR, info(0, "enqueue", 7, 4), FIVE, FIVE_OK, NEMESIS, invoke(0, "push", 1, 7)), "H8 at map 5"),
@@ -106,7 +110,7 @@ def split(program, name, whole, shards):
 
 def same_files(report, name, expected, came):
     """Compares the files of a folder with those that are expected, and says which differ."""
-    others = sorted(it for it in {*expected, *came} if expected.get(it) != came.get(it))
+    others = sorted(file for file in {*expected, *came} if expected.get(file) != came.get(file))
     report.equal(f"{name}: files that differ", {}, {file: (expected.get(file), came.get(file)) for file in others})
 
 

@@ -59,10 +59,11 @@ def short_histories():
     """Histories of each kind with at most six calls, of which some have no valid order. Each has whether it has one."""
     for kind in histories.ALL_FUNCTIONS:
         for seed in range(OF_EACH):
-            made = histories.made(kind, f"evidence {seed}", calls=3 + seed % 4, processes=2, values=2)
-            maps = made.maps if seed % 3 == 0 or kind in FREED else exchanged(made.maps, seed)
+            history = histories.made(kind, f"evidence {seed}", calls=3 + seed % 4, processes=2, values=2)
+            maps = history.maps if seed % 3 == 0 or kind in FREED else exchanged(history.maps, seed)
             if kind in FREED and seed % 3:
-                maps = [*maps, *[call for _ in range(2) for call in (invoke(99, *FREED[kind], 0), ok(99, FREED[kind][0], None, 0))]]
+                freed_once = [invoke(99, *FREED[kind], 0), ok(99, FREED[kind][0], None, 0)]
+                maps = [*maps, *freed_once * 2]
             text = lines(*maps)
             yield text, has_order(text)
 
@@ -70,8 +71,8 @@ def short_histories():
 def exchanged(maps, seed):
     """The maps with another value in the last completion that has one."""
     rng = random.Random(f"exchanged {seed}")
-    found = [(at, replies) for at, text in enumerate(maps) for pattern, replies in REPLIES if ":type :ok" in text and pattern.search(text)]
-    for at, replies in found[-1:]:
+    places = [(at, replies) for at, text in enumerate(maps) for pattern, replies in REPLIES if ":type :ok" in text and pattern.search(text)]
+    for at, replies in places[-1:]:
         maps = [*maps[:at], re.sub(r":value [^,]+,", f":value {rng.choice(replies)},", maps[at]), *maps[at + 1 :]]
     return maps
 
@@ -100,9 +101,9 @@ def spoilt(rng, evidence, other):
 
 def cases_of_spoilt_evidence(program):
     """Short histories with the evidence that find prints and with others made of it."""
-    made = list(short_histories())
-    found = at_once(lambda at: program.run("find", program.write(f"found.{at}.edn", made[at][0])).out, range(len(made)))
-    for number, ((history, valid), evidence) in enumerate(zip(made, found)):
+    with_truth = list(short_histories())
+    found = at_once(lambda at: program.run("find", program.write(f"found.{at}.edn", with_truth[at][0])).out, range(len(with_truth)))
+    for number, ((history, valid), evidence) in enumerate(zip(with_truth, found)):
         rng = random.Random(f"spoilt evidence {number}")
         yield history, valid, evidence, True
         for _ in range(SPOILT):

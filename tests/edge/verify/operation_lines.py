@@ -216,7 +216,7 @@ def lines_of_operations(program, report):
     wanted = [
         "; object 2: impossible",
         "; value 2 was pushed once and popped twice; event 9 is the first that leaves no order",
-        *[f"; {it}" for it in TWO_OBJECTS_LINES],
+        *[f"; {line}" for line in TWO_OBJECTS_LINES],
     ]
     report.equal("judge: operations as comments", (1, wanted), (ran.status, ran.out.decode().splitlines()[:-1]))
 

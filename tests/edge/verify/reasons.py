@@ -28,18 +28,18 @@ def value_of(word):
         return None
     if word in ("false", "true"):
         return word == "true"
-    numbers = tuple(int(it) for it in re.findall(r"-?\d+", word))
+    numbers = tuple(int(digits) for digits in re.findall(r"-?\d+", word))
     return numbers if word.startswith("[") else numbers[0]
 
 
 @functools.lru_cache(maxsize=16)
 def maps_of(history):
     """The maps of a history, each with its process, type, function, value and object."""
-    found = []
+    maps = []
     for text in re.findall(r"\{[^{}]*\}", history):
         fields = dict(re.findall(rf":(process|type|f|value|object) (:[\w-]+|{VALUE})", text))
-        found.append(fields)
-    return found
+        maps.append(fields)
+    return maps
 
 
 # ---- the objects
@@ -100,7 +100,7 @@ def next_of_set(content, f, argument):
     is_there = argument in content
     if f == "add":
         return tuple(sorted({*content, argument})), not is_there
-    return (content if f == "contains" else tuple(it for it in content if it != argument)), is_there
+    return (content if f == "contains" else tuple(element for element in content if element != argument)), is_there
 
 
 def next_of_counter(content, f, argument):
@@ -129,25 +129,26 @@ NEXT = {
 }
 
 
-def has_order(calls):
-    """Whether some order of the calls is valid. A call is a number, a return or None, a function, its argument and its reply."""
+def has_order(calls, before=()):
+    """Whether some order of the calls is valid on an object that contains this before. A call is a number, a return or None, a function, its
+    argument and its reply."""
     calls = tuple(calls)
 
     @functools.lru_cache(maxsize=None)
     def goes_on(left, content):
-        ends = [calls[it][1] for it in left if calls[it][1] is not None]
+        ends = [calls[place][1] for place in left if calls[place][1] is not None]
         if not ends:
             return True
-        for it in left:
-            number, at, f, argument, reply = calls[it]
+        for place in left:
+            number, at, f, argument, reply = calls[place]
             if any(end < number for end in ends if end != at):
                 continue
             taken = NEXT[f](content, f, argument)
-            if taken and (at is None or taken[1] == reply) and goes_on(left - {it}, taken[0]):
+            if taken and (at is None or taken[1] == reply) and goes_on(left - {place}, taken[0]):
                 return True
         return False
 
-    return goes_on(frozenset(range(len(calls))), ())
+    return goes_on(frozenset(range(len(calls))), before)
 
 
 # ---- counts
@@ -222,10 +223,10 @@ def is_blocked(count, calls):
 
 def count_in(reason):
     """The count that a reason names, or None."""
-    found = re.search(r":count \{([^}]*)\}", reason)
-    if not found:
+    count = re.search(r":count \{([^}]*)\}", reason)
+    if not count:
         return None
-    return {name: value == "true" or int(value) for name, value in re.findall(r":(\w+) (true|-?\d+)", found[1])}
+    return {name: value == "true" or int(value) for name, value in re.findall(r":(\w+) (true|-?\d+)", count[1])}
 
 
 # ---- what is told
@@ -239,7 +240,7 @@ def has_failed(maps, number):
 
 def is_of_history(maps, told, on):
     """Whether the history has such a call, which did not fail: its invocation and its return at these maps, on this object."""
-    number, at, process, f, argument, reply = (told[it] for it in range(1, 7))
+    number, at, process, f, argument, reply = (told[group] for group in range(1, 7))
     begun = maps[int(number)]
     is_begun = (begun["type"], begun["process"], begun["f"]) == (":invoke", process, f":{f}")
     is_begun &= value_of(begun.get("value")) == value_of(argument) and int(begun.get("object", 0)) == on
@@ -297,12 +298,12 @@ def without_sentence(told):
 def operations_on(history, on):
     """How many operations of an object did not fail."""
     open_calls, count = {}, 0
-    for it in maps_of(history):
-        if int(it.get("object", 0)) != on or not it["process"].isdigit():
+    for event in maps_of(history):
+        if int(event.get("object", 0)) != on or not event["process"].isdigit():
             continue
-        if it["type"] == ":invoke":
+        if event["type"] == ":invoke":
             count += 1
-        count -= it["type"] == ":fail"
+        count -= event["type"] == ":fail"
     return count
 
 

@@ -24,7 +24,7 @@ def searched(first, steps, on=0):
 def impossible(reason, *operations, note=None, on=0):
     """The lines on an object that has no valid order."""
     sentence = [] if note is None else [note]
-    return lines(f"; object {on}: impossible", *[f"; {it}" for it in (*sentence, *operations, reason)])
+    return lines(f"; object {on}: impossible", *[f"; {line}" for line in (*sentence, *operations, reason)])
 
 
 # ---- orders
