@@ -62,7 +62,7 @@ element_front {text = text} {rest = rest} {d = d} p u =
           );
     }
 
--- ---- an element that is not whole lies inside the text
+-- ---- an element that is not whole is inside the text
 
 abbrev pub IsInside : List Frame → Type 0
 IsInside [] = ⊥

@@ -264,7 +264,7 @@ writes_before (x ∷ xs) c from at v es f h =
     (sym w.3)
     (register (Some w.2), Value (Some w.2), refl, refl, writes_before xs (Some w.2) from at v es (λ y i. f y (inr i)) h)
 
--- calls have their replies in a suffix where writes come in front of its first call
+-- calls have their replies in a suffix, with writes before its first call
 pub front_replies : (kind : Kind) (front : List Call) (from at : ℕ) (p : AnyOp × AnyReply) (d : Content)
     (es : List Call)
     → next (empty kind) p.0 ≡ Some (d, p.1) → ((x : Call) → In x front → IsWrite x × (kind ≡ Register))

@@ -126,10 +126,6 @@ pub record IsAnsweredCall (h : Handling) (a : AnyAnswer) (p : Holding) : Type 0 
   pub legal : IsLegalLog (kind_held h) p.log
   pub knows : p.knows ≡ after_answer h.row h.object p.log h.knows
 
--- the kind of the object of a pass
-abbrev pub kind_of_pass : Holding → Kind
-kind_of_pass p = kind_at p.desk.kinds p.object
-
 -- the request in hand is back in its row, and nothing else changed
 pub record IsPutBack (h : Handling) (p : Holding) : Type 0 where
   pub object : p.object ≡ h.object

@@ -15,7 +15,7 @@ use Rattle.history.specs.declared.client_map.OperationMap.TheVariants.{OfClient,
 use Rattle.history.specs.Denotes.{action_of, event_of_map, event_of, events_of_forms}
 use Rattle.history.specs.Faults.{IsFaultlessAtAnyLength}
 use Rattle.history.specs.declared.fault.HistoryFaultKind.TheVariants.{BadValue}
-use Rattle.history.proofs.FirstFaults.{bad_stands}
+use Rattle.history.proofs.FirstFaults.{bad_value}
 use Rattle.history.proofs.Reading.{events_push}
 use Rattle.shards.specs.Forms.{is_on}
 
@@ -57,7 +57,7 @@ no_client ds d faultless q = go (client_of d) refl (own_events ds d [] q)
   where
     with_action : (m : ClientMap) (a : Option Action) → client_of d ≡ Some m → action_of m.type m ≡ a
         → event_of_map (0 + length ds) m a ≡ [] → Some m ≡ None
-    with_action m None r t s = absurd (faultless ds [] d BadValue refl (m, r, bad_stands m.type m t))
+    with_action m None r t s = absurd (faultless ds [] d BadValue refl (m, r, bad_value m.type m t))
     with_action m (Some a) r t s = absurd (cc s)
 
     go : (o : Option ClientMap) → client_of d ≡ o → event_of (0 + length ds) o ≡ [] → o ≡ None

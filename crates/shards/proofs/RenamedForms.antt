@@ -16,7 +16,7 @@ use Rattle.history.specs.Maps.{ClientMap, client_of, clients}
 use Rattle.history.specs.Denotes.{action_of, event_of_map, event_of, events_of_forms}
 use Rattle.history.specs.Faults.{IsFaultlessAtAnyLength}
 use Rattle.history.specs.declared.fault.HistoryFaultKind.TheVariants.{BadValue}
-use Rattle.history.proofs.FirstFaults.{bad_stands}
+use Rattle.history.proofs.FirstFaults.{bad_value}
 use Rattle.history.proofs.Proper.{proper_at_any_length}
 use Rattle.shards.specs.Forms.{is_on, forms_on}
 use Rattle.shards.specs.Shards.{AreApart, events_on, renamed, renamed_event, said}
@@ -75,7 +75,7 @@ HaveActions ds = (d : Datum) (m : ClientMap) → In d ds → client_of d ≡ Som
 have_actions : (ds : List Datum) → IsFaultlessAtAnyLength ds → HaveActions ds
 have_actions ds faultless d m i q none =
     let parts = in_split d ds i in
-    faultless parts.0 parts.1 d BadValue parts.2 (m, q, bad_stands m.type m none)
+    faultless parts.0 parts.1 d BadValue parts.2 (m, q, bad_value m.type m none)
 
 event_in : (ds : List Datum) (k : ℕ) → HaveActions ds → (m : ClientMap) → In m (clients ds)
     → (e : Event) × In e (events_of_forms k ds) × (e.object ≡ m.object)
