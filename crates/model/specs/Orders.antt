@@ -114,3 +114,7 @@ RepliesAlong c es = RepliesBy next c es
 -- of the crate `locality`.
 abbrev pub IsValidOrder : Kind → List Call → List ℤ → Type 0
 IsValidOrder kind calls order = IsValidOrderOf (any kind) calls order
+
+-- no order of the calls is valid
+abbrev pub HasNoValidOrder : Kind → List Call → Type 0
+HasNoValidOrder kind calls = (order : List ℤ) → IsValidOrder kind calls order → ⊥

@@ -4,7 +4,7 @@
 use edn::{Out, WriteFault, read_forms};
 use events::split;
 use history::read_history_text;
-use projection::{Cut, part_by};
+use cuts::{Cut, part_by};
 use reason_report::{push_operations, push_reason};
 use refutation::{Reason, ReasonFault, ReasonFaultKind, read_reasons, write_reasons};
 use std::alloc::Global;

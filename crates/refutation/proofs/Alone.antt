@@ -11,20 +11,19 @@ use Rattle.model.specs.declared.AnyOp.{AnyOp}
 use Rattle.model.specs.Histories.{Event, Inv, Res, process_of, by_process, IsSequential}
 use Rattle.model.specs.Linearizable.{IsLinearizable}
 use Rattle.model.specs.Orders.{Numbered, events, Return, Call, ProcessCall, response_in, response_of, begins}
-use Rattle.model.specs.Orders.{calls_in, calls_on, IsHistory}
+use Rattle.model.specs.Orders.{calls_in, calls_on, IsHistory, HasNoValidOrder}
 use Rattle.model.specs.Lists.{In}
 use Rattle.model.proofs.Lists.{Pairs, in_filter, in_filter_from, in_map, pairs_filter, pairs_map, pairs_weaker}
 use Rattle.model.proofs.Lists.{all_from_in, all_from_pairs, pairs_from_all}
 use Rattle.locality.specs.Locality.{HasValidOrder}
 use Rattle.locality.proofs.Entries.{number_of}
 use Rattle.locality.proofs.ProcessHistories.{part, Before, calls_in-part, one_after_another, part_up, turn_view, rise}
-use Rattle.search.specs.Outcomes.{HasNoValidOrder}
-use Rattle.projection.specs.declared.cutting.Cut.{Cut}
-use Rattle.projection.specs.Cuts.{NamesPart}
-use Rattle.projection.proofs.Sequences.{in_filter_map, pairs_filter_map, one_number}
-use Rattle.projection.proofs.Overlaps.{IsTimed}
-use Rattle.projection.specs.Listed.{listed}
-use Rattle.projection.proofs.Named.{AreTimed, timed_filter, timed_named}
+use Rattle.cuts.specs.declared.cutting.Cut.{Cut}
+use Rattle.cuts.specs.Cuts.{NamesPart}
+use Rattle.cuts.proofs.Sequences.{in_filter_map, pairs_filter_map, one_number}
+use Rattle.cuts.proofs.Overlaps.{IsTimed}
+use Rattle.cuts.specs.Listed.{listed}
+use Rattle.cuts.proofs.Named.{AreTimed, timed_filter, timed_named}
 use Rattle.refutation.specs.Alone.{placed, with_return, alone}
 
 -- ---- calls whose events can be those of one history

@@ -8,15 +8,14 @@ use Rattle.std.proofs.lemmas.List.{take_more}
 use Rattle.std.specs.declared.alloc.AllocError.{AllocError}
 use Rattle.model.specs.Linearizable.{IsLinearizable}
 use Rattle.model.specs.declared.Kind.{Kind}
-use Rattle.model.specs.Orders.{Numbered, Call, IsHistory, events, calls_on}
+use Rattle.model.specs.Orders.{Numbered, Call, IsHistory, events, calls_on, HasNoValidOrder}
 use Rattle.model.specs.Lists.{In}
 use Rattle.model.proofs.Lists.{in_append, in_map, in_map_from, in_from_contains, contains_from_in, all_at}
 use Rattle.locality.specs.Locality.{HasValidOrder}
 use Rattle.events.specs.declared.event.Event.{Event}
 use Rattle.events.specs.Events.{kind_of_object, denoted, IsNamed}
 use Rattle.events.specs.Operations.{ObjectCalls, calls_of}
-use Rattle.search.specs.Outcomes.{HasNoValidOrder}
-use Rattle.projection.specs.Cuts.{NamesPart}
+use Rattle.cuts.specs.Cuts.{NamesPart}
 use Rattle.refutation.specs.declared.reason.Reason.{Reason}
 use Rattle.refutation.specs.declared.refuting.ReasonAnswer.{ReasonAnswer}
 use Rattle.refutation.specs.declared.refuting.ReasonAnswer.TheVariants.{NoPart, OtherObject}

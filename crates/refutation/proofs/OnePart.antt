@@ -8,7 +8,7 @@ use Rattle.events.specs.declared.operations.End.{End}
 use Rattle.events.specs.declared.operations.End.TheVariants.{Returned, Pending, Failed}
 use Rattle.events.specs.declared.operations.Invocation.{Invocation}
 use Rattle.events.specs.Operations.{ObjectCalls, call_with, calls_of}
-use Rattle.projection.specs.Cuts.{NoneFailed}
+use Rattle.cuts.specs.Cuts.{NoneFailed}
 
 abbrev end_of : Option Return → End
 end_of None = Pending

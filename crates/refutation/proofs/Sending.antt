@@ -6,7 +6,7 @@ use Rattle.std.specs.List.{AllByRecursion}
 use Rattle.std.specs.List.Sorted.{IsStrictlySortedBy}
 use Rattle.std.proofs.lemmas.List.{drop_more, take_more}
 use Rattle.edn_reader.specs.Text.{between}
-use Rattle.projection.specs.declared.cutting.Cut.{Cut}
+use Rattle.cuts.specs.declared.cutting.Cut.{Cut}
 use Rattle.refutation.specs.declared.reason.Reason.{Reason}
 use Rattle.refutation.specs.Lines.{naturals_text, given_numbers_text, cut_text, cuts_text, reason_line, reason_lines}
 use Rattle.refutation.specs.Written.{AreNumberKeys}

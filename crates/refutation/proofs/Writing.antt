@@ -20,12 +20,12 @@ use Rattle.edn_reader.specs.Text as edn
 use Rattle.edn_reader.specs.Laws.{EachSpelled}
 use Rattle.edn_reader.proofs.Joined.{text_spells_it, lines_spell_them}
 use Rattle.edn_fields.specs.Fields.{same_bytes, value_at}
-use Rattle.projection.specs.declared.keeping.Values.{Values}
-use Rattle.projection.specs.declared.keeping.Values.TheVariants.{All, Only}
-use Rattle.projection.specs.declared.cutting.Cut.{Cut}
-use Rattle.projection.specs.declared.cutting.Cut.TheVariants.{From, Until, Without, Keep, Cell, Entry}
-use Rattle.projection.specs.declared.counting.Counted.{Counted}
-use Rattle.projection.specs.declared.counting.Counted.TheVariants as counted
+use Rattle.cuts.specs.declared.keeping.Values.{Values}
+use Rattle.cuts.specs.declared.keeping.Values.TheVariants.{All, Only}
+use Rattle.cuts.specs.declared.cutting.Cut.{Cut}
+use Rattle.cuts.specs.declared.cutting.Cut.TheVariants.{From, Until, Without, Keep, Cell, Entry}
+use Rattle.cuts.specs.declared.counting.Counted.{Counted}
+use Rattle.cuts.specs.declared.counting.Counted.TheVariants as counted
 use Rattle.search.specs.declared.trials.TryFirst.{TryFirst}
 use Rattle.search.specs.declared.trials.TryFirst.TheVariants.{LeastNumber, LeastReturn}
 use Rattle.refutation.specs.declared.reason.Basis.{Basis}

@@ -8,13 +8,13 @@ use Rattle.edn_reader.specs.Truncation.{integer_in}
 use Rattle.edn_reader.specs.Datum.{Datum, atom, keyword, vector, dictionary, Items, no_items, item}
 use Rattle.edn_reader.specs.Datum.{Entries}
 use Rattle.edn_fields.specs.Fields.{same_bytes, value_at, natural_in, object_in}
-use Rattle.projection.specs.declared.keeping.Values.{Values}
-use Rattle.projection.specs.declared.keeping.Values.TheVariants.{All, Only}
-use Rattle.projection.specs.declared.cutting.Cut.{Cut}
-use Rattle.projection.specs.declared.cutting.Cut.TheVariants.{From, Until, Without, Keep, Cell}
-use Rattle.projection.specs.declared.cutting.Cut.TheVariants.{Entry}
-use Rattle.projection.specs.declared.counting.Counted.{Counted}
-use Rattle.projection.specs.declared.counting.Counted.TheVariants as counted
+use Rattle.cuts.specs.declared.keeping.Values.{Values}
+use Rattle.cuts.specs.declared.keeping.Values.TheVariants.{All, Only}
+use Rattle.cuts.specs.declared.cutting.Cut.{Cut}
+use Rattle.cuts.specs.declared.cutting.Cut.TheVariants.{From, Until, Without, Keep, Cell}
+use Rattle.cuts.specs.declared.cutting.Cut.TheVariants.{Entry}
+use Rattle.cuts.specs.declared.counting.Counted.{Counted}
+use Rattle.cuts.specs.declared.counting.Counted.TheVariants as counted
 use Rattle.search.specs.declared.trials.TryFirst.{TryFirst}
 use Rattle.search.specs.declared.trials.TryFirst.TheVariants.{LeastNumber, LeastReturn}
 use Rattle.refutation.specs.declared.reason.Basis.{Basis}

@@ -11,7 +11,7 @@ pub use Rattle.model.specs.Orders
 pub use Rattle.events.specs.Events
 pub use Rattle.events.specs.Operations
 pub use Rattle.search.specs.Outcomes
-pub use Rattle.projection.specs.Parts
-pub use Rattle.projection.specs.Cuts
-pub use Rattle.projection.specs.Counts
-pub use Rattle.projection.specs.Ahead
+pub use Rattle.cuts.specs.Parts
+pub use Rattle.cuts.specs.Cuts
+pub use Rattle.cuts.specs.Counts
+pub use Rattle.cuts.specs.Ahead

@@ -6,14 +6,14 @@ use Rattle.edn_reader.specs.Datum.{Datum}
 use Rattle.edn_reader.specs.Spells.{Spells}
 use Rattle.edn_reader.specs.Text.{between}
 use Rattle.edn_fields.specs.Fields.{max_object}
-use Rattle.projection.specs.declared.keeping.Values.{Values}
-use Rattle.projection.specs.declared.keeping.Values.TheVariants as values
-use Rattle.projection.specs.declared.cutting.Cut.{Cut}
-use Rattle.projection.specs.declared.cutting.Cut.TheVariants.{From, Until, Without, Keep, Cell}
-use Rattle.projection.specs.declared.cutting.Cut.TheVariants.{Entry}
-use Rattle.projection.specs.declared.counting.Count.{Count}
-use Rattle.projection.specs.declared.counting.Counted.{Counted}
-use Rattle.projection.specs.declared.counting.Counted.TheVariants as counted
+use Rattle.cuts.specs.declared.keeping.Values.{Values}
+use Rattle.cuts.specs.declared.keeping.Values.TheVariants as values
+use Rattle.cuts.specs.declared.cutting.Cut.{Cut}
+use Rattle.cuts.specs.declared.cutting.Cut.TheVariants.{From, Until, Without, Keep, Cell}
+use Rattle.cuts.specs.declared.cutting.Cut.TheVariants.{Entry}
+use Rattle.cuts.specs.declared.counting.Count.{Count}
+use Rattle.cuts.specs.declared.counting.Counted.{Counted}
+use Rattle.cuts.specs.declared.counting.Counted.TheVariants as counted
 use Rattle.search.specs.declared.trials.TryFirst.{TryFirst}
 use Rattle.search.specs.declared.trials.TryFirst.TheVariants.{LeastNumber, LeastReturn}
 use Rattle.refutation.specs.declared.reason.Basis.{Basis}

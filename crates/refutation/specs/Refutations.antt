@@ -2,15 +2,14 @@
 use Rattle.std.specs.Prelude.{◌≡◌, ◌≢◌, ℕ, Bool, true, false, ⊤, List, Any, IsSome}
 use Rattle.std.specs.Prelude.{Option, Some, None}
 use Rattle.model.specs.declared.Kind.{Kind}
-use Rattle.model.specs.Orders.{Call, IsValidOrder, calls_on}
+use Rattle.model.specs.Orders.{Call, IsValidOrder, calls_on, HasNoValidOrder}
 use Rattle.events.specs.declared.event.Event.{Event}
 use Rattle.events.specs.Events.{kind_of_object, denoted, IsNamed}
 use Rattle.events.specs.Operations.{ObjectCalls, calls_of}
-use Rattle.search.specs.Outcomes.{HasNoValidOrder}
-use Rattle.projection.specs.declared.cutting.Cut.{Cut}
-use Rattle.projection.specs.Ahead.{IsBlocked}
-use Rattle.projection.specs.Counts.{IsOverdrawn}
-use Rattle.projection.specs.Cuts.{NamesPart, NoneFailed, part_kind}
+use Rattle.cuts.specs.declared.cutting.Cut.{Cut}
+use Rattle.cuts.specs.Ahead.{IsBlocked}
+use Rattle.cuts.specs.Counts.{IsOverdrawn}
+use Rattle.cuts.specs.Cuts.{NamesPart, NoneFailed, part_kind}
 use Rattle.refutation.specs.declared.reason.Basis.{Basis}
 use Rattle.refutation.specs.declared.reason.Basis.TheVariants.{Search, Counting, Ahead}
 use Rattle.refutation.specs.declared.reason.Reason.{Reason}

@@ -5,13 +5,13 @@ use Rattle.std.specs.List.{AllByRecursion}
 use Rattle.std.specs.List.Sorted.{IsStrictlySortedBy}
 use Rattle.std.specs.Ordering.{nat_cmp, int_cmp}
 use Rattle.edn_reader.specs.Text.{IsInt64}
-use Rattle.projection.specs.declared.keeping.Values.{Values}
-use Rattle.projection.specs.declared.keeping.Values.TheVariants.{All, Only}
-use Rattle.projection.specs.declared.cutting.Cut.{Cut}
-use Rattle.projection.specs.declared.cutting.Cut.TheVariants.{From, Until, Without, Keep, Cell}
-use Rattle.projection.specs.declared.cutting.Cut.TheVariants.{Entry}
-use Rattle.projection.specs.declared.counting.Counted.{Counted}
-use Rattle.projection.specs.declared.counting.Counted.TheVariants as counted
+use Rattle.cuts.specs.declared.keeping.Values.{Values}
+use Rattle.cuts.specs.declared.keeping.Values.TheVariants.{All, Only}
+use Rattle.cuts.specs.declared.cutting.Cut.{Cut}
+use Rattle.cuts.specs.declared.cutting.Cut.TheVariants.{From, Until, Without, Keep, Cell}
+use Rattle.cuts.specs.declared.cutting.Cut.TheVariants.{Entry}
+use Rattle.cuts.specs.declared.counting.Counted.{Counted}
+use Rattle.cuts.specs.declared.counting.Counted.TheVariants as counted
 use Rattle.refutation.specs.declared.reason.Basis.{Basis}
 use Rattle.refutation.specs.declared.reason.Basis.TheVariants.{Search, Counting, Ahead}
 use Rattle.refutation.specs.declared.reason.Reason.{Reason}

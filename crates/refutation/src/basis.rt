@@ -12,7 +12,7 @@ use crate::sets::number;
 use crate::{Basis, Trial};
 use edn::{Form, Name};
 use edn_fields::{is_same, value_at};
-use projection::{Count, Counted};
+use cuts::{Count, Counted};
 use search::TryFirst;
 
 /// Reads which content is counted: `:value`, `:key` and `:value`, `:key` alone, `:held` or `:free`.

@@ -8,7 +8,7 @@ ghost use Rattle.refutation.specs.Denotes as spec;
 use crate::sets::{number, numbers, values};
 use edn::{Form, Name};
 use edn_fields::value_at;
-use projection::Cut;
+use cuts::Cut;
 use std::alloc::{AllocError, Global};
 
 /// The integer under a key.

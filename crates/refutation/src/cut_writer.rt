@@ -13,7 +13,7 @@ use crate::set_writer::{
     write_between, write_integer_after, write_number_after, write_numbers, write_vector,
 };
 use edn::{Failed, Sink, write_bytes};
-use projection::{Cut, Values};
+use cuts::{Cut, Values};
 use std::collections::BTreeSet;
 
 /// Which values are kept: all, or a vector of them.

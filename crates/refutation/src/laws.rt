@@ -8,17 +8,16 @@ ghost use Rattle.std.specs.Prelude.{◌≡◌, ◌<◌, ◌↔◌, ℕ, List, Al
 ghost use Rattle.model.specs.declared.Kind.{Kind};
 ghost use Rattle.model.specs.Linearizable.{IsLinearizable};
 ghost use Rattle.model.specs.Objects.{kind_of};
-ghost use Rattle.model.specs.Orders.{Call, IsHistory, Numbered, calls_on, events};
+ghost use Rattle.model.specs.Orders.{Call, IsHistory, Numbered, calls_on, events, HasNoValidOrder};
 ghost use Rattle.events.specs.Operations.{ObjectCalls, calls_of};
-ghost use Rattle.search.specs.Outcomes.{HasNoValidOrder};
-ghost use Rattle.projection.specs.declared.cutting.Cut.{Cut};
-ghost use Rattle.projection.specs.Cuts.{NamesPart};
-ghost use Rattle.projection.specs.Listed.{listed};
+ghost use Rattle.cuts.specs.declared.cutting.Cut.{Cut};
+ghost use Rattle.cuts.specs.Cuts.{NamesPart};
+ghost use Rattle.cuts.specs.Listed.{listed};
 ghost use Rattle.refutation.specs.Alone.{alone};
 ghost use Rattle.refutation.specs.Refutations.{PartHasNoValidOrder, IsNamedPart};
 
 use locality::{linearizable_has_orders, named_objects};
-use projection::{listed_is_valid, one_part};
+use cuts::{listed_is_valid, one_part};
 
 /// A reason names one part at most: with its object, its kind and its operations. So what is listed
 /// of a reason is what any check of it would list.

@@ -3,7 +3,7 @@
 
 ghost use Rattle.std.specs.Prelude.{◌≡◌};
 
-use projection::{Count, Cut};
+use cuts::{Count, Cut};
 use search::TryFirst;
 
 /// How the orders of a part are searched: which operation is tried first, and how many steps the
@@ -20,11 +20,11 @@ pub enum Basis {
     /// The search for an order of the part.
     Search(Trial),
     /// A count over the part of how often a content was set and taken away: see
-    /// [`projection::is_overdrawn`].
+    /// [`cuts::is_overdrawn`].
     Counting(Count),
     /// A count over the part of the values that definitely were ahead of what the removal with this
     /// number found, by puts that were invoked at the number `from` or later: see
-    /// [`projection::is_blocked`].
+    /// [`cuts::is_blocked`].
     Ahead { number: u32, from: u32 },
 }
 

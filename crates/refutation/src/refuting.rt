@@ -1,17 +1,16 @@
 //! The check of a reason.
 
 ghost use Rattle.std.specs.Prelude.{◌≡◌, ◌≢◌, true, List, None, IfOk, IfSome};
-ghost use Rattle.model.specs.Orders.{Call};
+ghost use Rattle.model.specs.Orders.{Call, HasNoValidOrder};
 ghost use Rattle.events.specs.Operations.{calls_of};
-ghost use Rattle.search.specs.Outcomes.{HasNoValidOrder};
-ghost use Rattle.projection.specs.Cuts.{NamesPart};
+ghost use Rattle.cuts.specs.Cuts.{NamesPart};
 ghost use Rattle.refutation.specs.Refutations.{shows_impossible, IfShownImpossible, IfNotShown};
 ghost use Rattle.refutation.specs.Refutations.{IfPart, IsWhyNotShown, IsNamedPart};
 ghost use Rattle.refutation.specs.Refutations.{PartHasNoValidOrder, IsShownBy};
 
 use crate::reason::{Basis, Reason, Trial};
 use events::ObjectHistory;
-use projection::{Count, is_blocked, is_overdrawn, part_by};
+use cuts::{Count, is_blocked, is_overdrawn, part_by};
 use search::{OrderOutcome, OrderSearch, find_order_of_any_size};
 use std::alloc::{AllocError, Global};
 

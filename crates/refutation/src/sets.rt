@@ -6,7 +6,7 @@ ghost use Rattle.edn_reader.specs.View.{view, views};
 ghost use Rattle.refutation.specs.Denotes as spec;
 
 use edn::Form;
-use projection::Values;
+use cuts::Values;
 use std::alloc::{AllocError, Global};
 use std::collections::BTreeSet;
 

@@ -14,7 +14,7 @@ use crate::cut_writer::write_cuts;
 use crate::set_writer::{write_integer_after, write_number_after};
 use crate::{Basis, Reason, Trial};
 use edn::{Failed, Sink, WriteFault, write_bytes};
-use projection::{Count, Counted};
+use cuts::{Count, Counted};
 use search::TryFirst;
 
 /// A value under a key.

@@ -4,14 +4,13 @@ use Rattle.std.proofs.Common.{◌≡◌, ℕ, List, Some, Any, subst}
 use Rattle.std.proofs.lemmas.Option.{same_Some}
 use Rattle.model.specs.Linearizable.{IsLinearizable}
 use Rattle.model.specs.declared.Kind.{Kind}
-use Rattle.model.specs.Orders.{Numbered, Call, IsHistory, events, calls_on}
+use Rattle.model.specs.Orders.{Numbered, Call, IsHistory, events, calls_on, HasNoValidOrder}
 use Rattle.model.proofs.Lists.{in_from_contains, all_at}
 use Rattle.locality.specs.Locality.{HasValidOrder}
 use Rattle.events.specs.declared.event.Event.{Event}
 use Rattle.events.specs.Events.{kind_of_object, denoted}
 use Rattle.certificate.specs.declared.Certificate.{Certificate}
 use Rattle.checker.proofs.Collected.{Certifies, AreOnAll}
-use Rattle.search.specs.Outcomes.{HasNoValidOrder}
 use Rattle.search.specs.declared.certificate_search.Search.{Search}
 use Rattle.search.specs.declared.certificate_search.CertificateOutcome.{CertificateOutcome}
 use Rattle.search.specs.declared.certificate_search.CertificateOutcome.TheVariants.{Impossible, OutOfSteps, TooLarge}

@@ -3,12 +3,11 @@ use Rattle.std.specs.Prelude.{◌≡◌, ℕ, ◌<◌, ◌≤◌, ◌↔◌, ⊤
 use Rattle.std.specs.Prelude.{Any, IsSome}
 use Rattle.std.specs.List.{filter_map}
 use Rattle.model.specs.declared.Kind.{Kind}
-use Rattle.model.specs.Orders.{Call, IsValidOrder, calls_on}
+use Rattle.model.specs.Orders.{Call, IsValidOrder, calls_on, HasNoValidOrder}
 use Rattle.events.specs.declared.event.Event.{Event}
 use Rattle.events.specs.Events.{kind_of_object, denoted}
 use Rattle.certificate.specs.declared.Certificate.{Certificate}
 use Rattle.search.specs.Outcomes.{max_operations}
-use Rattle.search.specs.Outcomes.{HasNoValidOrder}
 use Rattle.search.specs.declared.order_search.OrderSearch.{OrderSearch}
 use Rattle.search.specs.declared.order_search.OrderOutcome.{OrderOutcome}
 use Rattle.search.specs.declared.order_search.OrderOutcome.TheVariants as outcome

@@ -1,7 +1,5 @@
 -- What a search answers.
 use Rattle.std.specs.Prelude.{ℕ, ℤ, ⊤, List}
-use Rattle.model.specs.declared.Kind.{Kind}
-use Rattle.model.specs.Orders.{Call, IsValidOrder}
 use Rattle.search.specs.declared.order_search.OrderOutcome.{OrderOutcome}
 use Rattle.search.specs.declared.order_search.OrderOutcome.TheVariants.{Found, Impossible}
 use Rattle.search.specs.declared.order_search.OrderOutcome.TheVariants.{OutOfSteps}
@@ -23,7 +21,3 @@ IfFound Impossible P = ⊤
 IfFound OutOfSteps P = ⊤
 IfFound TooLarge P = ⊤
 IfFound NoMemory P = ⊤
-
--- no order of the calls is valid
-abbrev pub HasNoValidOrder : Kind → List Call → Type 0
-HasNoValidOrder kind calls = (order : List ℤ) → IsValidOrder kind calls order → ⊥

@@ -1,8 +1,9 @@
 //! The search for a certificate of one object.
 
 ghost use Rattle.std.specs.Prelude.{◌≡◌, ◌<◌, ◌≤◌, ◌↔◌, length, Any, IsSome};
+ghost use Rattle.model.specs.Orders.{HasNoValidOrder};
 ghost use Rattle.events.specs.Operations.{calls_of};
-ghost use Rattle.search.specs.Outcomes.{HasNoValidOrder, max_operations};
+ghost use Rattle.search.specs.Outcomes.{max_operations};
 ghost use Rattle.search.specs.Answers.{IfFound, IsCertificateOf, IsSearchAnswer};
 ghost use Rattle.search.specs.Answers.{search_for, outcome_for};
 

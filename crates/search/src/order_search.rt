@@ -2,10 +2,10 @@
 
 ghost use Rattle.std.specs.Prelude.{◌≡◌, ◌≢◌, ◌<◌, ◌≤◌, ◌↔◌, [], length, All, Any, IsSome, IfOk};
 ghost use Rattle.std.specs.Prelude.{map, pos, count_by, is_some};
-ghost use Rattle.model.specs.Orders.{IsValidOrder};
+ghost use Rattle.model.specs.Orders.{IsValidOrder, HasNoValidOrder};
 ghost use Rattle.events.specs.Operations.{calls_of, return_of};
 ghost use Rattle.search.specs.Arranged.{call_at};
-ghost use Rattle.search.specs.Outcomes.{IfFound, HasNoValidOrder, max_operations, max_places};
+ghost use Rattle.search.specs.Outcomes.{IfFound, max_operations, max_places};
 ghost use Rattle.search.specs.Searching.{AreTrials, AreOwed, IsNoOrder, IsOrderOfTrials};
 
 use crate::level::Level;

@@ -3,9 +3,8 @@
 use Rattle.std.proofs.Common.{ℕ, ℤ, List, Option, inl, inr, refl}
 use Rattle.std.specs.Global.{Vec}
 use Rattle.model.specs.declared.Kind.{Kind}
-use Rattle.model.specs.Orders.{Call}
+use Rattle.model.specs.Orders.{Call, HasNoValidOrder}
 use Rattle.events.specs.Operations.{ObjectCalls}
-use Rattle.search.specs.Outcomes.{HasNoValidOrder}
 use Rattle.refutation.specs.declared.reason.Reason.{Reason}
 use Rattle.refutation.specs.declared.refuting.WhyNotShown.TheVariants.{Possible}
 use Rattle.refutation.specs.Refutations.{PartHasNoValidOrder, IsWhyNotShown, IsNamedPart, IsShownBy}

@@ -6,14 +6,13 @@ use Rattle.std.specs.List.{list_all}
 use Rattle.std.proofs.lemmas.Option.{same_Some}
 use Rattle.model.specs.Linearizable.{IsLinearizable}
 use Rattle.model.specs.declared.Kind.{Kind}
-use Rattle.model.specs.Orders.{Numbered, Call, IsHistory, events, calls_on}
+use Rattle.model.specs.Orders.{Numbered, Call, IsHistory, events, calls_on, HasNoValidOrder}
 use Rattle.model.specs.Lists.{In}
 use Rattle.model.proofs.Lists.{contains_from_in, in_from_contains, in_map_from, all_at}
 use Rattle.locality.specs.Locality.{HasValidOrder}
 use Rattle.events.specs.declared.event.Event.{Event}
 use Rattle.events.specs.Events.{kind_of_object, denoted}
 use Rattle.checker.proofs.Collected.{Certifies, AreOnAll}
-use Rattle.search.specs.Outcomes.{HasNoValidOrder}
 use Rattle.search.specs.Answers.{IsCertificateOf}
 use Rattle.verifying.specs.declared.claim.Claim.{Claim}
 use Rattle.verifying.specs.declared.claim.Claim.TheVariants as claim

@@ -4,15 +4,14 @@ use Rattle.std.specs.Prelude.{All, AllPairs, Any, Contains, Option, Some, None, 
 use Rattle.std.specs.List.{filter_map, list_all}
 use Rattle.model.specs.declared.Kind.{Kind}
 use Rattle.model.specs.Linearizable.{IsLinearizable}
-use Rattle.model.specs.Orders.{Call, IsValidOrder, calls_on, events}
+use Rattle.model.specs.Orders.{Call, IsValidOrder, calls_on, events, HasNoValidOrder}
 use Rattle.events.specs.declared.event.Event.{Event}
 use Rattle.events.specs.Events.{IsNamed, kind_of_object, denoted}
 use Rattle.events.specs.Operations.{ObjectCalls}
 use Rattle.certificate.specs.declared.Certificate.{Certificate}
 use Rattle.certificate.specs.Denotes.{AreDistinct}
 use Rattle.checker.specs.Refusals.{AreValid}
-use Rattle.search.specs.Outcomes.{HasNoValidOrder}
-use Rattle.projection.specs.Cuts.{NamesPart}
+use Rattle.cuts.specs.Cuts.{NamesPart}
 use Rattle.search.specs.Answers.{IsCertificateOf}
 use Rattle.refutation.specs.declared.reason.Reason.{Reason}
 use Rattle.refutation.specs.declared.refuting.WhyNotShown.TheVariants.{Possible, NotExceeded}

@@ -1,6 +1,6 @@
 use Rattle.model.specs.Orders.{calls_on}
 use Rattle.events.specs.Operations.{calls_of}
-use Rattle.projection.specs.Listed.{listed}
+use Rattle.cuts.specs.Listed.{listed}
 use Rattle.refutation.proofs.Alone.{of_history, listed_apart, alone_refuted}
 use Rattle.refutation.proofs.laws.listed_is_not_linearizable.Goals as goal
 

@@ -3,11 +3,11 @@
 use Rattle.std.proofs.Common.{◌≡◌, ℤ, List, [], length}
 use Rattle.std.proofs.lemmas.Result.{IfOk-weaker}
 use Rattle.model.specs.Objects.{empty}
-use Rattle.model.specs.Orders.{IsValidOrder}
+use Rattle.model.specs.Orders.{IsValidOrder, HasNoValidOrder}
 use Rattle.events.specs.Operations.{calls_of}
 use Rattle.search.specs.declared.order_search.OrderOutcome.TheVariants.{Impossible}
 use Rattle.search.specs.Arranged.{call_at}
-use Rattle.search.specs.Outcomes.{IfFound, HasNoValidOrder}
+use Rattle.search.specs.Outcomes.{IfFound}
 use Rattle.search.specs.Continuations.{IsDead}
 use Rattle.search.specs.Searching.{IsOrderOfTrials}
 use Rattle.search.proofs.Calls.{count-owed}

@@ -1,0 +1,362 @@
+-- Where a value definitely is not in an object before some number, an order is valid without what was done with it
+-- before: along the order the part contains all other values, and the balance of this one holds (`Conserved`).
+use Rattle.std.proofs.Common.{rules, ◌≡◌, ◌≢◌, ◌⊎◌, inl, inr, ℕ, ℤ, pos, ◌<◌, ◌≤◌, ◌+◌, nat_lt, Bool, true, false, not}
+use Rattle.std.proofs.Common.{◌&&◌, ◌||◌, cond, List, [], ◌∷◌, ◌++◌}
+use Rattle.std.proofs.Common.{Option, Some, None, AllPairs, Contains, IfSome, IsSome, length, map, filter, refl, ap}
+use Rattle.std.proofs.Common.{sym, ◌∙◌, subst, arith}
+use Rattle.std.proofs.lemmas.Bool.Decides.{nat_tests}
+use Rattle.std.specs.Ordering.{int_eq}
+use Rattle.model.specs.declared.Kind.{Kind}
+use Rattle.model.specs.declared.AnyOp.{AnyOp}
+use Rattle.model.specs.declared.AnyOp.TheVariants.{Enqueue, Dequeue, Push, Pop, Insert, ExtractMin}
+use Rattle.model.specs.declared.AnyReply.{AnyReply}
+use Rattle.model.specs.Objects.{Content, queue, stack, heap, empty}
+use Rattle.model.specs.Objects.{with_value, next}
+use Rattle.model.specs.Orders.{Call, Return, ReturnsBefore, RepliesAlong, IsValidOrder}
+use Rattle.model.specs.Lists.{In}
+use Rattle.model.proofs.Lists.{Pairs, in_filter, in_filter_passes, in_filter_from, filter_all, pairs_filter}
+use Rattle.model.proofs.Lists.{contains_from_in, all_from_in}
+use Rattle.model.proofs.Lists.{all_from_pairs, pairs_map}
+use Rattle.cuts.specs.Parts.{reply_of, takes_out, ended_before}
+use Rattle.cuts.specs.Kinds.Containers.{puts_in}
+use Rattle.cuts.specs.Absent.{is_put_before, is_taken_before, IsAbsent, calls_without}
+use Rattle.cuts.proofs.Ordered.{calls_apart, in_calls, in_entries, named_apart, entries_apart, in_time_order}
+use Rattle.cuts.proofs.Conserved.{one, tally, count_tally, kept_size, size_empty, turn, Turn}
+use Rattle.cuts.proofs.Conserved.{count_among}
+use Rattle.cuts.proofs.Contents.{IsRising, filter_in, filter_out, after_in, after_out, with_value_in}
+use Rattle.cuts.proofs.Contents.{with_value_out, rising_with_value}
+use Rattle.std.proofs.lemmas.Bool.{or_parts}
+use Rattle.cuts.proofs.Booleans.{both_true, some_at, false_is_not_true, true_or_false}
+
+-- ---- contents
+
+abbrev others : ℤ → ℤ → Bool
+others v w = not (int_eq v w)
+
+-- what the part contains: all values except v, or what the whole contains
+abbrev IsOthers : ℤ → Content → Content → Type 0
+IsOthers v (queue vs) d = d ≡ queue (filter (others v) vs)
+IsOthers v (stack vs) d = d ≡ stack (filter (others v) vs)
+IsOthers v (heap vs) d = (d ≡ heap (filter (others v) vs)) × IsRising vs
+IsOthers v c d = d ≡ c
+
+empty_others : (v : ℤ) (k : Kind) → IsOthers v (empty k) (empty k)
+empty_others v k = search rules
+
+none_of : (v : ℤ) (vs : List ℤ) → length (filter (int_eq v) vs) ≡ 0 → filter (others v) vs ≡ vs
+none_of v [] z = refl
+none_of v (w ∷ ws) z = let rest = none_of v ws in grind arith
+
+same_content : (v : ℤ) (c d : Content) → IsOthers v c d → kept_size (int_eq v) c ≡ 0 → d ≡ c
+same_content v (queue vs) d s z = s ∙ ap (λ us. queue us) (none_of v vs z)
+same_content v (stack vs) d s z = s ∙ ap (λ us. stack us) (none_of v vs z)
+same_content v (heap vs) d s z = s.0 ∙ ap (λ us. heap us) (none_of v vs z)
+same_content v c d s z = s
+
+-- ---- a step that neither puts in the value nor takes it out
+
+abbrev IsApart : ℤ → AnyOp → AnyReply → Type 0
+IsApart v op reply = (puts_in (int_eq v) op ≡ false) × (takes_out (int_eq v) op (Some reply) ≡ false)
+
+abbrev Goes : ℤ → AnyOp → Content → Content → AnyReply → Type 0
+Goes v op d after reply = (later : Content) × (next d op ≡ Some (later, reply)) × IsOthers v after later
+
+queue_goes : (v : ℤ) (vs : List ℤ) (op : AnyOp)
+    → IfSome (next (queue vs) op) (λ p. IsApart v op p.1 → Goes v op (queue (filter (others v) vs)) p.0 p.1)
+queue_goes v vs (Enqueue w) =
+    λ a. (queue (filter (others v) vs ++ w ∷ []), refl, ap (λ us. queue us) (after_in (others v) w vs (ap not a.0)))
+queue_goes v [] Dequeue = λ a. (queue [], refl, refl)
+queue_goes v (w ∷ vs) Dequeue =
+    λ a. (
+      queue (filter (others v) vs),
+      ap (λ us. next (queue us) Dequeue) (filter_in (others v) w vs (ap not a.1)),
+      refl,
+    )
+queue_goes v vs op = tt
+
+stack_goes : (v : ℤ) (vs : List ℤ) (op : AnyOp)
+    → IfSome (next (stack vs) op) (λ p. IsApart v op p.1 → Goes v op (stack (filter (others v) vs)) p.0 p.1)
+stack_goes v vs (Push w) =
+    λ a. (stack (w ∷ filter (others v) vs), refl, ap (λ us. stack us) (sym (filter_in (others v) w vs (ap not a.0))))
+stack_goes v [] Pop = λ a. (stack [], refl, refl)
+stack_goes v (w ∷ vs) Pop =
+    λ a. (stack (filter (others v) vs), ap (λ us. next (stack us) Pop) (filter_in (others v) w vs (ap not a.1)), refl)
+stack_goes v vs op = tt
+
+heap_goes : (v : ℤ) (vs : List ℤ) (op : AnyOp) → IsRising vs
+    → IfSome (next (heap vs) op) (λ p. IsApart v op p.1 → Goes v op (heap (filter (others v) vs)) p.0 p.1)
+heap_goes v vs (Insert w) r = λ a. (
+  heap (with_value w (filter (others v) vs)),
+  refl,
+  (ap (λ us. heap us) (with_value_in (others v) w vs r (ap not a.0)), rising_with_value w vs r),
+)
+heap_goes v [] ExtractMin r = λ a. (heap [], refl, (refl, tt))
+heap_goes v (w ∷ vs) ExtractMin r =
+    λ a. (
+      heap (filter (others v) vs),
+      ap (λ us. next (heap us) ExtractMin) (filter_in (others v) w vs (ap not a.1)),
+      (refl, r.1),
+    )
+heap_goes v vs op r = tt
+
+-- a content that is no list of values goes on as it is
+abbrev is_list : Content → Bool
+is_list (queue vs) = true
+is_list (stack vs) = true
+is_list (heap vs) = true
+is_list c = false
+
+stays_same : (v : ℤ) (c : Content) (op : AnyOp) → is_list c ≡ false → (p : Content × AnyReply) → next c op ≡ Some p
+    → IsOthers v p.0 p.0
+stays_same v c op e p does = subst (λ z. IfSome z (λ p. IsOthers v p.0 p.0)) does (own_others v c op e)
+  where
+    own_others : (v : ℤ) (c : Content) (op : AnyOp) → is_list c ≡ false → IfSome (next c op) (λ p. IsOthers v p.0 p.0)
+    own_others v c op e = search rules
+
+abbrev GoesAt : ℤ → AnyOp → Content → Content → Type 0
+GoesAt v op c d = IfSome (next c op) (λ p. IsApart v op p.1 → Goes v op d p.0 p.1)
+
+goes : (v : ℤ) (c d : Content) (op : AnyOp) → IsOthers v c d → GoesAt v op c d
+goes v (queue vs) d op s = subst (GoesAt v op (queue vs)) (sym s) (queue_goes v vs op)
+goes v (stack vs) d op s = subst (GoesAt v op (stack vs)) (sym s) (stack_goes v vs op)
+goes v (heap vs) d op s = subst (GoesAt v op (heap vs)) (sym s.0) (heap_goes v vs op s.1)
+goes v c d op s = some_at (λ p. IsApart v op p.1 → Goes v op d p.0 p.1) (next c op)
+    (λ p does a. (p.0, ap (λ (z : Content). next z op) s ∙ does, stays_same v c op refl p does))
+
+-- ---- a step that puts in the value, or takes it out, and that the part leaves out
+
+abbrev Touches : ℤ → AnyOp → AnyReply → Type 0
+Touches v op reply = (puts_in (int_eq v) op ≡ true) ⊎ (takes_out (int_eq v) op (Some reply) ≡ true)
+
+abbrev SkipsAt : ℤ → AnyOp → Content → Content → Type 0
+SkipsAt v op c d = IfSome (next c op) (λ p. Touches v op p.1 → IsOthers v p.0 d)
+
+skips : (v : ℤ) (c d : Content) (op : AnyOp) → IsOthers v c d → SkipsAt v op c d
+skips v c d op s = grind (arith, after_out, filter_out, with_value_out, rising_with_value)
+
+-- ---- how often the value is put in and taken out early
+
+no_put_takes : (keeps : ℤ → Bool) (op : AnyOp) (r : Option AnyReply) → puts_in keeps op ≡ true
+    → takes_out keeps op r ≡ false
+no_put_takes keeps op r e = search rules
+
+and_le : (a b : Bool) → one (a && b) ≤ one a
+and_le a b = search rules
+
+or_true : (a b : Bool) → (a || b) ≡ true → (a ≡ true) ⊎ (b ≡ true)
+or_true a b e = search rules
+
+early_put : (v : ℤ) (number : ℕ) (e : Call) → is_put_before v number e ≡ true
+    → (puts_in (int_eq v) e.op ≡ true) × (nat_lt e.number number ≡ true)
+early_put v number e h = both_true (puts_in (int_eq v) e.op) (nat_lt e.number number) h
+
+early_removal : (v : ℤ) (number : ℕ) (e : Call) → is_taken_before v number e ≡ true
+    → (takes_out (int_eq v) e.op (reply_of e.returned) ≡ true) × (ended_before number e.returned ≡ true)
+early_removal v number e h =
+    both_true (takes_out (int_eq v) e.op (reply_of e.returned)) (ended_before number e.returned) h
+
+-- a call that had returned before the number returned before a call that was invoked at it or later
+returned_first : (v : ℤ) (number : ℕ) (y e : Call) → is_taken_before v number y ≡ true
+    → nat_lt e.number number ≡ false → ReturnsBefore y e
+returned_first v number y e t n = go y.returned refl (early_removal v number y t).1
+  where
+    less : (at later : ℕ) → nat_lt at number ≡ true → nat_lt later number ≡ false → at < later
+    less at later a b = grind (arith, nat_tests)
+
+    go : (o : Option Return) → y.returned ≡ o → ended_before number o ≡ true → ReturnsBefore y e
+    go None q t = absurd (false_is_not_true t)
+    go (Some r) q t = (r, q, less r.at e.number t n)
+
+tally_none : {X : Type 0} (p : X → Bool) (xs : List X) → ((x : X) → In x xs → p x ≡ false) → tally p xs ≡ 0
+tally_none p [] f = refl
+tally_none p (x ∷ xs) f =
+    let here = f x (inl refl) in
+    let rest = tally_none p xs (λ y i. f y (inr i)) in
+    grind arith
+
+none_tallied : {X : Type 0} (p : X → Bool) (xs : List X) → tally p xs ≡ 0 → (x : X) → In x xs → p x ≡ false
+none_tallied p [] z x i = absurd i
+none_tallied p (y ∷ ys) z x i = grind (arith, none_tallied p ys)
+
+-- after a late put the value is not taken early
+none_after : (v : ℤ) (number : ℕ) (e : Call) (es : List Call) → nat_lt e.number number ≡ false
+    → ((y : Call) → In y es → ReturnsBefore y e → ⊥)
+    → tally (is_taken_before v number) es ≡ 0
+none_after v number e es n f =
+    tally_none (is_taken_before v number) es (λ y i. elim (true_or_false (is_taken_before v number y)) [
+      | inl t ↦ absurd (f y i (returned_first v number y e t n))
+      | inr no_removal ↦ no_removal
+    ])
+
+put_cases : (v : ℤ) (number : ℕ) (e : Call)
+    → (one (puts_in (int_eq v) e.op) ≡ one (is_put_before v number e))
+    ⊎ ((puts_in (int_eq v) e.op ≡ true) × (nat_lt e.number number ≡ false))
+put_cases v number e = grind arith
+
+-- what is taken early is there, or is put in early
+owed : (v : ℤ) (number : ℕ) (es : List Call) (c : Content) → RepliesAlong c es → Pairs (λ x y. ReturnsBefore y x → ⊥) es
+    → tally (is_taken_before v number) es ≤ kept_size (int_eq v) c + tally (is_put_before v number) es
+owed v number [] c h p = omega arith
+owed v number (e ∷ es) c h p =
+    let t = turn (int_eq v) e c h.0 h.1 h.2 h.3 in
+    let rest = owed v number es h.0 h.4 p.1 in
+    let fewer = and_le (takes_out (int_eq v) e.op (reply_of e.returned)) (ended_before number e.returned) in
+    elim (put_cases v number e) [
+      | inl early ↦ omega arith
+      | inr late ↦
+          let none_here = ap one (no_put_takes (int_eq v) e.op (reply_of e.returned) late.0) in
+          let none_later = none_after v number e es late.1 p.0 in
+          omega arith
+    ]
+
+-- ---- along the order
+
+abbrev stays : ℤ → ℕ → Call → Bool
+stays v number e = not (is_put_before v number e || is_taken_before v number e)
+
+filter_here : {X : Type 0} (p : X → Bool) (x : X) (xs : List X) → p x ≡ true → filter p (x ∷ xs) ≡ x ∷ filter p xs
+filter_here p x xs e = grind arith
+
+filter_away : {X : Type 0} (p : X → Bool) (x : X) (xs : List X) → p x ≡ false → filter p (x ∷ xs) ≡ filter p xs
+filter_away p x xs e = ap (λ b. cond b (x ∷ filter p xs) (filter p xs)) e
+
+-- no more is there and is put in early than is taken early
+abbrev IsSpent : ℤ → ℕ → Content → List Call → Type 0
+IsSpent v number c es = kept_size (int_eq v) c + tally (is_put_before v number) es ≤ tally (is_taken_before v number) es
+
+-- where nothing is taken early, the value is not there, and all stays
+all_stay : (v : ℤ) (number : ℕ) (es : List Call) (c d : Content) → IsOthers v c d → RepliesAlong c es
+    → IsSpent v number c es
+    → tally (is_taken_before v number) es ≡ 0 → RepliesAlong d (filter (stays v number) es)
+all_stay v number es c d s h spent none =
+    let put : tally (is_put_before v number) es ≡ 0 = omega arith in
+    let same = same_content v c d s (omega arith) in
+    let whole = filter_all (stays v number) es
+    (λ e i.
+    let no_put = none_tallied (is_put_before v number) es put e i in
+    let no_removal = none_tallied (is_taken_before v number) es none e i in
+    grind arith) in
+    subst (λ (z : Content). RepliesAlong z (filter (stays v number) es)) (sym same)
+    (subst (RepliesAlong c) (sym whole) h)
+
+-- how an early call changes what is there
+early_spent : (v : ℤ) (number : ℕ) (e : Call) (es : List Call) (c after : Content) (reply : AnyReply)
+    → Turn (int_eq v) e c after reply
+    → (is_put_before v number e || is_taken_before v number e) ≡ true → IsSpent v number c (e ∷ es)
+    → IsSpent v number after es
+early_spent v number e es c after reply t early spent =
+    elim (or_true (is_put_before v number e) (is_taken_before v number e) early) [
+      | inl put ↦
+          let puts = ap one (early_put v number e put).0 in
+          let here = ap one put in
+          let no_take = ap one (no_put_takes (int_eq v) e.op (Some reply) (early_put v number e put).0) in
+          let none_here = and_le (takes_out (int_eq v) e.op (reply_of e.returned)) (ended_before number e.returned) in
+          let none_told = ap one (no_put_takes (int_eq v) e.op (reply_of e.returned) (early_put v number e put).0) in
+          omega arith
+      | inr taken ↦
+          let told = ap one (early_removal v number e taken).0 in
+          let here = ap one taken in
+          let fewer = and_le (puts_in (int_eq v) e.op) (nat_lt e.number number) in
+          let none_put = no_put e.op (reply_of e.returned) (early_removal v number e taken).0 in
+          omega arith
+    ]
+  where
+    no_put : (op : AnyOp) (r : Option AnyReply) → takes_out (int_eq v) op r ≡ true → one (puts_in (int_eq v) op) ≡ 0
+    no_put op r k = let never = no_put_takes (int_eq v) op r in grind arith
+
+without_early : (v : ℤ) (number : ℕ) (es : List Call) (c d : Content) → IsOthers v c d → RepliesAlong c es
+    → Pairs (λ x y. ReturnsBefore y x → ⊥) es
+    → IsSpent v number c es → RepliesAlong d (filter (stays v number) es)
+without_early v number [] c d s h p spent = tt
+without_early v number (e ∷ es) c d s h p spent =
+    let t = turn (int_eq v) e c h.0 h.1 h.2 h.3 in
+    elim (true_or_false (is_put_before v number e || is_taken_before v number e)) [
+      | inl early ↦
+          let skipped = subst (λ z. IfSome z (λ p. Touches v e.op p.1 → IsOthers v p.0 d)) h.2 (skips v c d e.op s)
+          (touched h.1 early t.fewer) in
+          subst (RepliesAlong d) (sym (filter_away (stays v number) e es (ap not early)))
+          (without_early v number es h.0 d skipped h.4 p.1 (early_spent v number e es c h.0 h.1 t early spent))
+      | inr late ↦
+          let no_early = or_parts (is_put_before v number e) (is_taken_before v number e) late in
+          elim (true_or_false (puts_in (int_eq v) e.op)) [
+            | inl put ↦
+                let later = latter (puts_in (int_eq v) e.op) (nat_lt e.number number) put no_early.0 in
+                let none_here = ap one no_early.1 in
+                let none_later = none_after v number e es later p.0 in
+                all_stay v number (e ∷ es) c d s h spent (omega arith)
+            | inr no_put ↦ elim (true_or_false (takes_out (int_eq v) e.op (Some h.1))) [
+              | inl took ↦
+                  let some_took = ap one took in
+                  let none_put = ap one no_put in
+                  let none_here = ap one no_early.1 in
+                  let owing = owed v number es h.0 h.4 p.1 in
+                  absurd (omega arith)
+              | inr no_take ↦
+                  let g = subst (λ z. IfSome z (λ p. IsApart v e.op p.1 → Goes v e.op d p.0 p.1)) h.2
+                  (goes v c d e.op s) (no_put, no_take) in
+                  let none_took = ap one no_take in
+                  let none_put = ap one no_put in
+                  let none_here = ap one no_early.1 in
+                  let still : IsSpent v number h.0 es = omega arith in
+                  subst (RepliesAlong d) (sym (filter_here (stays v number) e es (ap not late)))
+                  (g.0, h.1, g.1, h.3, without_early v number es h.0 g.0 g.2 h.4 p.1 still)
+            ]
+          ]
+    ]
+  where
+    latter : (a b : Bool) → a ≡ true → (a && b) ≡ false → b ≡ false
+    latter a b p e = grind arith
+
+    touched : (reply : AnyReply) → (is_put_before v number e || is_taken_before v number e) ≡ true
+        → one (takes_out (int_eq v) e.op (reply_of e.returned)) ≤ one (takes_out (int_eq v) e.op (Some reply))
+        → Touches v e.op reply
+    touched reply early fewer = elim (or_true (is_put_before v number e) (is_taken_before v number e) early) [
+      | inl put ↦ inl (early_put v number e put).0
+      | inr taken ↦ inr (more (takes_out (int_eq v) e.op (reply_of e.returned))
+          (takes_out (int_eq v) e.op (Some reply)) (early_removal v number e taken).0 fewer)
+    ]
+      where
+        more : (a b : Bool) → a ≡ true → one a ≤ one b → b ≡ true
+        more a b q l = grind arith
+
+-- ---- the law
+
+pub without_valid : (kind : Kind) (calls : List Call) (v : ℤ) (number : ℕ) (order : List ℤ)
+    → AllPairs (λ a b. a.number < b.number) calls
+    → IsAbsent v number calls → IsValidOrder kind calls order
+    → (part : List ℤ) × IsValidOrder kind (calls_without v number calls) part
+without_valid kind calls v number order rising absent valid =
+    let named : Call → ℤ = λ e. pos e.number in
+    let entries = valid.entries in
+    let p : Call → Bool = stays v number in
+    let puts = count_among (is_put_before v number) entries calls (entries_apart valid)
+    (λ e i q. in_calls valid e i) in
+    let takes = count_among (is_taken_before v number) calls entries (calls_apart calls rising)
+    (λ e i q. in_entries valid e i (returned e.returned (early_removal v number e q).1)) in
+    let none_at_first = size_empty (int_eq v) kind in
+    let all_puts = count_tally (is_put_before v number) calls in
+    let all_taken = count_tally (is_taken_before v number) calls in
+    let spent : IsSpent v number (empty kind) entries = omega arith in (
+      map named (filter p entries),
+      record {
+        entries = filter p entries;
+        numbers = refl;
+        known = all_from_in (Contains (filter p calls)) (filter p entries) (λ e i.
+            contains_from_in (filter p calls) e
+            (in_filter_from p e calls (in_calls valid e (in_filter p e entries i)) (in_filter_passes p e entries i)));
+        once = all_from_pairs (λ x y. x ≢ y) (map named (filter p entries))
+            (pairs_map (λ x y. x ≢ y) named (filter p entries)
+            (pairs_filter (λ x y. named x ≢ named y) p entries (named_apart valid)));
+        whole = all_from_in (λ e. IsSome e.returned → Contains (filter p entries) e) (filter p calls) (λ e i so.
+            let here = in_entries valid e (in_filter p e calls i) so in
+            contains_from_in (filter p entries) e (in_filter_from p e entries here (in_filter_passes p e calls i)));
+        in_order = all_from_pairs (λ x y. ReturnsBefore y x → ⊥) (filter p entries)
+            (pairs_filter (λ x y. ReturnsBefore y x → ⊥) p entries (in_time_order valid));
+        replies = without_early v number entries (empty kind) (empty kind)
+            (empty_others v kind) valid.replies (in_time_order valid) spent;
+      },
+    )
+  where
+    returned : (o : Option Return) → ended_before number o ≡ true → IsSome o
+    returned None e = absurd (false_is_not_true e)
+    returned (Some r) e = refl

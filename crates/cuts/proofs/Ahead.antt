@@ -1,0 +1,327 @@
+-- What definitely was ahead of what a removal found was taken out before it: the order is split at the removal, and
+-- counts of its front are compared. A queue and a stack that gave a value have cases of their own (`InFront`).
+use Rattle.std.proofs.Common.{◌≡◌, ◌≢◌, ◌⊎◌, inl, inr, ℕ, ℤ, ◌<◌, ◌≤◌, ◌==◌, nat_lt, min}
+use Rattle.std.proofs.Common.{Bool, true, false, not, ◌&&◌, ◌||◌, cond, List, [], ◌∷◌, ◌++◌, Option}
+use Rattle.std.proofs.Common.{Some, None, All, AllPairs, Contains, IfSome, IsSome, count_by, refl}
+use Rattle.std.proofs.Common.{ap, sym, ◌∙◌, subst, arith}
+use Rattle.std.proofs.lemmas.Bool.Decides.{nat_tests}
+use Rattle.std.proofs.lemmas.Option.{same_Some}
+use Rattle.std.specs.Ordering.{int_eq}
+use Rattle.std.specs.List.{list_all}
+use Rattle.model.specs.declared.Kind.{Kind}
+use Rattle.model.specs.declared.Kind.TheVariants as variant
+use Rattle.model.specs.declared.AnyOp.{AnyOp}
+use Rattle.model.specs.declared.AnyOp.TheVariants.{Dequeue, Pop}
+use Rattle.model.specs.declared.AnyReply.{AnyReply}
+use Rattle.model.specs.declared.AnyReply.TheVariants.{Value, Swapped, NotSwapped, Flag}
+use Rattle.model.specs.Objects.{queue, stack, kind_of, empty}
+use Rattle.model.specs.Orders.{Call, Return, ReturnsBefore, RepliesAlong, IsValidOrder}
+use Rattle.model.specs.Lists.{In}
+use Rattle.model.proofs.Lists.{Pairs, in_append, in_left, in_split, in_from_contains, all_at}
+use Rattle.model.proofs.Lists.{pairs_from_all, pairs_weaker}
+use Rattle.cuts.specs.Parts.{ended_before}
+use Rattle.cuts.specs.Kinds.Containers.{puts_in, is_removal}
+use Rattle.cuts.specs.Ahead.{found_in, found_by, first_put, ahead_before}
+use Rattle.cuts.specs.Kinds.Containers.{is_value_ahead}
+use Rattle.cuts.specs.Ahead.{is_settled, is_put_ahead, may_precede}
+use Rattle.cuts.proofs.Ordered.{calls_apart, in_calls, in_entries, numbers_apart, in_time_order}
+use Rattle.cuts.proofs.Conserved.{tally, count_tally, tally_le, count_among}
+use Rattle.std.proofs.lemmas.Bool.{and_from}
+use Rattle.cuts.proofs.Emptied.{pairs_front, pairs_to}
+use Rattle.cuts.proofs.Emptied.{pairs_beyond, put_by, may_by, spent}
+use Rattle.cuts.proofs.InFront.{every, queue_spent, until_put, fresh_until, in_until}
+use Rattle.cuts.proofs.InFront.{first_least, stack_spent, since_put, since_none, since_along}
+use Rattle.cuts.proofs.InFront.{since_tally, in_since}
+use Rattle.cuts.proofs.Booleans.{passes_all, false_is_not_true, both_true}
+
+-- ---- the calls, and those in an order
+
+ended : (before : ℕ) (o : Option Return) → ended_before before o ≡ true → (r : Return) × (o ≡ Some r) ×
+    (r.at < before)
+ended before o e = grind (arith, nat_tests)
+
+-- what holds of a put that counts
+put_parts : (keeps : ℤ → Bool) (from before : ℕ) (e : Call) → is_put_ahead keeps from before e ≡ true
+    → (puts_in keeps e.op ≡ true) × (ended_before before e.returned ≡ true) × (from ≤ e.number)
+put_parts keeps from before e p =
+    let a = both_true (puts_in keeps e.op) (ended_before before e.returned && not (nat_lt e.number from)) p in
+    let b = both_true (ended_before before e.returned) (not (nat_lt e.number from)) a.1 in
+    (a.0, b.0, begun e.number from b.1)
+  where
+    begun : (number from : ℕ) → not (nat_lt number from) ≡ true → from ≤ number
+    begun number from e = grind (arith, nat_tests)
+
+-- what a removal shows
+record Shown (op : AnyOp) (o : Option Return) (at : ℕ) (found : Option ℤ) : Type 0 where
+  pub removal : is_removal op ≡ true
+  pub reply : AnyReply
+  pub returned : o ≡ Some (record { at = at; reply = reply })
+  pub value : reply ≡ Value found
+
+pub pair_first : (a b : ℕ) (x y : Option ℤ) → ◌≡◌ {A = Option (ℕ × Option ℤ)} (Some (a, x)) (Some (b, y))
+    → (a ≡ b) × (x ≡ y)
+pair_first a b x y e = let p : ℕ × Option ℤ = (a, x) in let q : ℕ × Option ℤ = (b, y) in let s = same_Some p
+    q e in (ap (λ (z : ℕ × Option ℤ). z.0) s, ap (λ (z : ℕ × Option ℤ). z.1) s)
+
+shown_by : (op : AnyOp) (o : Option Return) (at : ℕ) (found : Option ℤ) → found_by op o ≡ Some (at, found)
+    → Shown op o at found
+shown_by op None at found e = absurd (cc e)
+shown_by op (Some r) at found e = go (is_removal op) refl e
+  where
+    in_reply : (reply : AnyReply) → r.reply ≡ reply → is_removal op ≡ true
+        → found_in r.at reply ≡ Some (at, found) → Shown op (Some r) at found
+    in_reply (Value x) s t q =
+        let w = pair_first r.at at x found q in
+        record {
+          removal = t;
+          reply = r.reply;
+          returned = ap
+              (λ (n : ℕ). Some (record { at = n; reply = r.reply })) w.0;
+          value = s ∙ ap Value w.1;
+        }
+    in_reply (Swapped a c) s t q = absurd (cc q)
+    in_reply NotSwapped s t q = absurd (cc q)
+    in_reply (Flag b) s t q = absurd (cc q)
+
+    go : (t : Bool) → is_removal op ≡ t → cond t (found_in r.at r.reply) None ≡ Some (at, found)
+        → Shown op (Some r) at found
+    go true t q = in_reply r.reply refl t q
+    go false t q = absurd (cc q)
+
+least_of : (a b : ℕ) → (min a b ≤ a) × (min a b ≤ b)
+least_of a b = (omega arith, omega arith)
+
+before_removal : (found : Option ℤ) (op : AnyOp) (number : ℕ) (calls : List Call)
+    → ahead_before found op number calls ≤ number
+before_removal found op number calls = grind arith
+
+not_put : (keeps : ℤ → Bool) (op : AnyOp) → is_removal op ≡ true → puts_in keeps op ≡ true → ⊥
+not_put keeps op t p = grind arith
+
+-- ---- the order, split at the removal
+
+-- the removal in an order, and what is before and after it
+record Split (kind : Kind) (calls : List Call) (n : Call) : Type 0 where
+  pub earlier : List Call
+  pub later : List Call
+  pub replies : RepliesAlong (empty kind) (earlier ++ n ∷ later)
+  pub in_time : Pairs (λ x y. ReturnsBefore y x → ⊥) (earlier ++ n ∷ later)
+  pub apart : Pairs (λ x y. x.number ≢ y.number) (earlier ++ n ∷ later)
+  pub distinct : Pairs (λ x y. x ≢ y) calls
+  pub known : (e : Call) → In e earlier → In e calls
+  pub whole : (e : Call) → In e calls → IsSome e.returned → In e (earlier ++ n ∷ later)
+
+split_at : (kind : Kind) (calls : List Call) (order : List ℤ) (n : Call)
+    → AllPairs (λ a b. a.number < b.number) calls → Contains calls n → IsSome n.returned
+    → IsValidOrder kind calls order → Split kind calls n
+split_at kind calls order n rising stands ended v =
+    let s = in_split n v.entries (in_entries v n (in_from_contains calls n stands) ended) in
+    record {
+      earlier = s.0;
+      later = s.1;
+      replies = subst (RepliesAlong (empty kind)) s.2 v.replies;
+      in_time = subst (Pairs (λ x y. ReturnsBefore y x → ⊥)) s.2 (in_time_order v);
+      apart = subst (Pairs (λ x y. x.number ≢ y.number)) s.2 (numbers_apart v);
+      distinct = calls_apart calls rising;
+      known = λ e i. in_calls v e (subst (In e) (sym s.2) (in_left e s.0 (n ∷ s.1) i));
+      whole = λ e i q. subst (In e) s.2 (in_entries v e i q);
+    }
+
+-- a put that returned before the removal was invoked is before it
+early : (kind : Kind) (calls : List Call) (n : Call) (s : Split kind calls n) (keeps : ℤ → Bool)
+    (from before : ℕ) → is_removal n.op ≡ true → before ≤ n.number
+    → (e : Call) → In e calls → is_put_ahead keeps from before e ≡ true → In e s.earlier
+early kind calls n s keeps from before removal l e i p =
+    let q = put_parts keeps from before e p in
+    let t = ended before e.returned q.1 in
+    elim (in_append e s.earlier (n ∷ s.later) (s.whole e i (subst IsSome (sym t.1) refl))) [
+      | inl j ↦ j
+      | inr j ↦ elim j [
+        | inl w ↦ absurd (not_put keeps n.op removal (ap (λ (z : Call). puts_in keeps z.op) (sym w) ∙ q.0))
+        | inr k ↦ absurd
+            (pairs_beyond (λ x y. ReturnsBefore y x → ⊥) s.earlier n s.later s.in_time e k
+            (t.0, t.1, reach t.0.at before n.number t.2 l))
+      ]
+    ]
+  where
+    reach : (a before number : ℕ) → a < before → before ≤ number → a < number
+    reach a before number l m = omega arith
+
+-- What may take one out before the removal is another call, and was not invoked after its response.
+taken_early : (kind : Kind) (calls : List Call) (n : Call) (s : Split kind calls n) (keeps : ℤ → Bool)
+    (r : Return) → n.returned ≡ Some r
+    → tally (may_by keeps) s.earlier ≤ count_by (may_precede keeps n.number r.at) calls
+taken_early kind calls n s keeps r returned =
+    let late : (e : Call) → In e s.earlier → may_by keeps e ≡ true → may_precede keeps n.number r.at e ≡ true =
+    λ e i p.
+    let other = pairs_to (λ x y. x.number ≢ y.number) s.earlier n s.later s.apart e i in
+    let in_time = pairs_to (λ x y. ReturnsBefore y x → ⊥) s.earlier n s.later s.in_time e i in
+    and_from (may_by keeps e) (not (e.number == n.number || nat_lt r.at e.number)) p
+    (elsewhere e.number n.number r.at other (λ w. in_time (r, returned, w))) in
+    let front = pairs_weaker (λ x y. x.number ≢ y.number) (λ x y. x ≢ y) s.earlier
+    (λ x y i j ne e. ne (ap (λ (z : Call). z.number) e))
+    (pairs_front (λ x y. x.number ≢ y.number) s.earlier (n ∷ s.later) s.apart) in
+    let a = tally_le (may_by keeps) (may_precede keeps n.number r.at) s.earlier late in
+    let b = count_among (may_precede keeps n.number r.at) s.earlier calls front (λ e i p. s.known e i) in
+    let d = count_tally (may_precede keeps n.number r.at) calls in
+    omega arith
+  where
+    elsewhere : (a number at : ℕ) → a ≢ number → (at < a → ⊥) → not (a == number || nat_lt at a) ≡ true
+    elsewhere a number at f g = grind (arith, nat_tests)
+
+-- ---- the general case, a queue and a stack
+
+plain_case : (kind : Kind) (calls : List Call) (n : Call) (s : Split kind calls n) (r : Return)
+    (o : Option ℤ) (from before : ℕ) → is_removal n.op ≡ true → n.returned ≡ Some r → r.reply ≡ Value o
+    → (n.op ≡ Dequeue → o ≡ None) → (n.op ≡ Pop → o ≡ None) → before ≤ n.number
+    → count_by (is_put_ahead (is_value_ahead o n.op) from before) calls ≤ tally
+    (may_by (is_value_ahead o n.op)) s.earlier
+plain_case kind calls n s r o from before removal returned value d u l =
+    let keeps = is_value_ahead o n.op in
+    let more = count_among (is_put_ahead keeps from before) calls s.earlier s.distinct
+    (early kind calls n s keeps from before removal l) in
+    let puts = tally_le (is_put_ahead keeps from before) (put_by keeps) s.earlier
+    (λ e i p. (put_parts keeps from before e p).0) in
+    let here = spent n r o s.earlier s.later kind removal returned value d u s.replies in
+    let counted = count_tally (is_put_ahead keeps from before) calls in
+    omega arith
+
+queue_case : (kind : Kind) (calls : List Call) (n : Call) (s : Split kind calls n) (r : Return) (b : ℤ)
+    (from before : ℕ) → kind ≡ variant.Queue → n.op ≡ Dequeue → n.returned ≡ Some r → r.reply ≡ Value (Some b)
+    → before ≤ n.number → ((p : Call) → In p calls → puts_in (int_eq b) p.op ≡ true → before ≤ p.number)
+    → All (λ e. (r : Return) → e.returned ≡ Some r → e.number < r.at) calls
+    → count_by (is_put_ahead every from before) calls ≤ tally (may_by every) s.earlier
+queue_case kind calls n s r b from before is_queue dequeue returned value l first ends =
+    let removal : is_removal n.op ≡ true = ap is_removal dequeue in
+    let gives : (reply : AnyReply) → IfSome n.returned (λ r. r.reply ≡ reply) → reply ≡ Value (Some b) =
+    λ reply h. sym (subst (λ z. IfSome z (λ r. r.reply ≡ reply)) returned h) ∙ value in
+    let replies : RepliesAlong (queue []) (s.earlier ++ n ∷ s.later) = subst
+    (λ (k : Kind). RepliesAlong (empty k) (s.earlier ++ n ∷ s.later)) is_queue s.replies in
+    let here = queue_spent b s.earlier n s.later [] dequeue gives replies in
+    let in_time = pairs_front (λ x y. ReturnsBefore y x → ⊥) s.earlier (n ∷ s.later) s.in_time in
+    let ahead : (e : Call) → In e calls → is_put_ahead every from before e ≡ true → In e (until_put b s.earlier) =
+    λ e i p.
+    let q = put_parts every from before e p in
+    let t = ended before e.returned q.1 in
+    in_until b s.earlier e (early kind calls n s every from before removal l e i p) in_time
+    (λ z j w. (t.0, t.1, reach t.0.at before z.number t.2 (first z (s.known z j) w)))
+    (λ w. turned e.number w.0.at
+    (all_at (λ e. (r : Return) → e.returned ≡ Some r → e.number < r.at) calls ends e i w.0 w.1) w.2) in
+    let more = count_among (is_put_ahead every from before) calls (until_put b s.earlier) s.distinct ahead in
+    let puts = tally_le (is_put_ahead every from before) (put_by every) (until_put b s.earlier)
+    (λ e i p. (put_parts every from before e p).0) in
+    let counted = count_tally (is_put_ahead every from before) calls in
+    let fresh = fresh_until b s.earlier in
+    omega arith
+  where
+    reach : (a before number : ℕ) → a < before → before ≤ number → a < number
+    reach a before number l m = omega arith
+
+    turned : (a b : ℕ) → a < b → b < a → ⊥
+    turned a b l m = omega arith
+
+stack_case : (kind : Kind) (calls : List Call) (n : Call) (s : Split kind calls n) (r : Return) (b : ℤ)
+    (from before : ℕ) → kind ≡ variant.Stack → n.op ≡ Pop → n.returned ≡ Some r → r.reply ≡ Value (Some b)
+    → before ≤ n.number → list_all (λ e. not (puts_in (int_eq b) e.op) || ended_before from e.returned)
+    calls ≡ true → All (λ e. (r : Return) → e.returned ≡ Some r → e.number < r.at) calls
+    → count_by (is_put_ahead every from before) calls ≤ tally (may_by every) s.earlier
+stack_case kind calls n s r b from before is_stack pop returned value l settled ends =
+    let removal : is_removal n.op ≡ true = ap is_removal pop in
+    let gives : (reply : AnyReply) → IfSome n.returned (λ r. r.reply ≡ reply) → reply ≡ Value (Some b) =
+    λ reply h. sym (subst (λ z. IfSome z (λ r. r.reply ≡ reply)) returned h) ∙ value in
+    let replies : RepliesAlong (stack []) (s.earlier ++ n ∷ s.later) = subst
+    (λ (k : Kind). RepliesAlong (empty k) (s.earlier ++ n ∷ s.later)) is_stack s.replies in
+    let since = since_along b s.earlier n s.later [] replies in
+    let here = stack_spent b (since_put b s.earlier) n s.later since.0 pop gives (since_none b s.earlier) since.1 in
+    let in_time = pairs_front (λ x y. ReturnsBefore y x → ⊥) s.earlier (n ∷ s.later) s.in_time in
+    let above : (e : Call) → In e calls → is_put_ahead every from before e ≡ true → In e (since_put b s.earlier) =
+    λ e i p.
+    let q = put_parts every from before e p in
+    in_since b s.earlier e (early kind calls n s every from before removal l e i p) in_time
+    (λ z j w.
+    let t = ended from z.returned
+    (either (puts_in (int_eq b) z.op) (ended_before from z.returned) w
+    (passes_all (λ (e : Call). not (puts_in (int_eq b) e.op) || ended_before from e.returned) calls settled
+    z (s.known z j))) in
+    (t.0, t.1, reach t.0.at from e.number t.2 q.2))
+    (λ w. turned e.number w.0.at
+    (all_at (λ e. (r : Return) → e.returned ≡ Some r → e.number < r.at) calls ends e i w.0 w.1) w.2) in
+    let more = count_among (is_put_ahead every from before) calls (since_put b s.earlier) s.distinct above in
+    let puts = tally_le (is_put_ahead every from before) (put_by every) (since_put b s.earlier)
+    (λ e i p. (put_parts every from before e p).0) in
+    let fewer = since_tally (may_by every) b s.earlier in
+    let counted = count_tally (is_put_ahead every from before) calls in
+    omega arith
+  where
+    either : (a c : Bool) → a ≡ true → (not a || c) ≡ true → c ≡ true
+    either true c e h = h
+    either false c e h = absurd (false_is_not_true e)
+
+    reach : (a before number : ℕ) → a < before → before ≤ number → a < number
+    reach a before number l m = omega arith
+
+    turned : (a b : ℕ) → a < b → b < a → ⊥
+    turned a b l m = omega arith
+
+-- ---- all cases
+
+-- Either the general case, or a queue's or a stack's removal of a value.
+removal_cases : (o : Option ℤ) (op : AnyOp) → ((op ≡ Dequeue → o ≡ None) × (op ≡ Pop → o ≡ None)) ⊎
+    (((b : ℤ) × (o ≡ Some b) × (op ≡ Dequeue)) ⊎ ((b : ℤ) × (o ≡ Some b) × (op ≡ Pop)))
+removal_cases None op = inl (λ e. refl, λ e. refl)
+removal_cases (Some b) Dequeue = inr (inl (b, refl, refl))
+removal_cases (Some b) Pop = inr (inr (b, refl, refl))
+removal_cases (Some b) op = inl (λ e. absurd (cc e), λ e. absurd (cc e))
+
+abbrev Bounded : (kind : Kind) (calls : List Call) (n : Call) (s : Split kind calls n) (from : ℕ)
+    (op : AnyOp) (o : Option ℤ) → Type 0
+Bounded kind calls n s from op o = count_by
+    (is_put_ahead (is_value_ahead o op) from (ahead_before o op n.number calls)) calls ≤ tally
+    (may_by (is_value_ahead o op)) s.earlier
+
+moved : (kind : Kind) (calls : List Call) (n : Call) (s : Split kind calls n) (from : ℕ) (op own : AnyOp)
+    (o : Option ℤ) (b : ℤ) → op ≡ own → o ≡ Some b → Bounded kind calls n s from own (Some b)
+    → Bounded kind calls n s from op o
+moved kind calls n s from op own o b e f h =
+    subst (λ (o : Option ℤ). Bounded kind calls n s from op o) (sym f)
+    (subst (λ (op : AnyOp). Bounded kind calls n s from op (Some b)) (sym e) h)
+
+-- What definitely was ahead of what a removal found was taken out before it.
+pub ahead_bounded : (kind : Kind) (calls : List Call) (n : Call) (at from : ℕ) (found : Option ℤ)
+    (order : List ℤ) → All (λ e. kind_of e.op ≡ kind) calls → AllPairs (λ a b. a.number < b.number) calls
+    → All (λ e. (r : Return) → e.returned ≡ Some r → e.number < r.at) calls → Contains calls n
+    → found_by n.op n.returned ≡ Some (at, found) → is_settled found n.op from calls ≡ true
+    → IsValidOrder kind calls order
+    → count_by (is_put_ahead (is_value_ahead found n.op) from (ahead_before found n.op n.number calls))
+    calls ≤ count_by (may_precede (is_value_ahead found n.op) n.number at) calls
+ahead_bounded kind calls n at from found order of_kind rising ends stands told settled v =
+    let w = shown_by n.op n.returned at found told in
+    let r : Return = record { at = at; reply = w.reply } in
+    let s = split_at kind calls order n rising stands (subst IsSome (sym w.returned) refl) v in
+    let of_op : (op : AnyOp) → n.op ≡ op → kind ≡ kind_of op = λ op e. sym
+    (all_at (λ e. kind_of e.op ≡ kind) calls of_kind n (in_from_contains calls n stands)) ∙ ap kind_of e in
+    let here : Bounded kind calls n s from n.op found =
+    elim (removal_cases found n.op) [
+      | inl d ↦ plain_case kind calls n s r found from (ahead_before found n.op n.number calls) w.removal
+          w.returned w.value d.0 d.1 (before_removal found n.op n.number calls)
+      | inr c ↦ elim c [
+        | inl c ↦
+            let q = queue_case kind calls n s r c.0 from (min n.number (first_put c.0 calls))
+            (of_op Dequeue c.2) c.2 w.returned
+            (w.value ∙ ap Value c.1) (least_of n.number (first_put c.0 calls)).0
+            (λ p i e.
+            let below = (least_of n.number (first_put c.0 calls)).1 in
+            let first = first_least c.0 calls (pairs_from_all (λ a b. a.number < b.number) calls rising) p i e in
+            omega arith) ends in
+            moved kind calls n s from n.op Dequeue found c.0 c.2 c.1 q
+        | inr c ↦
+            let all : is_settled (Some c.0) Pop from calls ≡ true = subst
+            (λ (o : Option ℤ). is_settled o Pop from calls ≡ true) c.1
+            (subst (λ (op : AnyOp). is_settled found op from calls ≡ true) c.2 settled) in
+            let q = stack_case kind calls n s r c.0 from n.number (of_op Pop c.2) c.2 w.returned
+            (w.value ∙ ap Value c.1) (omega arith) all ends in
+            moved kind calls n s from n.op Pop found c.0 c.2 c.1 q
+      ]
+    ] in
+    let taken = taken_early kind calls n s (is_value_ahead found n.op) r w.returned in
+    omega arith

@@ -1,0 +1,405 @@
+-- Calls with the numbers of a part, as the history says them: where they have a valid order alone, the part has one.
+-- Each cut makes of these calls what it makes of them in the whole, and that has a valid order where they have one.
+use Rattle.std.proofs.lemmas.Bool.Decides.{nat_tests}
+use Rattle.std.proofs.Common.{◌≡◌, inl, inr, ℕ, ℤ, pos, ◌<◌, ◌==◌, ◌&&◌, ◌||◌, nat_lt, Bool, true, false, cond, not}
+use Rattle.std.proofs.Common.{List, [], ◌∷◌, Option, Some, None, IfSome, IsSome}
+use Rattle.std.proofs.Common.{All, AllPairs, Contains, map, filter, refl, ap, sym, ◌∙◌, subst, arith}
+use Rattle.std.specs.Prelude.{option_map}
+use Rattle.std.specs.List.{filter_map, cons_option}
+use Rattle.std.proofs.lemmas.Option.{same_Some}
+use Rattle.std.proofs.lemmas.Bool.{eqb-true}
+use Rattle.model.specs.declared.Kind.{Kind}
+use Rattle.model.specs.declared.AnyOp.{AnyOp}
+use Rattle.model.specs.declared.AnyReply.{AnyReply}
+use Rattle.model.specs.Objects.{kind_of, empty}
+use Rattle.model.specs.Orders.{Call, Return, ReturnsBefore, IsValidOrder}
+use Rattle.model.proofs.Orders.{returned_some}
+use Rattle.model.specs.Lists.{In}
+use Rattle.model.proofs.Lists.{in_filter, in_filter_passes, in_filter_from, in_map, in_map_from, filter_same}
+use Rattle.model.proofs.Lists.{filter_all, filter-filter}
+use Rattle.model.proofs.Lists.{in_from_contains, contains_from_in, all_from_in, all_at, all_from_pairs}
+use Rattle.model.proofs.Lists.{pairs_from_all, pairs_map, pairs_weaker}
+use Rattle.cuts.specs.declared.cutting.Cut.{Cut}
+use Rattle.cuts.specs.declared.cutting.Cut.TheVariants.{From, Until, Without, Keep, Cell, Entry}
+use Rattle.cuts.specs.Parts.{IsStart, pending_call, call_later}
+use Rattle.cuts.specs.Kinds.Starts.{key_of}
+use Rattle.cuts.specs.Parts.{returned_call, call_from, call_before, calls_before, kept_calls}
+use Rattle.cuts.specs.Recasts.{recast}
+use Rattle.cuts.specs.declared.kinds.Place.{Place}
+use Rattle.cuts.specs.declared.kinds.Place.TheVariants.{OfRegister, OfKey}
+use Rattle.cuts.specs.Kinds.{kind_of_part}
+use Rattle.cuts.specs.Cells.{done_at, opened_at, call_at, calls_at}
+use Rattle.cuts.specs.Absent.{is_put_before, is_taken_before}
+use Rattle.cuts.specs.Cuts.{keeps_value, keeps_number, IsSuffix, Names, NamesPart, kind_cut, part_kind}
+use Rattle.cuts.specs.Listed.{has_number, listed}
+use Rattle.cuts.proofs.Sequences.{one_number, in_filter_map}
+use Rattle.cuts.proofs.Overlaps.{before_facts, cut_of, in_time_cut, later_replies}
+use Rattle.cuts.proofs.CutOperations.{filter_map-filter}
+use Rattle.cuts.proofs.Prefixes.{prefix_valid}
+use Rattle.cuts.proofs.Suffixes.{call_from_cases, start_valid}
+use Rattle.cuts.proofs.Recasts.{recast_timed}
+use Rattle.cuts.proofs.Places.{into_part, part_valid}
+use Rattle.cuts.proofs.Later.{leaves_kind}
+use Rattle.cuts.proofs.Named.{AreRising, from_timed, timed_named, rising_timed}
+use Rattle.cuts.proofs.Booleans.{false_is_not_true}
+
+-- ---- what holds of the calls of a history, and of those of each part
+
+record AreCalls (kind : Kind) (calls : List Call) : Type 0 where
+  rising : AreRising calls
+  ends : (e : Call) (r : Return) → In e calls → e.returned ≡ Some r → e.number < r.at
+  kinds : (e : Call) → In e calls → kind_of e.op ≡ kind
+
+recast_kind : (done : AnyOp → AnyReply → Option (AnyOp × AnyReply)) (pending : AnyOp → Option AnyOp) (k : Kind)
+    (y x : Call) → ((reply : AnyReply) → IfSome (done y.op reply) (λ f. kind_of f.0 ≡ k))
+    → IfSome (pending y.op) (λ f. kind_of f ≡ k) → recast done pending y.number y.op y.returned ≡ Some x
+    → kind_of x.op ≡ k
+recast_kind done pending k y x d p e = go y.returned e
+  where
+    finished : (at : ℕ) (f : Option (AnyOp × AnyReply)) → IfSome f (λ f. kind_of f.0 ≡ k)
+        → option_map (returned_call y.number at) f ≡ Some x → kind_of x.op ≡ k
+    finished at None l e = absurd (cc e)
+    finished at (Some f) l e = subst (λ (z : Call). kind_of z.op ≡ k) (same_Some (returned_call y.number at f) x e) l
+
+    unfinished : (f : Option AnyOp) → IfSome f (λ f. kind_of f ≡ k) → option_map (pending_call y.number) f ≡ Some x
+        → kind_of x.op ≡ k
+    unfinished None l e = absurd (cc e)
+    unfinished (Some op) l e = subst (λ (z : Call). kind_of z.op ≡ k) (same_Some (pending_call y.number op) x e) l
+
+    go : (o : Option Return) → recast done pending y.number y.op o ≡ Some x → kind_of x.op ≡ k
+    go None e = unfinished (pending y.op) p e
+    go (Some r) e = finished r.at (done y.op r.reply) (d r.reply) e
+
+later_kind : (first : Option (AnyOp × AnyReply)) (at : ℕ) (y : Call)
+    → kind_of (call_later first at y).op ≡ kind_of y.op
+later_kind first at y = grind (arith, before_facts)
+
+from_kinds : (kind : Kind) (from : ℕ) (calls part : List Call) → AreCalls kind calls → IsSuffix from calls part
+    → (x : Call) → In x part → kind_of x.op ≡ kind
+from_kinds kind from calls part are h x i =
+    let y = in_filter_map (call_from from h.at h.first) x calls (subst (In x) h.named i) in
+    elim (call_from_cases from h.at h.first y.0 x y.2) [
+      | inl q ↦
+          let s = h.start in
+          let told = subst (λ (z : Option (Option (AnyOp × AnyReply))). IfSome z
+          (λ f. IfSome f (λ p. kind_of p.0 ≡ kind_of s.call.op)))
+          (s.told ∙ ap (λ (z : Option (AnyOp × AnyReply)). Some z) q.1) (leaves_kind s.call.op s.reply) in
+          subst (λ (z : Call). kind_of z.op ≡ kind) (sym q.2)
+          (told ∙ are.kinds s.call (in_from_contains calls s.call s.known))
+      | inr q ↦ subst (λ (z : Call). kind_of z.op ≡ kind) (sym q.1) (later_kind h.first h.at y.0 ∙ are.kinds y.0 y.1)
+    ]
+
+kinds_at : (place : Place) (keeps : ℤ → Bool) (other : ℤ) (kept : ℕ → Bool) (kind : Kind) (calls part : List Call)
+    → AreCalls kind calls → part ≡ calls_at place keeps other kept calls → (x : Call) → In x part
+    → kind_of x.op ≡ kind_of_part place kind
+kinds_at place keeps other kept kind calls part are h x i =
+    let y = in_filter_map (call_at place keeps other kept) x calls (subst (In x) h i) in
+    let into = into_part place keeps other in
+    recast_kind (done_at place keeps other (kept y.0.number)) (opened_at place keeps other)
+    (kind_of_part place (kind_of y.0.op)) y.0 x (into.returned (kept y.0.number) y.0.op) (into.unfinished y.0.op) y.2
+    ∙ ap (kind_of_part place) (are.kinds y.0 y.1)
+
+kinds_named : (cut : Cut) (kind : Kind) (calls part : List Call) → AreCalls kind calls → Names cut calls part
+    → (x : Call) → In x part → kind_of x.op ≡ kind_cut cut kind
+kinds_named (From number) kind calls part are h x i = from_kinds kind number calls part are h x i
+kinds_named (Until number) kind calls part are h x i =
+    let y = in_map (call_before number) x (filter (λ e. nat_lt e.number number) calls) (subst (In x) h i) in
+    ap (λ (z : Call). kind_of z.op) y.2
+    ∙ are.kinds y.0 (in_filter (λ (e : Call). nat_lt e.number number) y.0 calls y.1)
+kinds_named (Without value before) kind calls part are h x i = are.kinds x (in_filter _ x calls (subst (In x) h.1 i))
+kinds_named (Keep values numbers) kind calls part are h x i = are.kinds x (in_filter _ x calls (subst (In x) h.1 i))
+kinds_named (Cell values other numbers) kind calls part are h x i =
+    kinds_at OfRegister (keeps_value values) other (keeps_number numbers) kind calls part are h x i
+kinds_named (Entry key values other numbers) kind calls part are h x i =
+    kinds_at (OfKey key) (keeps_value values) other (keeps_number numbers) kind calls part are h x i
+
+after_cut : (cut : Cut) (kind : Kind) (calls part : List Call) → AreCalls kind calls → Names cut calls part
+    → AreCalls (kind_cut cut kind) part
+after_cut cut kind calls part are h =
+    let t = timed_named cut calls part are.rising h in
+    record {
+      rising = rising_timed calls part t are.rising;
+      ends = λ x r i q.
+          let y = in_filter_map t.becomes x calls (subst (In x) t.named i) in
+          let w = t.timed y.0 x y.1 y.2 in
+          let u = w.returned r q in
+          later y.0.number x.number u.0.at r.at (are.ends y.0 u.0 y.1 u.1) w.number u.2;
+      kinds = kinds_named cut kind calls part are h;
+    }
+  where
+    later : (n m a b : ℕ) → n < a → m ≡ n → a ≡ b → m < b
+    later n m a b l e f = omega arith
+
+-- ---- calls with these numbers
+
+-- what each of them becomes does not depend on the others
+commutes : (kept : ℕ → Bool) (f : Call → Option Call) (calls : List Call)
+    → ((y x : Call) → In y calls → f y ≡ Some x → x.number ≡ y.number)
+    → kept_calls kept (filter_map f calls) ≡ filter_map f (kept_calls kept calls)
+commutes kept f [] same = refl
+commutes kept f (y ∷ calls) same = go (f y) refl (commutes kept f calls (λ z x i e. same z x (inr i) e))
+  where
+    go : (o : Option Call) → f y ≡ o → kept_calls kept (filter_map f calls) ≡ filter_map f (kept_calls kept calls)
+        → kept_calls kept (cons_option o (filter_map f calls)) ≡ filter_map f
+        (cond (kept y.number) (y ∷ kept_calls kept calls) (kept_calls kept calls))
+    go None q h = h ∙ none (kept y.number)
+      where
+        none : (b : Bool) → filter_map f (kept_calls kept calls) ≡ filter_map f
+            (cond b (y ∷ kept_calls kept calls) (kept_calls kept calls))
+        none true = sym (ap (λ (o : Option Call). cons_option o (filter_map f (kept_calls kept calls))) q)
+        none false = refl
+    go (Some x) q h =
+        ap (λ n. cond (kept n) (x ∷ kept_calls kept (filter_map f calls)) (kept_calls kept (filter_map f calls)))
+        (same y x (inl refl) q) ∙ some (kept y.number)
+      where
+        some : (b : Bool) → cond b (x ∷ kept_calls kept (filter_map f calls))
+            (kept_calls kept (filter_map f calls)) ≡ filter_map f
+            (cond b (y ∷ kept_calls kept calls) (kept_calls kept calls))
+        some true = ap (λ (cs : List Call). x ∷ cs) h
+            ∙ sym (ap (λ (o : Option Call). cons_option o (filter_map f (kept_calls kept calls))) q)
+        some false = h
+
+-- each call with one of these numbers has a call of the part with its number
+abbrev Covers : (ℕ → Bool) → List Call → List Call → Type 0
+Covers kept calls part = (e : Call) → In e calls → kept e.number ≡ true
+    → (y : Call) × In y part × (y.number ≡ e.number)
+
+same_filtered : (kept : ℕ → Bool) (keeps : Call → Bool) (calls : List Call) → AreRising calls
+    → Covers kept calls (filter keeps calls) → kept_calls kept calls ≡ kept_calls kept (filter keeps calls)
+same_filtered kept keeps calls rising covers =
+    sym (filter-filter (λ e. kept e.number) keeps calls
+    ∙ filter_same (λ e. keeps e && kept e.number) (λ e. kept e.number) calls
+    (λ e i. both (keeps e) (kept e.number) (λ q.
+    let y = covers e i q in
+    let same = one_number (λ (z : Call). z.number) y.0 e calls rising (in_filter keeps y.0 calls y.1) i y.2 in
+    ap keeps (sym same) ∙ in_filter_passes keeps y.0 calls y.1)))
+  where
+    both : (a b : Bool) → (b ≡ true → a ≡ true) → (a && b) ≡ b
+    both true b h = refl
+    both false true h = h refl
+    both false false h = refl
+
+-- an order of calls is one of what becomes of them in a suffix that begins with none of them
+later_valid : (kind : Kind) (first : Option (AnyOp × AnyReply)) (at : ℕ) (calls : List Call) (order : List ℤ)
+    → IsValidOrder kind calls order → IsValidOrder kind (map (call_later first at) calls) order
+later_valid kind first at calls order v =
+    let cut : Call → Call = call_later first at in
+    record {
+      entries = map cut v.entries;
+      numbers = v.numbers ∙ numbers v.entries;
+      known = all_from_in (Contains (map cut calls)) (map cut v.entries) (λ x i.
+          let y = in_map cut x v.entries i in
+          let stands = in_from_contains calls y.0 (all_at (Contains calls) v.entries v.known y.0 y.1) in
+          contains_from_in (map cut calls) x
+          (subst (λ (z : Call). In z (map cut calls)) (sym y.2) (in_map_from cut y.0 calls stands)));
+      once = v.once;
+      whole = all_from_in (λ (x : Call). IsSome x.returned → Contains (map cut v.entries) x) (map cut calls)
+          (λ x i so.
+          let y = in_map cut x calls i in
+          let stands = in_from_contains v.entries y.0
+          (all_at (λ (e : Call). IsSome e.returned → Contains v.entries e) calls v.whole y.0 y.1
+          (was y.0 (subst (λ (z : Call). IsSome z.returned) y.2 so))) in
+          contains_from_in (map cut v.entries) x
+          (subst (λ (z : Call). In z (map cut v.entries)) (sym y.2) (in_map_from cut y.0 v.entries stands)));
+      in_order = all_from_pairs (λ x y. ReturnsBefore y x → ⊥) (map cut v.entries)
+          (pairs_map (λ x y. ReturnsBefore y x → ⊥) cut v.entries
+          (pairs_weaker (λ x y. ReturnsBefore y x → ⊥) (λ x y. ReturnsBefore (cut y) (cut x) → ⊥) v.entries
+          (λ x y i k h. in_time_cut (cut x) (cut y) x y (cut_of first at x) (cut_of first at y) h)
+          (pairs_from_all (λ x y. ReturnsBefore y x → ⊥) v.entries v.in_order)));
+      replies = later_replies first at v.entries (empty kind) v.replies;
+    }
+  where
+    numbers : (es : List Call) → map (λ (e : Call). pos e.number) es ≡ map (λ (e : Call). pos e.number)
+        (map (call_later first at) es)
+    numbers [] = refl
+    numbers (e ∷ es) =
+        ap (λ n. pos n ∷ map (λ (e : Call). pos e.number) es) (sym (cut_of first at e).number)
+        ∙ ap (λ ns. pos (call_later first at e).number ∷ ns) (numbers es)
+
+    was : (y : Call) → IsSome (call_later first at y).returned → IsSome y.returned
+    was y so =
+        let r = returned_some (call_later first at y).returned so in
+        let u = (cut_of first at y).returned r.0 r.1 in
+        subst (λ (o : Option Return). IsSome o) (sym u.1) refl
+
+from_step : (kind : Kind) (from : ℕ) (calls part : List Call) (kept : ℕ → Bool) (order : List ℤ) → AreCalls kind calls
+    → IsSuffix from calls part
+    → Covers kept calls part → IsValidOrder kind (kept_calls kept calls) order
+    → (o : List ℤ) × IsValidOrder kind (kept_calls kept part) o
+from_step kind from calls part kept order are h covers v = go (kept from) refl
+  where
+    same : filter_map (call_from from h.at h.first) (kept_calls kept calls) ≡ kept_calls kept part
+    same =
+        sym (commutes kept (call_from from h.at h.first) calls
+        (λ y x i e. (from_timed from calls part are.rising h y x i e).number))
+        ∙ ap (kept_calls kept) (sym h.named)
+
+    in_kept : (e : Call) → In e (kept_calls kept calls) → In e calls
+    in_kept e i = in_filter (λ (e : Call). kept e.number) e calls i
+
+    -- the call with which the suffix begins is one of these
+    begins : kept from ≡ true → (o : List ℤ) × IsValidOrder kind (kept_calls kept part) o
+    begins q =
+        let s = h.start in
+        let here : Contains (kept_calls kept calls) s.call =
+        contains_from_in (kept_calls kept calls) s.call
+        (in_filter_from (λ (e : Call). kept e.number) s.call calls (in_from_contains calls s.call s.known)
+        (ap kept s.number ∙ q)) in
+        let start : IsStart (kept_calls kept calls) from h.at h.first = record {
+          call = s.call;
+          known = here;
+          number = s.number;
+          reply = s.reply;
+          returned = s.returned;
+          told = s.told;
+          one_key = all_from_in (λ (e : Call). key_of e.op ≡ key_of s.call.op) (kept_calls kept calls)
+              (λ e i. all_at (λ (e : Call). key_of e.op ≡ key_of s.call.op) calls s.one_key e (in_kept e i));
+        } in
+        let found = start_valid kind (kept_calls kept calls) from h.at h.first order
+        (all_from_in (λ (e : Call). kind_of e.op ≡ kind) (kept_calls kept calls)
+        (λ e i. are.kinds e (in_kept e i))) start v in
+        (found.0, subst (λ cs. IsValidOrder kind cs found.0) same found.1)
+
+    is_later : kept from ≡ false → (e : Call) → In e (kept_calls kept calls)
+        → call_from from h.at h.first e ≡ Some (call_later h.first h.at e)
+    is_later q e i =
+        let chosen = in_filter_passes (λ (e : Call). kept e.number) e calls i in
+        let y = covers e (in_kept e i) chosen in
+        let z = in_filter_map (call_from from h.at h.first) y.0 calls (subst (In y.0) h.named y.1) in
+        let own = one_number (λ (z : Call). z.number) z.0 e calls are.rising z.1 (in_kept e i)
+        (sym (from_timed from calls part are.rising h z.0 y.0 z.1 z.2).number ∙ y.2) in
+        let made : call_from from h.at h.first e ≡ Some y.0 = ap (call_from from h.at h.first) (sym own) ∙ z.2 in
+        elim (call_from_cases from h.at h.first e y.0 made) [
+          | inl w ↦ absurd (false_is_not_true (sym q ∙ ap kept (sym (ap (λ (z : Call). z.number) w.2) ∙ y.2) ∙ chosen))
+          | inr w ↦ made ∙ ap (λ (z : Call). Some z) w.1
+        ]
+
+    all_later : (cs : List Call) → ((e : Call) → In e cs
+        → call_from from h.at h.first e ≡ Some (call_later h.first h.at e))
+        → filter_map (call_from from h.at h.first) cs ≡ map (call_later h.first h.at) cs
+    all_later [] f = refl
+    all_later (e ∷ cs) f =
+        ap (λ (o : Option Call). cons_option o (filter_map (call_from from h.at h.first) cs)) (f e (inl refl))
+        ∙ ap (λ ds. call_later h.first h.at e ∷ ds) (all_later cs (λ y i. f y (inr i)))
+
+    go : (b : Bool) → kept from ≡ b → (o : List ℤ) × IsValidOrder kind (kept_calls kept part) o
+    go true q = begins q
+    go false q = (
+      order,
+      subst (λ cs. IsValidOrder kind cs order)
+          (sym (all_later (kept_calls kept calls) (is_later q)) ∙ same)
+          (later_valid kind h.first h.at (kept_calls kept calls) order v),
+    )
+
+step_at : (place : Place) (keeps : ℤ → Bool) (other : ℤ) (chosen : ℕ → Bool) (kind : Kind) (calls part : List Call)
+    (kept : ℕ → Bool) (order : List ℤ) → part ≡ calls_at place keeps other chosen calls
+    → IsValidOrder kind (kept_calls kept calls) order
+    → (o : List ℤ) × IsValidOrder (kind_of_part place kind) (kept_calls kept part) o
+step_at place keeps other chosen kind calls part kept order h v =
+    let found = part_valid place kind (kept_calls kept calls) keeps other chosen order v in
+    let same : calls_at place keeps other chosen (kept_calls kept calls) ≡ kept_calls kept part =
+    sym (commutes kept (call_at place keeps other chosen) calls
+    (λ y x i e. (recast_timed (done_at place keeps other (chosen y.number)) (opened_at place keeps other) y x
+    e).number))
+    ∙ ap (kept_calls kept) (sym h) in
+    (found.0, subst (λ cs. IsValidOrder (kind_of_part place kind) cs found.0) same found.1)
+
+step : (cut : Cut) (kind : Kind) (calls part : List Call) (kept : ℕ → Bool) (order : List ℤ) → AreCalls kind calls
+    → Names cut calls part
+    → Covers kept calls part → IsValidOrder kind (kept_calls kept calls) order
+    → (o : List ℤ) × IsValidOrder (kind_cut cut kind) (kept_calls kept part) o
+step (From number) kind calls part kept order are h covers v =
+    from_step kind number calls part kept order are h covers v
+step (Until number) kind calls part kept order are h covers v =
+    let cut : Call → Option Call = λ y. cond (nat_lt y.number number) (Some (call_before number y)) None in
+    let found = prefix_valid kind (kept_calls kept calls) number order
+    (all_from_in (λ (e : Call). (r : Return) → e.returned ≡ Some r → e.number < r.at) (kept_calls kept calls)
+    (λ e i r q. are.ends e r (in_filter (λ (e : Call). kept e.number) e calls i) q)) v in
+    let same : calls_before number (kept_calls kept calls) ≡ kept_calls kept part =
+    sym (filter_map-filter (λ (y : Call). nat_lt y.number number) (call_before number) (kept_calls kept calls))
+    ∙ sym (commutes kept cut calls (λ y x i e. number_kept y x (nat_lt y.number number) e))
+    ∙ ap (kept_calls kept) (filter_map-filter (λ (y : Call). nat_lt y.number number) (call_before number) calls
+    ∙ sym h) in
+    (found.0, subst (λ cs. IsValidOrder kind cs found.0) same found.1)
+  where
+    number_kept : (y x : Call) (b : Bool) → cond b (Some (call_before number y)) None ≡ Some x → x.number ≡ y.number
+    number_kept y x true e = ap (λ (z : Call). z.number) (sym (same_Some (call_before number y) x e))
+    number_kept y x false e = absurd (cc e)
+step (Without value before) kind calls part kept order are h covers v =
+    let q : Call → Bool = λ e. not (is_put_before value before e || is_taken_before value before e) in
+    let same = same_filtered kept q calls are.rising
+    (λ e i k. let y = covers e i k in (y.0, subst (In y.0) h.1 y.1, y.2)) in
+    (order, subst (λ cs. IsValidOrder kind cs order) (same ∙ ap (kept_calls kept) (sym h.1)) v)
+step (Keep values numbers) kind calls part kept order are h covers v =
+    let q : Call → Bool = λ e. keeps_number numbers e.number in
+    let same = same_filtered kept q calls are.rising
+    (λ e i k. let y = covers e i k in (y.0, subst (In y.0) h.1 y.1, y.2)) in
+    (order, subst (λ cs. IsValidOrder kind cs order) (same ∙ ap (kept_calls kept) (sym h.1)) v)
+step (Cell values other numbers) kind calls part kept order are h covers v =
+    step_at OfRegister (keeps_value values) other (keeps_number numbers) kind calls part kept order h v
+step (Entry key values other numbers) kind calls part kept order are h covers v =
+    step_at (OfKey key) (keeps_value values) other (keeps_number numbers) kind calls part kept order h v
+
+-- ---- cuts
+
+-- each call of a part has the number of a call of the whole
+numbers_named : (cuts : List Cut) (kind : Kind) (calls part : List Call) → AreCalls kind calls
+    → NamesPart cuts calls part → (x : Call) → In x part → (y : Call) × In y calls × (x.number ≡ y.number)
+numbers_named [] kind calls part are h x i = (x, subst (In x) h i, refl)
+numbers_named (cut ∷ cuts) kind calls part are h x i =
+    let t = timed_named cut calls h.0 are.rising h.1 in
+    let z = numbers_named cuts (kind_cut cut kind) h.0 part (after_cut cut kind calls h.0 are h.1) h.2 x i in
+    let y = in_filter_map t.becomes z.0 calls (subst (In z.0) t.named z.1) in
+    (y.0, y.1, z.2 ∙ (t.timed y.0 z.0 y.1 y.2).number)
+
+steps : (cuts : List Cut) (kind : Kind) (calls part : List Call) (kept : ℕ → Bool) (order : List ℤ)
+    → AreCalls kind calls → NamesPart cuts calls part
+    → Covers kept calls part → IsValidOrder kind (kept_calls kept calls) order
+    → (o : List ℤ) × IsValidOrder (part_kind cuts kind) (kept_calls kept part) o
+steps [] kind calls part kept order are h covers v =
+    (order, subst (λ cs. IsValidOrder kind (kept_calls kept cs) order) (sym h) v)
+steps (cut ∷ cuts) kind calls part kept order are h covers v =
+    let next = after_cut cut kind calls h.0 are h.1 in
+    let t = timed_named cut calls h.0 are.rising h.1 in
+    let first : Covers kept calls h.0 = λ e i q.
+    let y = covers e i q in
+    let z = numbers_named cuts (kind_cut cut kind) h.0 part next h.2 y.0 y.1 in
+    (z.0, z.1, sym z.2 ∙ y.2) in
+    let rest : Covers kept h.0 part = λ e i q.
+    let z = in_filter_map t.becomes e calls (subst (In e) t.named i) in
+    let same = (t.timed z.0 e z.1 z.2).number in
+    let y = covers z.0 z.1 (ap kept (sym same) ∙ q) in
+    (y.0, y.1, y.2 ∙ sym same) in
+    let o = step cut kind calls h.0 kept order are h.1 first v in
+    steps cuts (kind_cut cut kind) h.0 part kept o.0 next h.2 rest o.1
+
+with_number : (part : List Call) (n : ℕ) → has_number part n ≡ true → (y : Call) × In y part × (y.number ≡ n)
+with_number [] n e = absurd (cc e)
+with_number (x ∷ part) n e = go (x.number == n) refl e (with_number part n)
+  where
+    go : (b : Bool) → (x.number == n) ≡ b → (b || has_number part n) ≡ true
+        → (has_number part n ≡ true → (y : Call) × In y part × (y.number ≡ n))
+        → (y : Call) × In y (x ∷ part) × (y.number ≡ n)
+    go true q e f = (x, inl refl, eqb-true x.number n q)
+    go false q e f = let y = f e in (y.0, inr y.1, y.2)
+
+has_own : (part : List Call) (y : Call) → In y part → has_number part y.number ≡ true
+has_own [] y i = absurd i
+has_own (x ∷ part) y i = grind (arith, nat_tests, has_own part y)
+
+pub listed_valid : (cuts : List Cut) (kind : Kind) (calls part : List Call) (order : List ℤ)
+    → All (λ e. kind_of e.op ≡ kind) calls → AllPairs (λ a b. a.number < b.number) calls
+    → All (λ e. (r : Return) → e.returned ≡ Some r → e.number < r.at) calls → NamesPart cuts calls part
+    → IsValidOrder kind (listed part calls) order → (o : List ℤ) × IsValidOrder (part_kind cuts kind) part o
+listed_valid cuts kind calls part order kinds rising ends named v =
+    let are : AreCalls kind calls = record {
+      rising = pairs_from_all (λ a b. a.number < b.number) calls rising;
+      ends = λ e r i q. all_at (λ (e : Call). (r : Return) → e.returned ≡ Some r
+          → e.number < r.at) calls ends e i r q;
+      kinds = λ e i. all_at (λ (e : Call). kind_of e.op ≡ kind) calls kinds e i;
+    } in
+    let o = steps cuts kind calls part (has_number part) order are named (λ e i q. with_number part e.number q) v in (
+      o.0,
+      subst (λ cs. IsValidOrder (part_kind cuts kind) cs o.0)
+          (filter_all (λ (e : Call). has_number part e.number) part (λ e i. has_own part e i)) o.1,
+    )

@@ -1,0 +1,318 @@
+-- What a valid order has from a call on after which it is known what the object contains is a valid order of the
+-- suffix.
+use Rattle.std.proofs.lemmas.Bool.Decides.{nat_tests}
+use Rattle.std.proofs.Common.{◌≡◌, ◌≢◌, ◌⊎◌, inl, inr, ℕ, ℤ, pos, ◌<◌, Bool, true, false, List}
+use Rattle.std.proofs.Common.{[], ◌∷◌, ◌++◌, Option, Some, None}
+use Rattle.std.proofs.Common.{IfSome, IsSome, is_some, map, All, Contains, refl, ap, sym, ◌∙◌, subst, arith}
+use Rattle.std.specs.List.{filter_map}
+use Rattle.std.proofs.lemmas.Option.{same_Some}
+use Rattle.model.proofs.Orders.{same_pos}
+use Rattle.model.specs.declared.Kind.{Kind}
+use Rattle.model.specs.declared.Kind.TheVariants.{Register}
+use Rattle.model.specs.declared.AnyOp.{AnyOp}
+use Rattle.model.specs.declared.AnyOp.TheVariants.{Write}
+use Rattle.model.specs.declared.AnyReply.{AnyReply}
+use Rattle.model.specs.declared.AnyReply.TheVariants.{Value}
+use Rattle.model.specs.Objects.{Content, empty, next, kind_of}
+use Rattle.model.specs.Orders.{Call, Return, ReturnsBefore, RepliesAlong, IsValidOrder}
+use Rattle.model.specs.Lists.{In}
+use Rattle.model.proofs.Lists.{Pairs, in_append, in_left, in_right, in_split, in_map, in_map_from}
+use Rattle.model.proofs.Lists.{in_from_contains, contains_from_in}
+use Rattle.model.proofs.Lists.{all_from_in, all_at, all_from_pairs, pairs_weaker, pairs_map}
+use Rattle.model.proofs.Lists.{pairs_append}
+use Rattle.cuts.specs.Parts.{reply_of, IsStart, ended_before, call_later, returned_call, call_from, calls_from}
+use Rattle.cuts.specs.Kinds.Starts.{key_of, leaves}
+use Rattle.cuts.proofs.Ordered.{in_calls, in_entries, numbers_apart, in_time_order}
+use Rattle.cuts.proofs.Simulation.{pick, in_pick, pairs_pick, Replied, Choice, choose}
+use Rattle.cuts.proofs.Contents.{IsShadow}
+use Rattle.cuts.proofs.Fitting.{MayStep, all_step, closed_simulates}
+use Rattle.cuts.proofs.Freshness.{on_key, is_free, free_keeps, all_fit, Begins, tells}
+use Rattle.cuts.proofs.Sequences.{in_filter_map, in_filter_map_from, pairs_at, pairs_filter_map}
+use Rattle.cuts.proofs.Overlaps.{later_replies, IsCutOf, cut_of, in_time_cut, front_call, IsFront}
+use Rattle.cuts.proofs.Overlaps.{front_facts, late_facts, first_write, IsWrite, front_replies}
+
+-- ---- replies
+
+record StepThenReplies (e : Call) (later : List Call) : Type 0 where
+  before : Content
+  after : Content
+  reply : AnyReply
+  does : next before e.op ≡ Some (after, reply)
+  agrees : IfSome e.returned (λ r. r.reply ≡ reply)
+  replies : RepliesAlong after later
+
+replies_after : (earlier : List Call) (e : Call) (later : List Call) (c : Content)
+    → RepliesAlong c (earlier ++ e ∷ later) → StepThenReplies e later
+replies_after [] e later c h = record { before = c; after = h.0; reply = h.1; does = h.2; agrees = h.3; replies = h.4 }
+replies_after (x ∷ xs) e later c h = replies_after xs e later h.0 h.4
+
+-- ---- where the suffix begins
+
+-- the entries of the suffix: writes that overlap the first call, then it, if there is one, and later calls
+record Joined (kind : Kind) (from at : ℕ) (first : Option (AnyOp × AnyReply))
+    (front es entries : List Call) : Type 0 where
+  replies : RepliesAlong (empty kind) entries
+  own : (p : AnyOp × AnyReply) → first ≡ Some p → In (returned_call from at p) entries
+  fronts : (e : Call) → In e front → In e entries
+  others : (e : Call) → In e es → In e entries
+  from_where : (e : Call) → In e entries
+      → ((p : AnyOp × AnyReply) × (first ≡ Some p) × (e ≡ returned_call from at p)) ⊎ (In e front ⊎ In e es)
+  pairs : ((e : Call) → In e front → e.number ≢ from) → ((e : Call) → In e es → e.number ≢ from)
+      → ((x y : Call) → In x front → In y es → x.number ≢ y.number) → Pairs (λ x y. x.number ≢ y.number) front
+      → Pairs (λ x y. x.number ≢ y.number) es → Pairs (λ x y. x.number ≢ y.number) entries
+  in_time : ((x : Call) → In x front → at < x.number → ⊥)
+      → ((e : Call) (r : Return) → In e es → e.returned ≡ Some r → r.at < from → ⊥)
+      → ((x y : Call) → In x front → In y es → ReturnsBefore y x → ⊥) → Pairs (λ x y. ReturnsBefore y x → ⊥) front
+      → Pairs (λ x y. ReturnsBefore y x → ⊥) es → Pairs (λ x y. ReturnsBefore y x → ⊥) entries
+
+joined_none : (kind : Kind) (from at : ℕ) (front es : List Call) → ((x : Call) → In x front → ⊥)
+    → RepliesAlong (empty kind) es → Joined kind from at None front es es
+joined_none kind from at front es none h = record {
+  replies = h;
+  own = λ p e. absurd (cc e);
+  fronts = λ e i. absurd (none e i);
+  others = λ e i. i;
+  from_where = λ e i. inr (inr i);
+  pairs = λ a b c f g. g;
+  in_time = λ a b c f g. g;
+}
+
+joined_some : (kind : Kind) (from at : ℕ) (first : AnyOp × AnyReply) (d : Content) (front es : List Call)
+    → next (empty kind) first.0 ≡ Some (d, first.1) → ((x : Call) → In x front → IsWrite x × (kind ≡ Register))
+    → (kind ≡ Register → (v : ℤ) × (first ≡ (Write v, Value (Some v)))) → RepliesAlong d es
+    → Joined kind from at (Some first) front es (front ++ returned_call from at first ∷ es)
+joined_some kind from at first d front es does writes reg h = record {
+  replies = front_replies kind front from at first d es does writes reg h;
+  own = λ p e. in_right (returned_call from at p) front (returned_call from at first ∷ es)
+      (inl (ap (returned_call from at) (sym (same_Some first p e))));
+  fronts = λ e i. in_left e front (returned_call from at first ∷ es) i;
+  others = λ e i. in_right e front (returned_call from at first ∷ es) (inr i);
+  from_where = λ e i. elim (in_append e front (returned_call from at first ∷ es) i) [
+    | inl j ↦ inr (inl j)
+    | inr j ↦ elim j [ inl q ↦ inl (first, refl, q) | inr k ↦ inr (inr k) ]
+  ];
+  pairs = λ a b c f g. pairs_append (λ x y. x.number ≢ y.number) front (returned_call from at first ∷ es) f
+      (λ y i e. b y i (sym e), g)
+      (λ x y i j. elim j [ inl q ↦ λ e. a x i (e ∙ ap (λ (z : Call). z.number) q) | inr k ↦ c x y i k ]);
+  in_time = λ a b c f g. pairs_append (λ x y. ReturnsBefore y x → ⊥) front (returned_call from at first ∷ es) f
+      (λ y i r. b y r.0 i r.1 r.2, g)
+      (λ x y i j. elim j [
+        | inl q ↦ λ r. late x.number r.0 (a x i) (sym (ap (λ (z : Call). z.returned) q) ∙ r.1) r.2
+        | inr k ↦ c x y i k
+      ]);
+}
+  where
+    late : (number : ℕ) (r : Return) → (at < number → ⊥) → Some (record { at = at; reply = first.1 }) ≡ Some r
+        → r.at < number → ⊥
+    late number r l e m = l
+        (less at r.at number (ap (λ (z : Return). z.at) (same_Some (record { at = at; reply = first.1 }) r e)) m)
+      where
+        less : (a b c : ℕ) → a ≡ b → b < c → a < c
+        less a b c e m = omega arith
+
+-- ---- what becomes of a call
+
+call_from_other : (from at : ℕ) (first : Option (AnyOp × AnyReply)) (y : Call) → y.number ≢ from
+    → ended_before from y.returned ≡ false → call_from from at first y ≡ Some (call_later first at y)
+call_from_other from at first y n e = grind (arith, nat_tests)
+
+call_from_own : (from at : ℕ) (first : Option (AnyOp × AnyReply)) (y : Call) (p : AnyOp × AnyReply) → y.number ≡ from
+    → first ≡ Some p → call_from from at first y ≡ Some (returned_call from at p)
+call_from_own from at first y p n e = grind (arith, nat_tests)
+
+pub call_from_cases : (from at : ℕ) (first : Option (AnyOp × AnyReply)) (y x : Call)
+    → call_from from at first y ≡ Some x
+    → ((p : AnyOp × AnyReply) × (first ≡ Some p) × (x ≡ returned_call from at p))
+    ⊎ ((y.number ≢ from) × (x ≡ call_later first at y) × (ended_before from y.returned ≡ false))
+call_from_cases from at first y x e = grind (arith, nat_tests)
+
+not_ended : (from : ℕ) (o : Option Return) → ((r : Return) → o ≡ Some r → r.at < from → ⊥) → ended_before from o ≡ false
+not_ended from None h = refl
+not_ended from (Some r) h = let late = h r refl in grind (arith, nat_tests)
+
+front_cut : (from at : ℕ) (first : Option (AnyOp × AnyReply)) (y x : Call) → front_call from at first y ≡ Some x
+    → IsCutOf x y
+front_cut from at first y x e =
+    subst (λ (z : Call). IsCutOf z y) (front_facts from at first y x e).is_later (cut_of first at y)
+
+-- ---- the suffix of a valid order
+
+record Chosen (kind : Kind) (from at : ℕ) (first : Option (AnyOp × AnyReply)) (front es : List Call) : Type 0 where
+  flags : List Bool
+  entries : List Call
+  joined : Joined kind from at first front (pick flags es) entries
+  whole : (x : Call) → In x es → IsSome x.returned → In x (pick flags es)
+
+chosen : (kind : Kind) (key : Option ℤ) (from at : ℕ) (first : Option (AnyOp × AnyReply)) (front es : List Call)
+    (after : Content)
+    → ((x : Call) → In x es → key_of x.op ≡ key)
+    → ((x : Call) → In x front → (first ≢ None) × IsWrite x × (kind ≡ Register))
+    → ((p : AnyOp × AnyReply) → first ≡ Some p → kind ≡ Register → (v : ℤ) × (p ≡ (Write v, Value (Some v))))
+    → Begins (on_key key) kind first after
+    → RepliesAlong after es → Chosen kind from at first front es
+chosen kind key from at first front es after on writes reg begins h = go first refl begins
+  where
+    may : Replied (MayStep (is_free key) (on_key key) (λ n. true)) after es
+    may = all_step (is_free key) (on_key key) es after (λ e i. all_fit e.op key (reply_of e.returned) (on e i)) h
+
+    choice : (d : Content) → IsShadow (on_key key) after d → Choice (λ n. true) d es
+    choice d s = choose (IsShadow (on_key key)) (λ n. true) (MayStep (is_free key) (on_key key) (λ n. true))
+        (closed_simulates (is_free key) (on_key key) (λ n. true) (free_keeps key)) es after d s may
+
+    go : (f : Option (AnyOp × AnyReply)) → first ≡ f → Begins (on_key key) kind f after → Chosen kind from at f front es
+    go None e b = let m = choice (empty kind) b in
+        record {
+          flags = m.flags;
+          entries = pick m.flags es;
+          joined = joined_none kind from at front (pick m.flags es) (λ x i. (writes x i).0 e) m.replies;
+          whole = λ x i so. m.whole x i refl so;
+        }
+    go (Some p) e b = let m = choice b.0 b.2 in
+        record {
+          flags = m.flags;
+          entries = front ++ returned_call from at p ∷ pick m.flags es;
+          joined =
+              joined_some kind from at p b.0 front (pick m.flags es) b.1 (λ x i. let w = writes x i in (w.1, w.2))
+              (reg p e) m.replies;
+          whole = λ x i so. m.whole x i refl so;
+        }
+
+pub suffix_valid : (kind : Kind) (calls : List Call) (e : Call) (r : Return) (first : Option (AnyOp × AnyReply))
+    (order : List ℤ) → Contains calls e
+    → All (λ f. kind_of f.op ≡ kind) calls → e.returned ≡ Some r → leaves e.op r.reply ≡ Some first
+    → All (λ f. key_of f.op ≡ key_of e.op) calls
+    → IsValidOrder kind calls order → (part : List ℤ) × IsValidOrder kind (calls_from e.number r.at first calls) part
+suffix_valid kind calls e r first order stands kinds ret fr on v =
+    let number : Call → ℤ = λ x. pos x.number in
+    let from : ℕ = e.number in
+    let at : ℕ = r.at in
+    let in_calls_of = in_from_contains calls e stands in
+    let of_kind : (x : Call) → In x calls → kind_of x.op ≡ kind =
+    λ x i. all_at (λ f. kind_of f.op ≡ kind) calls kinds x i in
+    let s = in_split e v.entries (in_entries v e in_calls_of (ap is_some ret)) in
+    let earlier : List Call = s.0 in
+    let later : List Call = s.1 in
+    let b = replies_after earlier e later (empty kind) (subst (RepliesAlong (empty kind)) s.2 v.replies) in
+    let same = subst (λ (o : Option Return). IfSome o (λ r. r.reply ≡ b.reply)) ret b.agrees in
+    let told = subst (λ (o : Option (Content × AnyReply)). IfSome o
+    (λ p. IfSome (leaves e.op p.1) (λ f. Begins (on_key (key_of e.op)) (kind_of e.op) f p.0))) b.does
+    (tells b.before e.op) in
+    let begins = subst (λ k. Begins (on_key (key_of e.op)) k first b.after) (of_kind e in_calls_of)
+    (subst (λ (o : Option (Option (AnyOp × AnyReply))). IfSome o
+    (λ f. Begins (on_key (key_of e.op)) (kind_of e.op) f b.after)) (ap (leaves e.op) (sym same) ∙ fr) told) in
+    let cut : Call → Call = call_later first at in
+    let es : List Call = map cut later in
+    let front : List Call = filter_map (front_call from at first) earlier in
+    let in_later : (y : Call) → In y later → In y v.entries =
+    λ y i. subst (In y) (sym s.2) (in_right y earlier (e ∷ later) (inr i)) in
+    let in_earlier : (y : Call) → In y earlier → In y v.entries =
+    λ y i. subst (In y) (sym s.2) (in_left y earlier (e ∷ later) i) in
+    let m = chosen kind (key_of e.op) from at first front es b.after
+    (λ x i. let y = in_map cut x later i in
+    ap (λ (z : Call). key_of z.op) y.2 ∙ (cut_of first at y.0).key
+    ∙ all_at (λ f. key_of f.op ≡ key_of e.op) calls on y.0 (in_calls v y.0 (in_later y.0 y.1)))
+    (λ x i. let y = in_filter_map (front_call from at first) x earlier i in
+    let f = front_facts from at first y.0 x y.2 in
+    (f.began, (y.0.number, f.when, f.value, f.write), sym (of_kind y.0 (in_calls v y.0 (in_earlier y.0 y.1))) ∙ f.kind))
+    (λ p q k. first_write e.op r.reply p (fr ∙ ap (λ (z : Option (AnyOp × AnyReply)). Some z) q)
+    (of_kind e in_calls_of ∙ k))
+    begins (later_replies first at later b.after b.replies) in
+    let j = m.joined in
+    let picked : List Call = pick m.flags es in
+    let entries : List Call = m.entries in
+    let apart = pairs_at (λ x y. x.number ≢ y.number) earlier e later
+    (subst (Pairs (λ x y. x.number ≢ y.number)) s.2 (numbers_apart v)) in
+    let in_time = pairs_at (λ x y. ReturnsBefore y x → ⊥) earlier e later
+    (subst (Pairs (λ x y. ReturnsBefore y x → ⊥)) s.2 (in_time_order v)) in
+    let from_later : (x : Call) → In x picked → (y : Call) × In y later × IsCutOf x y × (x ≡ cut y) = λ x i. let y =
+    in_map cut x later (in_pick m.flags es x i) in
+    (y.0, y.1, subst (λ (z : Call). IsCutOf z y.0) (sym y.2) (cut_of first at y.0), y.2) in
+    let from_front : (x : Call) → In x front → (y : Call) × In y earlier × IsCutOf x y × IsFront from at first y x =
+    λ x i. let y =
+    in_filter_map (front_call from at first) x earlier i in
+    (y.0, y.1, front_cut from at first y.0 x y.2, front_facts from at first y.0 x y.2) in (
+      map number entries,
+      record {
+        entries = entries;
+        numbers = refl;
+        known = all_from_in (Contains (calls_from from at first calls)) entries
+            (λ x i. contains_from_in (calls_from from at first calls) x (elim (j.from_where x i) [
+              | inl q ↦ in_filter_map_from (call_from from at first) e x calls in_calls_of
+                  (call_from_own from at first e q.0 refl q.1 ∙ ap (λ (z : Call). Some z) (sym q.2))
+              | inr k ↦ elim k [
+                | inl w ↦
+                    let y = from_front x w in
+                    in_filter_map_from (call_from from at first) y.0 x calls (in_calls v y.0 (in_earlier y.0 y.1))
+                    (call_from_other from at first y.0 (apart.0 y.0 y.1) y.3.not_over
+                    ∙ ap (λ (z : Call). Some z) y.3.is_later)
+                | inr w ↦
+                    let y = from_later x w in
+                    in_filter_map_from (call_from from at first) y.0 x calls (in_calls v y.0 (in_later y.0 y.1))
+                    (call_from_other from at first y.0 (λ q. apart.1 y.0 y.1 (sym q))
+                    (not_ended from y.0.returned (λ t q l. in_time.1 y.0 y.1 (t, q, l)))
+                    ∙ ap (λ (z : Call). Some z) (sym y.3))
+              ]
+            ]));
+        once = all_from_pairs (λ x y. x ≢ y) (map number entries)
+            (pairs_map (λ x y. x ≢ y) number entries
+            (pairs_weaker (λ x y. x.number ≢ y.number) (λ x y. number x ≢ number y) entries
+            (λ x y i k ne q. ne (same_pos x.number y.number q))
+            (j.pairs
+            (λ x i q. let y = from_front x i in apart.0 y.0 y.1 (sym y.2.number ∙ q))
+            (λ x i q. let y = from_later x i in apart.1 y.0 y.1 (sym (sym y.2.number ∙ q)))
+            (λ x z i k q. let y = from_front x i in let w = from_later z k in
+            apart.4 y.0 w.0 y.1 w.1 (sym y.2.number ∙ q ∙ w.2.number))
+            (pairs_filter_map (λ x y. x.number ≢ y.number) (λ x y. x.number ≢ y.number)
+            (front_call from at first) earlier
+            (λ y w x z i k ne f g q.
+            ne (sym (front_cut from at first y x f).number ∙ q ∙ (front_cut from at first w z g).number)) apart.3)
+            (pairs_pick (λ x y. x.number ≢ y.number) m.flags es
+            (pairs_map (λ x y. x.number ≢ y.number) cut later
+            (pairs_weaker (λ x y. x.number ≢ y.number) (λ x y. (cut x).number ≢ (cut y).number) later
+            (λ x y i k ne q. ne (sym (cut_of first at x).number ∙ q ∙ (cut_of first at y).number)) apart.2))))));
+        whole = all_from_in (λ x. IsSome x.returned → Contains entries x) (calls_from from at first calls) (λ x i so.
+            let y = in_filter_map (call_from from at first) x calls i in
+            contains_from_in entries x (elim (call_from_cases from at first y.0 x y.2) [
+              | inl q ↦ subst (λ (z : Call). In z entries) (sym q.2) (j.own q.0 q.1)
+              | inr q ↦
+                  let l = late_facts from at first y.0 (subst (λ (z : Call). IsSome z.returned) q.1 so) in
+                  let there = subst (In y.0) s.2 (in_entries v y.0 y.1 (ap is_some l.was)) in
+                  elim (in_append y.0 earlier (e ∷ later) there) [
+                    | inl k ↦ elim l.either [
+                      | inl w ↦ absurd (in_time.0 y.0 k (r, ret, w))
+                      | inr f ↦ j.fronts x (subst (λ (z : Call). In z front) (sym q.1)
+                          (in_filter_map_from (front_call from at first) y.0 (cut y.0) earlier k (f q.2)))
+                    ]
+                    | inr k ↦ elim k [
+                      | inl w ↦ absurd (q.0 (ap (λ (z : Call). z.number) w))
+                      | inr w ↦ j.others x (m.whole x
+                          (subst (λ (z : Call). In z es) (sym q.1) (in_map_from cut y.0 later w)) so)
+                    ]
+                  ]
+            ]));
+        in_order = all_from_pairs (λ x y. ReturnsBefore y x → ⊥) entries (j.in_time
+            (λ x i l. let y = from_front x i in in_time.0 y.0 y.1 (r, ret, subst (λ n. at < n) y.2.number l))
+            (λ x t i q l. let y = from_later x i in let u = y.2.returned t q in
+            in_time.1 y.0 y.1 (u.0, u.1, subst (λ n. n < from) (sym u.2) l))
+            (λ x z i k. let y = from_front x i in let w = from_later z k in
+            in_time_cut x z y.0 w.0 y.2 w.2 (in_time.4 y.0 w.0 y.1 w.1))
+            (pairs_filter_map (λ x y. ReturnsBefore y x → ⊥) (λ x y. ReturnsBefore y x → ⊥)
+            (front_call from at first) earlier
+            (λ y w x z i k h f g. in_time_cut x z y w (front_cut from at first y x f)
+            (front_cut from at first w z g) h) in_time.3)
+            (pairs_pick (λ x y. ReturnsBefore y x → ⊥) m.flags es
+            (pairs_map (λ x y. ReturnsBefore y x → ⊥) cut later
+            (pairs_weaker (λ x y. ReturnsBefore y x → ⊥) (λ x y. ReturnsBefore (cut y) (cut x) → ⊥) later
+            (λ x y i k h. in_time_cut (cut x) (cut y) x y (cut_of first at x) (cut_of first at y) h) in_time.2))));
+        replies = j.replies;
+      },
+    )
+
+-- the same, by the number of the first call
+pub start_valid : (kind : Kind) (calls : List Call) (from at : ℕ) (first : Option (AnyOp × AnyReply)) (order : List ℤ)
+    → All (λ e. kind_of e.op ≡ kind) calls → IsStart calls from at first → IsValidOrder kind calls order
+    → (part : List ℤ) × IsValidOrder kind (calls_from from at first calls) part
+start_valid kind calls from at first order kinds s v =
+    let found = suffix_valid kind calls s.call
+    (record { at = at; reply = s.reply }) first order s.known kinds s.returned s.told s.one_key v in
+    (found.0, subst (λ (n : ℕ). IsValidOrder kind (calls_from n at first calls) found.0) s.number found.1)

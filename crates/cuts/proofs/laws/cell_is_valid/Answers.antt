@@ -1,0 +1,6 @@
+use Rattle.cuts.specs.declared.kinds.Place.TheVariants.{OfRegister}
+use Rattle.cuts.proofs.Places.{part_valid}
+use Rattle.cuts.proofs.laws.cell_is_valid.Goals as goal
+
+pub returns : goal.returns
+returns c = part_valid OfRegister

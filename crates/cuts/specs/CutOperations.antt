@@ -1,0 +1,221 @@
+-- What becomes of one operation of an object, failed ones too. The code works on these.
+use Rattle.std.specs.Prelude.{◌≡◌, ◌==◌, ◌⊎◌, ℕ, ℤ, nat_lt, min, Bool, true, false, not, ◌&&◌}
+use Rattle.std.specs.Prelude.{List, [], ◌∷◌, Contains, ◌-◌, ◌||◌, if◌then◌else◌}
+use Rattle.std.specs.Prelude.{Option, Some, None, option_map}
+use Rattle.std.specs.Option.{option_map_or}
+use Rattle.std.specs.List.{find, list_all}
+use Rattle.std.specs.Ordering.{int_eq}
+use Rattle.model.specs.declared.AnyOp.{AnyOp}
+use Rattle.model.specs.declared.AnyReply.{AnyReply}
+use Rattle.events.specs.declared.operations.End.{End}
+use Rattle.events.specs.declared.operations.End.TheVariants.{Returned, Pending, Failed}
+use Rattle.events.specs.declared.operations.Invocation.{Invocation}
+use Rattle.cuts.specs.declared.counting.Counted.{Counted}
+use Rattle.cuts.specs.Ahead.{found_in}
+use Rattle.cuts.specs.Kinds.Counting.{sets, takes}
+use Rattle.cuts.specs.declared.kinds.Place.{Place}
+use Rattle.cuts.specs.Cells.{done_at, opened_at}
+use Rattle.cuts.specs.Kinds.Register.{setting}
+use Rattle.cuts.specs.Parts.{takes_out, written_before}
+use Rattle.cuts.specs.Kinds.Keeping.{fits}
+use Rattle.cuts.specs.Kinds.Containers.{puts_in, is_removal, takes_first, takes_last}
+use Rattle.cuts.specs.Kinds.Starts.{key_of}
+
+abbrev pub has_failed : End → Bool
+has_failed (Returned at reply) = false
+has_failed Pending = false
+has_failed Failed = true
+
+-- ---- projection
+
+-- whether an operation may be kept, or left out; a failed one may be either
+abbrev pub fits_end : Bool → (ℤ → Bool) → Bool → AnyOp → End → Bool
+fits_end all keeps kept op (Returned at reply) = fits all keeps kept op (Some reply)
+fits_end all keeps kept op Pending = fits all keeps kept op None
+fits_end all keeps kept op Failed = true
+
+abbrev pub is_open_removal : AnyOp → End → Bool
+is_open_removal op (Returned at reply) = false
+is_open_removal op Pending = is_removal op
+is_open_removal op Failed = false
+
+-- the operation did not fail, and its number is kept
+abbrev pub is_kept_call : (ℕ → Bool) → Invocation → Bool
+is_kept_call kept o = not (has_failed o.«end») && kept o.number
+
+-- whether the first pending removals, this many, are kept
+abbrev pub keeps_first : (ℕ → Bool) → ℕ → List Invocation → Bool
+keeps_first kept most [] = true
+keeps_first kept most (o ∷ ops) =
+    if is_open_removal o.op o.«end»
+    then (most == 0 || kept o.number) && keeps_first kept (most - 1) ops
+    else keeps_first kept most ops
+
+-- whether an operation that did not fail puts in a kept value
+abbrev pub is_put : (ℤ → Bool) → AnyOp → End → Bool
+is_put keeps op (Returned at reply) = puts_in keeps op
+is_put keeps op Pending = puts_in keeps op
+is_put keeps op Failed = false
+
+-- whether an operation returned a kept value that it took out
+abbrev pub is_taken : (ℤ → Bool) → AnyOp → End → Bool
+is_taken keeps op (Returned at reply) = takes_out keeps op (Some reply)
+is_taken keeps op Pending = false
+is_taken keeps op Failed = false
+
+-- ---- a prefix
+
+abbrev pub end_before : ℕ → End → End
+end_before until (Returned at reply) = if nat_lt at until then Returned at reply else Pending
+end_before until Pending = Pending
+end_before until Failed = Failed
+
+abbrev pub operation_before : ℕ → Invocation → Option Invocation
+operation_before until o =
+    if has_failed o.«end» then None
+    else (if nat_lt o.number until
+    then Some (record { number = o.number; op = o.op; «end» = end_before until o.«end» })
+    else None)
+
+-- ---- a value that is absent
+
+-- whether an operation that did not fail puts in the value, and was invoked before this number
+abbrev pub is_put_before_end : ℤ → ℕ → ℕ → AnyOp → End → Bool
+is_put_before_end v before number op (Returned at reply) =
+    puts_in (int_eq v) op && nat_lt number before
+is_put_before_end v before number op Pending = puts_in (int_eq v) op && nat_lt number before
+is_put_before_end v before number op Failed = false
+
+-- whether an operation took out the value, and returned before this number
+abbrev pub is_taken_before_end : ℤ → ℕ → AnyOp → End → Bool
+is_taken_before_end v before op (Returned at reply) =
+    takes_out (int_eq v) op (Some reply) && nat_lt at before
+is_taken_before_end v before op Pending = false
+is_taken_before_end v before op Failed = false
+
+abbrev pub is_early : ℤ → ℕ → Invocation → Bool
+is_early v before o =
+    is_put_before_end v before o.number o.op o.«end» || is_taken_before_end v before o.op o.«end»
+
+-- the operation did not fail, and is not one of these
+abbrev pub is_late : ℤ → ℕ → Invocation → Bool
+is_late v before o = not (has_failed o.«end») && not (is_early v before o)
+
+-- ---- a suffix
+
+-- the operation failed, or it is on this key (`None`: it has no key)
+abbrev pub IsOnKey : Option ℤ → Invocation → Type 0
+IsOnKey key o = (has_failed o.«end» ≡ true) ⊎ (key_of o.op ≡ key)
+
+-- the operation returned before
+abbrev pub is_over : ℕ → End → Bool
+is_over from (Returned at reply) = nat_lt at from
+is_over from Pending = false
+is_over from Failed = false
+
+abbrev pub as_write : ℕ → ℕ → ℤ → Invocation
+as_write number at v =
+    record { number = number; op = (setting (Some v)).0; «end» = Returned at (setting (Some v)).1 }
+
+abbrev pub as_pending : ℕ → AnyOp → Invocation
+as_pending number op = record { number = number; op = op; «end» = Pending }
+
+-- an operation that overlaps the first one: if that left a value, a write or a swap that was not
+-- refused is a write, and any other is pending
+abbrev pub overlapping_operation : Option (AnyOp × AnyReply) → ℕ → AnyOp → End → Invocation
+overlapping_operation first number op (Returned at reply) =
+    option_map_or (as_write number at) (written_before first op reply) (as_pending number op)
+overlapping_operation first number op Pending = as_pending number op
+overlapping_operation first number op Failed = as_pending number op
+
+abbrev pub operation_later : Option (AnyOp × AnyReply) → ℕ → Invocation → Invocation
+operation_later first at o =
+    if nat_lt at o.number then o else overlapping_operation first o.number o.op o.«end»
+
+abbrev pub as_returned : ℕ → ℕ → AnyOp × AnyReply → Invocation
+as_returned from at first =
+    record { number = from; op = first.0; «end» = Returned at first.1 }
+
+abbrev pub operation_from : ℕ → ℕ → Option (AnyOp × AnyReply) → Invocation → Option Invocation
+operation_from from at first o =
+    if has_failed o.«end» then None
+    else (if o.number == from then option_map (as_returned from at) first
+    else (if is_over from o.«end» then None else Some (operation_later first at o)))
+
+-- ---- counts
+
+-- whether an operation that did not fail sets the content, and had not returned before this number
+abbrev pub is_set : Counted → ℕ → AnyOp → End → Bool
+is_set what from op (Returned at reply) = sets what op (Some reply) && not (nat_lt at from)
+is_set what from op Pending = sets what op None
+is_set what from op Failed = false
+
+-- whether an operation that was invoked at this number or later took the content away
+abbrev pub is_gone : Counted → ℕ → ℕ → AnyOp → End → Bool
+is_gone what from number op (Returned at reply) =
+    takes what op (Some reply) && not (nat_lt number from)
+is_gone what from number op Pending = false
+is_gone what from number op Failed = false
+
+-- ---- what was ahead of what a removal found
+
+abbrev pub found_end : AnyOp → End → Option (ℕ × Option ℤ)
+found_end op (Returned at reply) = if is_removal op then found_in at reply else None
+found_end op Pending = None
+found_end op Failed = None
+
+-- the number of the first operation that did not fail and puts in the value; 0: there is none
+abbrev pub first_put_end : ℤ → List Invocation → ℕ
+first_put_end v ops = option_map_or (λ (o : Invocation). o.number)
+    (find (λ o. is_put (int_eq v) o.op o.«end») ops) 0
+
+abbrev pub ahead_before_end : Option ℤ → AnyOp → ℕ → List Invocation → ℕ
+ahead_before_end None op number ops = number
+ahead_before_end (Some b) op number ops =
+    if takes_first op then min number (first_put_end b ops) else number
+
+abbrev pub is_put_ahead_end : (ℤ → Bool) → ℕ → ℕ → ℕ → AnyOp → End → Bool
+is_put_ahead_end keeps from before number op (Returned at reply) =
+    puts_in keeps op && (nat_lt at before && not (nat_lt number from))
+is_put_ahead_end keeps from before number op Pending = false
+is_put_ahead_end keeps from before number op Failed = false
+
+-- whether an operation failed, or puts in another value, or returned before this number
+abbrev pub is_settled_end : ℤ → ℕ → Invocation → Bool
+is_settled_end b from o = not (is_put (int_eq b) o.op o.«end») || is_over from o.«end»
+
+abbrev pub are_settled : Option ℤ → AnyOp → ℕ → List Invocation → Bool
+are_settled None op from ops = true
+are_settled (Some b) op from ops =
+    if takes_last op then list_all (is_settled_end b from) ops else true
+
+abbrev pub may_take_end : (ℤ → Bool) → AnyOp → End → Bool
+may_take_end keeps op (Returned at reply) = takes_out keeps op (Some reply)
+may_take_end keeps op Pending = is_removal op
+may_take_end keeps op Failed = false
+
+abbrev pub may_precede_end : (ℤ → Bool) → ℕ → ℕ → Invocation → Bool
+may_precede_end keeps number at o =
+    may_take_end keeps o.op o.«end» && not (o.number == number || nat_lt at o.number)
+
+-- the operation of this number is a removal that returned at `at`, and this is what it found
+pub record IsRemoval (ops : List Invocation) (number : ℕ) (op : AnyOp) (at : ℕ)
+    (found : Option ℤ) : Type 0 where
+  pub operation : Invocation
+  pub known : Contains ops operation
+  pub named : operation.number ≡ number
+  pub same : operation.op ≡ op
+  pub told : found_end op operation.«end» ≡ Some (at, found)
+
+-- ---- cells
+
+abbrev pub recast_end : (AnyOp → AnyReply → Option (AnyOp × AnyReply)) → (AnyOp → Option AnyOp)
+    → ℕ → AnyOp → End → Option Invocation
+recast_end done pending number op (Returned at reply) =
+    option_map (as_returned number at) (done op reply)
+recast_end done pending number op Pending = option_map (as_pending number) (pending op)
+recast_end done pending number op Failed = None
+
+abbrev pub operation_at : Place → (ℤ → Bool) → ℤ → (ℕ → Bool) → Invocation → Option Invocation
+operation_at place keeps other kept o = recast_end (done_at place keeps other (kept o.number))
+    (opened_at place keeps other) o.number o.op o.«end»

@@ -1,0 +1,14 @@
+pub mod Parts
+pub mod Recasts
+pub mod Kinds
+pub mod Touches
+pub mod Cells
+pub mod Absent
+pub mod Cuts
+pub mod Listed
+pub mod Counts
+pub mod Ahead
+pub mod CutOperations
+pub use Rattle.model.specs.Objects
+pub use Rattle.model.specs.Orders
+pub use Rattle.events.specs.Operations

@@ -1,5 +1,0 @@
-use Rattle.projection.proofs.Listed.{listed_valid}
-use Rattle.projection.proofs.laws.listed_is_valid.Goals as goal
-
-pub returns : goal.returns
-returns c = listed_valid

@@ -1,5 +1,0 @@
-use Rattle.projection.proofs.Named.{one_part_named}
-use Rattle.projection.proofs.laws.one_part.Goals as goal
-
-pub returns : goal.returns
-returns c = one_part_named

@@ -1,5 +1,0 @@
-use Rattle.projection.proofs.Suffixes.{start_valid}
-use Rattle.projection.proofs.laws.suffix_is_valid.Goals as goal
-
-pub returns : goal.returns
-returns c = start_valid
