@@ -56,7 +56,7 @@ alike_more i one other one' other' so_far m x low = dite (ℕ_discrete x i)
     ∙ sym (ap (λ z. seen_of z x) m.second ∙ get_or-set_other other.knows.seen i x m.log [] differ)))
 
 -- what a log has of a client's calls depends on these alone
-pub same_account : (x : ℕ) (v w : DeskView) (log : List AnyEntry) → KeepsCalls v w → IsAccount x v log
+same_account : (x : ℕ) (v w : DeskView) (log : List AnyEntry) → KeepsCalls v w → IsAccount x v log
     → IsAccount x w log
 same_account x v w log k =
     subst (λ (t : ℕ × Own × List AnyDone). (now : List AnyEntry) × (entries_of_client t.0 log ≡ served x t.0 t.2 ++ now)
@@ -66,7 +66,7 @@ pub same_journal : (v w : DeskView) → KeepsCalls v w → journal w ≡ journal
 same_journal v w k = λ i. journal_of (k.done i) (own_request (k.own i))
 
 -- who was met stays met
-pub still_met : (w : Work) (v u : DeskView) (c : ℕ) → Keeps v u → HasMetClient w v c → HasMetClient w u c
+still_met : (w : Work) (v u : DeskView) (c : ℕ) → Keeps v u → HasMetClient w v c → HasMetClient w u c
 still_met w v u c k m = record {
   other = m.other;
   number = m.number;

@@ -24,7 +24,7 @@ use Rattle.combiner.specs.Passes.{KeepsCalls, Goes, IsTried, IsSettled, IsSettle
 -- ---- what stays of a client's calls
 
 -- what stays where the own calls of w are written from those of v
-pub keeps_same : (v w u : DeskView) → w ≡ u → KeepsCalls v u → KeepsCalls v w
+keeps_same : (v w u : DeskView) → w ≡ u → KeepsCalls v u → KeepsCalls v w
 keeps_same v w u e k = subst (KeepsCalls v) (sym e) k
 
 pub keeps_on : (v w u : DeskView) → KeepsCalls v w → KeepsCalls w u → KeepsCalls v u
@@ -40,7 +40,7 @@ keeps_all : (v : DeskView) → KeepsCalls v v
 keeps_all v = record { number = refl; kinds = refl; own = refl; done = refl; seen = λ x. starts_same (seen_of v x) }
 
 -- what is held, put back, missed, and known of the own row does not matter
-pub keeps_held : (v : DeskView) {h : Held} {back : List PutBack} {missed : List ℕ} {ready : Bool} {won : ℕ}
+keeps_held : (v : DeskView) {h : Held} {back : List PutBack} {missed : List ℕ} {ready : Bool} {won : ℕ}
     → KeepsCalls v (record v { held = h; back = back; missed = missed; ready = ready; won = won })
 keeps_held v = record { number = refl; kinds = refl; own = refl; done = refl; seen = λ x. starts_same (seen_of v x) }
 

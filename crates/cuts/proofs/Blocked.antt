@@ -161,7 +161,7 @@ same_removal ops number op op' at at' found found' rising t u =
 -- ---- the test decides
 
 -- a test that compares the two counts decides
-pub ahead_decided : (h : ObjectCalls) (number from : ℕ) (op : AnyOp) (at : ℕ) (found : Option ℤ)
+ahead_decided : (h : ObjectCalls) (number from : ℕ) (op : AnyOp) (at : ℕ) (found : Option ℤ)
     (ahead takes : ℕ) → IsObjectHistory h → IsRemoval h.ops number op at found
     → ahead ≡ count_by
     (λ o. is_put_ahead_end (is_value_ahead found op) from (ahead_before_end found op number h.ops) o.number

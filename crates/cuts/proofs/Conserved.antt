@@ -79,7 +79,7 @@ abbrev Balanced : (ℤ → Bool) → AnyOp → Content → Content → AnyReply 
 Balanced keeps op c after reply =
     kept_size keeps after + one (takes_out keeps op (Some reply)) ≡ kept_size keeps c + one (puts_in keeps op)
 
-pub balanced : (keeps : ℤ → Bool) (c : Content) (op : AnyOp) → IfSome (next c op) (λ p. Balanced keeps op c p.0 p.1)
+balanced : (keeps : ℤ → Bool) (c : Content) (op : AnyOp) → IfSome (next c op) (λ p. Balanced keeps op c p.0 p.1)
 balanced keeps c op = grind (arith, size_after, size_cons, size_with_value)
 
 -- ---- along calls

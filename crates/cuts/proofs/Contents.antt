@@ -32,7 +32,7 @@ use Rattle.cuts.proofs.Booleans.{false_is_not_true, true_or_false}
 use Rattle.model.proofs.Bags.{with_value-more, with_value-front}
 
 -- what a register contains in the part: the same as in the whole, or anything if the part leaves out that value
-abbrev pub IsCellShadow : (ℤ → Bool) → Option ℤ → Option ℤ → Type 0
+abbrev IsCellShadow : (ℤ → Bool) → Option ℤ → Option ℤ → Type 0
 IsCellShadow keeps None y = y ≡ None
 IsCellShadow keeps (Some v) y = keeps v ≡ true → y ≡ Some v
 
@@ -224,7 +224,7 @@ heap_step all keeps vs op r kept b = tt
 same_cell : (keeps : ℤ → Bool) → ((v : ℤ) → keeps v ≡ true) → (x y : Option ℤ) → IsCellShadow keeps x y → y ≡ x
 same_cell keeps every x y s = grind arith
 
-pub same_expected : (keeps : ℤ → Bool) (a : ℤ) (x y : Option ℤ) → contains_value x a ≡ true → keeps a ≡ true
+same_expected : (keeps : ℤ → Bool) (a : ℤ) (x y : Option ℤ) → contains_value x a ≡ true → keeps a ≡ true
     → IsCellShadow keeps x y → y ≡ x
 same_expected keeps a x y h k s = grind (arith, ints)
 

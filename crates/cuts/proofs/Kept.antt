@@ -47,7 +47,7 @@ own_is p o q e = subst (IsCutOperation o) (same (p o) e)
     same b e = grind arith
 
 -- an operation that is kept only where it did not fail
-pub own_lives : (p : Invocation → Bool) (o q : Invocation) → own (λ z. not (has_failed z.«end») && p z) o ≡ Some q
+own_lives : (p : Invocation → Bool) (o q : Invocation) → own (λ z. not (has_failed z.«end») && p z) o ≡ Some q
     → q.«end» ≢ Failed
 own_lives p o q e = grind (arith, did_not_fail)
 
@@ -138,7 +138,7 @@ one_missing kept most left i ops d lt e o less n =
     grind (arith, nat_tests)
 
 -- a pending removal that the part leaves out comes after this many
-pub first_kept : (kept : ℕ → Bool) (most : ℕ) (ops : List Invocation) → Pairs (λ a b. a.number < b.number) ops
+first_kept : (kept : ℕ → Bool) (most : ℕ) (ops : List Invocation) → Pairs (λ a b. a.number < b.number) ops
     → keeps_first kept most ops ≡ true
     → (x : Invocation) → In x ops → is_open x ≡ true → kept x.number ≡ false → most ≤ open_before x.number ops
 first_kept kept most [] h k x i o n = absurd i
@@ -161,7 +161,7 @@ first_kept kept most (y ∷ ops) h k x i o n = go (λ m e j. first_kept kept m o
         let m = open_more y x ops false q (h.0 x j) in
         omega arith
 
-pub kept_first : (kept : ℕ → Bool) (most : ℕ) (ops : List Invocation) → Pairs (λ a b. a.number < b.number) ops
+kept_first : (kept : ℕ → Bool) (most : ℕ) (ops : List Invocation) → Pairs (λ a b. a.number < b.number) ops
     → ((x : Invocation) → In x ops → is_open x ≡ true → kept x.number ≡ false → most ≤ open_before x.number ops)
     → keeps_first kept most ops ≡ true
 kept_first kept most [] h f = refl

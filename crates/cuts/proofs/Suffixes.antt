@@ -177,7 +177,7 @@ chosen kind key from at first front es after on writes reg begins h = go first r
           whole = λ x i so. m.whole x i refl so;
         }
 
-pub suffix_valid : (kind : Kind) (calls : List Call) (e : Call) (r : Return) (first : Option (AnyOp × AnyReply))
+suffix_valid : (kind : Kind) (calls : List Call) (e : Call) (r : Return) (first : Option (AnyOp × AnyReply))
     (order : List ℤ) → Contains calls e
     → All (λ f. kind_of f.op ≡ kind) calls → e.returned ≡ Some r → leaves e.op r.reply ≡ Some first
     → All (λ f. key_of f.op ≡ key_of e.op) calls

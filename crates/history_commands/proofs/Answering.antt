@@ -26,7 +26,7 @@ use Rattle.history_commands.proofs.AllFound.{each_found, found_text, no_of, yes_
 
 -- ---- one impossible
 
-pub one_impossible : (answers : List (ℕ × Search)) → list_any (λ a. finds_impossible a.1.found) answers ≡ true
+one_impossible : (answers : List (ℕ × Search)) → list_any (λ a. finds_impossible a.1.found) answers ≡ true
     → Any (λ a. a.1.found ≡ Impossible) answers
 one_impossible [] e = absurd cc
 one_impossible (a ∷ rest) e = go a.1.found refl e (one_impossible rest)

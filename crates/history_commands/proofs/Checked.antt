@@ -13,7 +13,7 @@ use Rattle.history_commands.specs.declared.status.Status.TheVariants as status_i
 refusal_is_no_yes : (r : Refusal) → status_of (No r) ≢ status_is.Yes
 refusal_is_no_yes r e = grind arith
 
-pub yes_shows : (P : Type 0) (v : Verdict) → OnYes v P → status_of v ≡ status_is.Yes → P
+yes_shows : (P : Type 0) (v : Verdict) → OnYes v P → status_of v ≡ status_is.Yes → P
 yes_shows P (Yes s) p e = p
 yes_shows P (No r) p e = absurd (refusal_is_no_yes r e)
 yes_shows P v p e = absurd cc

@@ -34,7 +34,7 @@ one_named e later c h (Returned r) q failed j = later_named e later c.object (h 
 one_named e later c h Fail q failed j = later_named e later c.object (h j)
 one_named e later c h Info q failed j = later_named e later c.object (h j)
 
-pub call_named : (es : List Event) (c : ProcessCall) → In c (calls_in (denoted es)) → IsNamed es c.object
+call_named : (es : List Event) (c : ProcessCall) → In c (calls_in (denoted es)) → IsNamed es c.object
 call_named [] c i = absurd i
 call_named (e ∷ later) c i = one_named e later c (call_named later c) e.action refl
     (fails (next_event e.process later)) i

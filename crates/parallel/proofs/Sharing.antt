@@ -86,7 +86,7 @@ at_next worker workers os certificates place some h here = record {
     one_more t = grind arith
 
 -- each place is that of a worker
-pub its_worker : (count k : ℕ) → 0 < count → (k % count < count) × FallsTo (k % count) count k
+its_worker : (count k : ℕ) → 0 < count → (k % count < count) × FallsTo (k % count) count k
 its_worker count k some = (mod-lt k some, (k / count, sym (mod-add-div' k count)))
 
 place_below : {X : Type 0} (xs : List X) (n : ℕ) (x d : X) → In x (take n xs)
@@ -99,7 +99,7 @@ place_below (y ∷ xs) (suc n) x d i = elim i [
 ]
 
 -- the objects below a place are fine, where each worker's are
-pub fine_below : (es : List Event) (certificates : List Certificate) (os : List ObjectCalls) (n : ℕ) → AreObjects es os
+fine_below : (es : List Event) (certificates : List Certificate) (os : List ObjectCalls) (n : ℕ) → AreObjects es os
     → ((k : ℕ) → k < n → k < length os → IsFineAt os certificates k) → AreFine es certificates (take n os)
 fine_below es certificates os n objects fine o i =
     let p = place_below os n o o i in

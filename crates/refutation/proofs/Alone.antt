@@ -375,7 +375,7 @@ calls_apart h a b hist i j l = (l, λ r q. (other r q, both r q))
           ]
         ]
 
-pub history_apart : (x : ℕ) (h : List Numbered) → IsHistory h → AreApart (calls_on x h)
+history_apart : (x : ℕ) (h : List Numbered) → IsHistory h → AreApart (calls_on x h)
 history_apart x h hist = record {
   pairs = pairs_map Apart (λ (e : ProcessCall). e.call) (filter (λ e. e.object == x) (calls_in h))
       (pairs_filter (λ (a b : ProcessCall). Apart a.call b.call) (λ e. e.object == x) (calls_in h)
@@ -451,7 +451,7 @@ listed_apart x h part hist = timed_apart (calls_on x h) (listed part (calls_on x
     (history_apart x h hist)
 
 -- what the law on listed operations asks of the calls of a history
-pub record AreOfHistory (calls : List Call) : Type 0 where
+record AreOfHistory (calls : List Call) : Type 0 where
   pub rising : AllPairs (λ a b. a.number < b.number) calls
   pub ends : All (λ e. (r : Return) → e.returned ≡ Some r → e.number < r.at) calls
 

@@ -15,7 +15,7 @@ equal_kinds : (k l : Kind) → eq-value.it k l ≡ same_kind k l
 equal_kinds k l = search rules
 
 -- a kind that is not there goes last
-pub goes_last : (es : List (Kind × KindCount)) (k : Kind) (c : KindCount) → list_any (same_kind k) (keys_of es)
+goes_last : (es : List (Kind × KindCount)) (k : Kind) (c : KindCount) → list_any (same_kind k) (keys_of es)
     ≡ false → insert_entry eq-value.it es k c ≡ es ++ (k, c) ∷ []
 goes_last [] k c h = refl
 goes_last (e ∷ es) k c h =

@@ -25,12 +25,12 @@ use Rattle.report.specs.declared.counting.Invoked.{Invoked}
 
 -- ---- one element more
 
-pub first_seen-push : {X : Type 0} (same : X → X → Bool) (xs : List X) (y : X) → first_seen same (xs ++ y ∷ [])
+first_seen-push : {X : Type 0} (same : X → X → Bool) (xs : List X) (y : X) → first_seen same (xs ++ y ∷ [])
     ≡ with_new same (first_seen same xs) y
 first_seen-push same xs y = fold-append (with_new same) [] xs (y ∷ [])
 
 -- one invocation more, among those of a kind
-pub named_push : (k : Option Kind) (xs : List Invoked) (e : Invoked) → object_numbers k (xs ++ e ∷ [])
+named_push : (k : Option Kind) (xs : List Invoked) (e : Invoked) → object_numbers k (xs ++ e ∷ [])
     ≡ cond (is_of k e) (with_new nat_eq (object_numbers k xs) e.object) (object_numbers k xs)
 named_push k xs e = ap (λ is. first_seen nat_eq (map (λ (i : Invoked). i.object) is))
     (filter-append (is_of k) xs (e ∷ [])) ∙ go (is_of k e)
@@ -114,7 +114,7 @@ kinds_on all i d old new lt h step =
 
 -- ---- what is counted is what the history has
 
-abbrev pub of_invoked : Invoked → Use
+abbrev of_invoked : Invoked → Use
 of_invoked i = record { object = i.object; kind = i.kind }
 
 uses_step : (x : ℕ) (a : Action) (failed : Bool) (us : List Use) (later : List Invoked) → us ≡ map of_invoked later
@@ -122,7 +122,7 @@ uses_step : (x : ℕ) (a : Action) (failed : Bool) (us : List Use) (later : List
 uses_step x (Invoke op) failed us later h = ap (λ vs. record { object = x; kind = kind_of op } ∷ vs) h
 uses_step x a failed us later h = h
 
-pub uses_are : (es : List Event) → uses es ≡ map of_invoked (invocations es)
+uses_are : (es : List Event) → uses es ≡ map of_invoked (invocations es)
 uses_are [] = refl
 uses_are (e ∷ es) = uses_step e.object e.action (fails (next_event e.process es)) (uses es) (invocations es)
     (uses_are es)
@@ -136,7 +136,7 @@ filter-map : {X Y : Type 0} (f : X → Y) (p : Y → Bool) (xs : List X) → fil
 filter-map f p [] = refl
 filter-map f p (x ∷ xs) = grind (arith, filter-map f p xs)
 
-pub filter-everything : {X : Type 0} (xs : List X) → filter (λ x. true) xs ≡ xs
+filter-everything : {X : Type 0} (xs : List X) → filter (λ x. true) xs ≡ xs
 filter-everything [] = refl
 filter-everything (x ∷ xs) = ap (λ ys. x ∷ ys) (filter-everything xs)
 
@@ -151,7 +151,7 @@ objects_are es =
     ∙ ap (first_seen nat_eq) (sym (map-map of_invoked (λ (u : Use). u.object) (invocations es))
     ∙ ap (map (λ (u : Use). u.object)) (sym (uses_are es)))
 
-pub objects_of_are : (k : Kind) (es : List Event) → object_numbers (Some k) (invocations es) ≡ objects_of k es
+objects_of_are : (k : Kind) (es : List Event) → object_numbers (Some k) (invocations es) ≡ objects_of k es
 objects_of_are k es =
     ap (first_seen nat_eq) (sym (map-map of_invoked (λ (u : Use). u.object) (filter (is_of (Some k)) (invocations es)))
     ∙ ap (map (λ (u : Use). u.object)) (sym (filter-map of_invoked (λ (u : Use). same_kind k u.kind)
@@ -160,7 +160,7 @@ objects_of_are k es =
 -- ---- operations
 
 -- a call of this kind, or any
-abbrev pub is_call_of : Option Kind → ProcessCall → Bool
+abbrev is_call_of : Option Kind → ProcessCall → Bool
 is_call_of None c = true
 is_call_of (Some k) c = same_kind k (kind_of c.call.op)
 
@@ -187,7 +187,7 @@ count_is k (e ∷ es) = count_step k e.number e.process e.object e.action (fails
 pub operations_are : (es : List Event) → operation_count None (invocations es) ≡ length (operations_in es)
 operations_are es = count_is None es ∙ ap length (filter-everything (calls_in (denoted es)))
 
-pub operations_of_are : (k : Kind) (es : List Event) → operation_count (Some k) (invocations es)
+operations_of_are : (k : Kind) (es : List Event) → operation_count (Some k) (invocations es)
     ≡ length (operations_of_kind k es)
 operations_of_are k es = count_is (Some k) es
 

@@ -38,7 +38,7 @@ calls-filter (o ∷ ops) = go o.«end» (calls-filter ops)
     go (Returned at r) h = rw h
     go e h = rw h
 
-pub length-calls : (ops : List Invocation) → length (filter happens ops) ≡ length (calls_of ops)
+length-calls : (ops : List Invocation) → length (filter happens ops) ≡ length (calls_of ops)
 length-calls ops = sym (ap length (calls-filter ops) ∙ length-map (filter happens ops) as_call)
 
 pub count-calls : (ops : List Invocation) → count_by happens ops ≡ length (calls_of ops)

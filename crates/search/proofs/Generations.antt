@@ -20,7 +20,7 @@ pub none_dead : (t : Trials) (pairs : List Pair) → pairs ≡ [] → AreDead t 
 none_dead t [] e = λ k d l. absurd (omega arith)
 none_dead t (p ∷ pairs) e = absurd (cc e)
 
-pub kept_dead : (t : Trials) (before kept : Dead) → AreAllDead t before → AreDeadKept before kept → AreAllDead t kept
+kept_dead : (t : Trials) (before kept : Dead) → AreAllDead t before → AreDeadKept before kept → AreAllDead t kept
 kept_dead t before kept all is_kept = elim is_kept [
   | inl e ↦ rw e all
   | inr o ↦ record {
@@ -29,7 +29,7 @@ kept_dead t before kept all is_kept = elim is_kept [
   }
 ]
 
-pub remembered_dead : (t : Trials) (before : Dead) (pair : Pair) (after : Dead) → AreAllDead t before
+remembered_dead : (t : Trials) (before : Dead) (pair : Pair) (after : Dead) → AreAllDead t before
     → IsDeadPair (length t.items.items) (call_at t.items.items) pair.high pair.not_done.items
     (content_kept pair.content)
     → IsRemembered before pair after → AreAllDead t after

@@ -9,7 +9,7 @@ use Rattle.model.specs.Lists.{In}
 use Rattle.search.specs.Arranged.{owes, count_below}
 use Rattle.search.specs.Continuations.{IsLeft, NoneReturned}
 
-pub count_zero : (f : ℕ → Bool) (n k : ℕ) → count_below f n ≡ 0 → k < n → f k ≡ false
+count_zero : (f : ℕ → Bool) (n k : ℕ) → count_below f n ≡ 0 → k < n → f k ≡ false
 count_zero f zero k e l = absurd (omega arith)
 count_zero f (suc n) k e l = go (f n) refl e (cases_eq k n) (count_zero f n k)
   where
@@ -73,7 +73,7 @@ owes_left n call done k l e = go (call k).returned (list_any (λ j. j == k) done
     go (Some r) true q p h = absurd (cc h)
     go (Some r) false q p h = ((l, λ i. let t = in_any k done i in absurd (cc (t, p))), (r, q))
 
-pub left_owes : (n : ℕ) (call : ℕ → Call) (done : List ℕ) (k : ℕ) (r : Return) → IsLeft n done k
+left_owes : (n : ℕ) (call : ℕ → Call) (done : List ℕ) (k : ℕ) (r : Return) → IsLeft n done k
     → (call k).returned ≡ Some r → owes call done k ≡ true
 left_owes n call done k r l e = go (call k).returned (list_any (λ j. j == k) done) e refl
   where

@@ -30,7 +30,7 @@ pub record IsLeastBelow (n : ℕ) (call : ℕ → Call) (done : List ℕ) (at le
       ⊎ ((j : ℕ) × (r : Return) × IsLeft n done j × ((call j).returned ≡ Some r) × (least ≡ r.at))
 
 -- the levels link the places that are left, and bound those that are not
-pub stack_holds : (n : ℕ) (call : ℕ → Call) (start : Content) (ls : List Level) (bs : List Content) (here : Position)
+stack_holds : (n : ℕ) (call : ℕ → Call) (start : Content) (ls : List Level) (bs : List Content) (here : Position)
     → Stack n call start ls bs here → Linked n (places ls) here.next here.back × IsBound (places ls) here.high
 stack_holds n call start [] [] here s = (s.1, λ k i. absurd i)
 stack_holds n call start (l ∷ ls) (b ∷ bs) here s = (s.1, s.2)

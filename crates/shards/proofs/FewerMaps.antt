@@ -141,7 +141,7 @@ closed_all has earlier p c = record {
   unknown = c.unknown;
 }
 
-pub fine_on : (has : ℕ → Bool) (earlier : List ClientMap) (m : ClientMap) → IsOutstandingAmongAll has earlier
+fine_on : (has : ℕ → Bool) (earlier : List ClientMap) (m : ClientMap) → IsOutstandingAmongAll has earlier
     → IsFine earlier m → has m.object ≡ true → IsFine (on has earlier) m
 fine_on has earlier m among fine kept = go
   where

@@ -18,7 +18,7 @@ use Rattle.shards.proofs.WaitingLines.{at_written, at_others, at_read}
 
 -- ---- files
 
-pub adds_nothing : (files : Option Files) → AddsFiles files files no_lines
+adds_nothing : (files : Option Files) → AddsFiles files files no_lines
 adds_nothing None = tt
 adds_nothing (Some f) = λ s. (sym (append-nil (f.texts s)), sym (append-nil (f.tables s)))
 
@@ -47,7 +47,7 @@ lines_stay : (a gone waited left : List ℕ) (b : Bool) → b ≡ false → left
 lines_stay a gone waited left b q new =
     ap (λ c. (a ++ cond c gone []) ++ left) q ∙ (ap (λ t. t ++ left) (append-nil a) ∙ ap (λ t. a ++ t) new)
 
-pub taken_flushed : (count : ℕ) (old new : Divider) (maps : List SpelledMap) (written : Files)
+taken_flushed : (count : ℕ) (old new : Divider) (maps : List SpelledMap) (written : Files)
     (files files_after : Option Files) (i : ℕ) (w v : Waiting) → i < length old.waiting.items
     → w ≡ get_or old.waiting.items i w → new.waiting.items ≡ set old.waiting.items i v → new.shards ≡ old.shards
     → new.reader ≡ old.reader → new.tally ≡ old.tally → (f : Flushes i w v files files_after)

@@ -14,7 +14,7 @@ use Rattle.shards.specs.Tables.{AreShort, FitsTable}
 
 -- ---- events
 
-pub said_same : (ns : List ℕ) (es : List Event) → map said (with_numbers ns es) ≡ map said es
+said_same : (ns : List ℕ) (es : List Event) → map said (with_numbers ns es) ≡ map said es
 said_same ns [] = refl
 said_same ns (e ∷ es) = ap (λ xs. said e ∷ xs) (said_same ns es)
 

@@ -79,7 +79,7 @@ stays count d e p q text written same stay h = record {
 }
 
 -- more of the text was read
-pub reads_on : (count : ℕ) (d : Divider) (p q : Pieces) (text : List ℕ) (written : Files)
+reads_on : (count : ℕ) (d : Divider) (p q : Pieces) (text : List ℕ) (written : Files)
     (left left_after : Option (List ℕ)) (r : ReadsOn p q left left_after) → AreUnderWay count d p text written
     → AreUnderWay count d q (text ++ r.more) written
 reads_on count d p q text written left left_after r h = record {

@@ -62,7 +62,7 @@ proper_renumbered es others proper renumbered =
 -- ---- what it denotes
 
 -- each object has the same kind
-pub kinds_same : (x : ℕ) (es fs : List Event) → AreSame es fs → kind_of_object es x ≡ kind_of_object fs x
+kinds_same : (x : ℕ) (es fs : List Event) → AreSame es fs → kind_of_object es x ≡ kind_of_object fs x
 kinds_same x [] [] same = refl
 kinds_same x (e ∷ es) (f ∷ fs) same =
     ap (λ k. cond (e.object == x) (kind_by e.action k) k) (kinds_same x es fs same.1)
@@ -92,7 +92,7 @@ first_of_history : (e : Event) (es : List Event) → events (denoted (e ∷ es))
 first_of_history e es = map-append (λ (m : Numbered). m.event)
     (denoted_by e.number e.process e.object e.action (fails (next_event e.process es))) (denoted es)
 
-pub history_same : (es fs : List Event) → AreSame es fs → events (denoted es) ≡ events (denoted fs)
+history_same : (es fs : List Event) → AreSame es fs → events (denoted es) ≡ events (denoted fs)
 history_same [] [] same = refl
 history_same [] (f ∷ fs) same = absurd same
 history_same (e ∷ es) [] same = absurd same

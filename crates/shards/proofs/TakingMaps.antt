@@ -39,7 +39,7 @@ use Rattle.shards.proofs.LinesMore.{lines_push, table_push, filter_kept, filter_
 use Rattle.shards.proofs.EventsOfMaps.{on_object, on_none}
 use Rattle.shards.proofs.LargeObjects.{tally_same}
 
-pub forms_push : (maps : List SpelledMap) (m : SpelledMap) → forms_of (maps ++ m ∷ []) ≡ forms_of maps ++ m.form ∷ []
+forms_push : (maps : List SpelledMap) (m : SpelledMap) → forms_of (maps ++ m ∷ []) ≡ forms_of maps ++ m.form ∷ []
 forms_push maps m = map-append (λ (x : SpelledMap). x.form) maps (m ∷ [])
 
 -- ---- one map more, in its shard and in another one
@@ -252,7 +252,7 @@ at_all (m ∷ ms) (d ∷ ds) zero z x h l = h.0
 at_all (m ∷ ms) (d ∷ ds) (suc i) z x h l = at_all ms ds i z x h.1 (omega arith)
 
 -- the next map of a piece
-pub record IsNextMap (ms : List MapText) (ds : List Datum) (i : ℕ) (m : MapText) : Type 0 where
+record IsNextMap (ms : List MapText) (ds : List Datum) (i : ℕ) (m : MapText) : Type 0 where
   pub form : Datum
   pub is : IsMapText m form
   pub more : take (i + 1) ds ≡ take i ds ++ form ∷ []

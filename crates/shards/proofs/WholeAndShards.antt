@@ -23,7 +23,7 @@ use Rattle.shards.proofs.RenamedObjects.{renamed_linearizable, linearizable_rena
 use Rattle.shards.proofs.Renumbered.{same_from, proper_renumbered, linearizable_same}
 
 -- an object has the same calls among the events on objects with it
-pub calls_kept : (has : ℕ → Bool) (x : ℕ) (es : List Event) → has x ≡ true → IsProper es
+calls_kept : (has : ℕ → Bool) (x : ℕ) (es : List Event) → has x ≡ true → IsProper es
     → calls_on x (denoted (events_on has es)) ≡ calls_on x (denoted es)
 calls_kept has x es own proper =
     sym (proper_calls (events_on has es) (proper_on has es proper) x)
@@ -31,7 +31,7 @@ calls_kept has x es own proper =
     ∙ proper_calls es proper x)
 
 -- and the same kind
-pub kind_kept : (has : ℕ → Bool) (x : ℕ) (es : List Event) → has x ≡ true → kind_of_object (events_on has es) x
+kind_kept : (has : ℕ → Bool) (x : ℕ) (es : List Event) → has x ≡ true → kind_of_object (events_on has es) x
     ≡ kind_of_object es x
 kind_kept has x [] own = refl
 kind_kept has x (e ∷ es) own = go (has e.object) refl (kind_kept has x es own)

@@ -16,7 +16,7 @@ use Rattle.simulation.specs.declared.fault.ScheduleFaultKind.{ScheduleFaultKind}
 use Rattle.simulation.specs.declared.fault.ScheduleFaultKind.TheVariants.{NoHeader, NotAStep, NoMemory}
 
 -- one step more
-pub step_more : (fs : List Form) (i : ℕ) (f : Form) (old new : List (ℕ × AnyStep)) (s : ℕ × AnyStep) → i < length fs
+step_more : (fs : List Form) (i : ℕ) (f : Form) (old new : List (ℕ × AnyStep)) (s : ℕ × AnyStep) → i < length fs
     → f ≡ get_or fs i f
     → map step_of (views (take i fs)) ≡ map (λ s. Some s) old → Some s ≡ step_of (view f) → new ≡ old ++ s ∷ []
     → map step_of (views (take (i + 1) fs)) ≡ map (λ s. Some s) new
@@ -70,7 +70,7 @@ no_step fs i f steps low is so_far none = record {
 }
 
 -- forms of which one is no step are no steps
-pub no_steps : (ds : List Datum) (n : ℕ) → IsNoStepAt ds n → (steps : List (ℕ × AnyStep))
+no_steps : (ds : List Datum) (n : ℕ) → IsNoStepAt ds n → (steps : List (ℕ × AnyStep))
     → map step_of ds ≡ map (λ s. Some s) steps → ⊥
 no_steps ds n h steps are =
     each_step ds steps are h.form (subst (In h.form) (sym h.split) (in_middle h.form h.earlier h.later)) h.none

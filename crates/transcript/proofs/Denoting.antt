@@ -59,7 +59,7 @@ next_own : (c : ℕ) (e : Event) (es : List Event) → e.process ≡ c → fails
 next_own c e es own = ap (λ b. fails (cond b (Some e) (next_event c es))) (eq-eqb e.process c own)
 
 -- a journal's events denote what the journal does
-pub denotes_events : (c x : ℕ) (js : List AnyEvent) → InTurn js → Denotes c js (denoted (events_of_journal c x js))
+denotes_events : (c x : ℕ) (js : List AnyEvent) → InTurn js → Denotes c js (denoted (events_of_journal c x js))
 denotes_events c x l none = refl
 denotes_events c x l (last t y op) = refl
 denotes_events c x l (call t y op u a js fits rest) = go a (denotes_events c y js rest)

@@ -82,7 +82,7 @@ not_below n (j ∷ js) l i = elim (in_append l (journal_lines n j) (lines_in (n 
 ]
 
 -- those of one client
-pub lines_at : (n : ℕ) (js : List (List AnyEvent)) (k : ℕ)
+lines_at : (n : ℕ) (js : List (List AnyEvent)) (k : ℕ)
     → filter (λ l. l.event.process == n + k) (lines_in n js) ≡ journal_lines (n + k) (get_or js k [])
 lines_at n [] k = refl
 lines_at n (j ∷ js) zero = let here : n + 0 ≡ n = omega arith in let P : Line → Bool = λ l. l.event.process == n + 0 in

@@ -20,7 +20,7 @@ use Rattle.transcript.specs.declared.line.Line.{Line}
 use Rattle.transcript.specs.Lines.{lines_in}
 
 -- each ticket of a journal is below the greatest number of them
-pub ticket_low : (objects : ℕ) (journals : ℕ → List AnyEvent) (logs : ℕ → List AnyEntry)
+ticket_low : (objects : ℕ) (journals : ℕ → List AnyEvent) (logs : ℕ → List AnyEntry)
     → IsRecord objects journals logs → (c : ℕ) (e : AnyEvent) → In e (journals c) → ticket_of e < max_tickets
 ticket_low objects journals logs r c e i =
     let drawn : In (ticket_of e) (map (λ (f : Event). f.number) (events_of c (journals c))) =
