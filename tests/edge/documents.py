@@ -47,6 +47,8 @@ def documents(program, report):
     """What scripts of docs/ find is what the pages say. CONTRIBUTING names each file of tests/edge."""
     ran = subprocess.run([f"{ROOT}/docs/scripts/crate_tables.py", "--check"], capture_output=True, text=True)
     report.equal("documents: docs/architecture.md agrees with crates.txt", 0, ran.returncode, ran.stdout + ran.stderr)
+    ran = subprocess.run([f"{ROOT}/docs/scripts/sizes.py", "--check"], capture_output=True, text=True)
+    report.equal("documents: the sizes in docs/DECISIONS.md are right", 0, ran.returncode, ran.stdout + ran.stderr)
     ran = subprocess.run([f"{ROOT}/docs/scripts/contract_list.py"], capture_output=True, text=True)
     report.equal("documents: docs/scripts/contract_list.py reads each clause", (0, ""), (ran.returncode, ran.stderr))
     ran = subprocess.run([f"{ROOT}/docs/scripts/lost_clauses.py", "HEAD"], capture_output=True, text=True)
