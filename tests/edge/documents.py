@@ -54,6 +54,11 @@ def documents(program, report):
     ran = subprocess.run([f"{ROOT}/docs/scripts/lost_clauses.py", "HEAD"], capture_output=True, text=True)
     counts = re.search(r"^\d{3} clauses of HEAD, \d+ of which are not here word for word; \d+ new requires$", ran.stdout, re.M)
     report.holds("documents: docs/scripts/lost_clauses.py reads the clauses of the last commit", ran.returncode == 0 and counts, ran)
+    ran = subprocess.run([f"{ROOT}/docs/scripts/lines_to_believe.py", "--twice"], capture_output=True, text=True)
+    twice = [line.partition(":")[0] for line in ran.stdout.splitlines()]
+    part = read(f"{ROOT}/docs/definitions.md").partition("Several crates may define one name")[2].partition("\n## ")[0]
+    unexplained = [name for name in twice if f"`{name}`" not in part]
+    report.equal("documents: docs/definitions.md explains each name that several crates define", (True, []), (bool(twice), unexplained))
     ran = subprocess.run([f"{ROOT}/docs/scripts/lines_to_believe.py"], capture_output=True, text=True)
     counted = re.findall(r"^(\w+)\D+(\d+)", ran.stdout, re.M)
     report.equal("documents: three counts of lines to believe", ["history", "judge", "reason"], [name for name, _ in counted], ran.stderr)
