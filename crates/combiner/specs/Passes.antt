@@ -62,8 +62,8 @@ IsTried p tried.PutBack =
 IsTried p t =
     (q : AnyRequest) → p.knows.own ≡ own.Waiting q → q.object ≡ p.object → p.knows.ready ≡ true
 
--- the client won the object x and put it back with this log, which it has seen, and nothing else of
--- it has changed
+-- The client won the object x and released it with this log, which it has seen, and nothing else of
+-- it has changed.
 abbrev pub HasLearnt : ℕ → DeskView → DeskView → Type 0
 HasLearnt x v w = w ≡ after_release x (seen_of w x) (after_win x (seen_of w x) v)
 

@@ -42,7 +42,7 @@ pub enum Line {
     Search {
         history: String,
         steps: u32,
-        first: TryFirst,
+        try_first: TryFirst,
     },
     /// To check the reasons in another file why the history in a file is not linearizable, each
     /// with a search of at most this number of steps.

@@ -145,11 +145,11 @@ fn search_of(alloc: Global, found: &ArgMatches<'_>) -> Result<Line, NoLine>
 {
     let history = file_of(alloc, found, "HISTORY")?;
     let steps = number_of(found, "steps", STEPS)? as u32;
-    let first = try_first_of(found)?;
+    let try_first = try_first_of(found)?;
     Ok(Line::Search {
         history,
         steps,
-        first,
+        try_first,
     })
 }
 

@@ -29,7 +29,7 @@ IsVerificationIn steps first second status out =
 abbrev pub IsPerformed : Line → List ℕ → List ℕ → Status → List ℕ → Type 0
 IsPerformed (Check history certificates workers) first second status out =
     IsCheck first second status out
-IsPerformed (Search history steps tried_first) first second status out =
+IsPerformed (Search history steps try_first) first second status out =
     IsSearchResult first steps status out ⊎ IsOutOfMemory status out
 IsPerformed (Refute history reasons steps) first second status out =
     IsRefute first second steps status out ⊎ IsOutOfMemory status out
@@ -46,7 +46,7 @@ IsPerformed (OnFolder line) first second status out = IsExactly Usage [] status 
 -- whether 0 says that it is linearizable
 abbrev pub says_yes : Line → Bool
 says_yes (Check history certificates workers) = true
-says_yes (Search history steps tried_first) = true
+says_yes (Search history steps try_first) = true
 says_yes (Refute history reasons steps) = false
 says_yes (Verify history evidence steps workers) = true
 says_yes (Run options) = false
@@ -56,7 +56,7 @@ says_yes (OnFolder line) = false
 -- whether 1 says that it is not
 abbrev pub says_no : Line → Bool
 says_no (Check history certificates workers) = false
-says_no (Search history steps tried_first) = true
+says_no (Search history steps try_first) = true
 says_no (Refute history reasons steps) = true
 says_no (Verify history evidence steps workers) = true
 says_no (Run options) = false
@@ -68,7 +68,7 @@ says_no (OnFolder line) = false
 -- whether the command reads a file, and whether it reads two
 abbrev pub has_first : Line → Bool
 has_first (Check history certificates workers) = true
-has_first (Search history steps tried_first) = true
+has_first (Search history steps try_first) = true
 has_first (Refute history reasons steps) = true
 has_first (Verify history evidence steps workers) = true
 has_first (Run options) = false
@@ -77,7 +77,7 @@ has_first (OnFolder line) = false
 
 abbrev pub has_second : Line → Bool
 has_second (Check history certificates workers) = true
-has_second (Search history steps tried_first) = false
+has_second (Search history steps try_first) = false
 has_second (Refute history reasons steps) = true
 has_second (Verify history evidence steps workers) = true
 has_second (Run options) = false

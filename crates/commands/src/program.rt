@@ -58,9 +58,9 @@ pub fn perform<R: Threads + Wait + Sync, S: Sink>(
         Line::Check { workers, .. } => check_bytes(rt, alloc, first, second, *workers, sink),
         Line::Search {
             steps,
-            first: tried_first,
+            try_first,
             ..
-        } => write_output(search(alloc, first, *steps, *tried_first), sink),
+        } => write_output(search(alloc, first, *steps, *try_first), sink),
         Line::Refute { steps, .. } => write_output(refute(alloc, first, second, *steps), sink),
         // Without the workers: the library for C, which may start no thread, calls this `verify`
         // too.

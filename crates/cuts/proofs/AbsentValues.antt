@@ -9,7 +9,7 @@ use Rattle.events.specs.declared.operations.Invocation.{Invocation}
 use Rattle.events.specs.Operations.{call_with, call_of, calls_of, ObjectCalls, IsObjectHistory}
 use Rattle.cuts.specs.Absent.{is_put_before, is_taken_before, IsAbsent, calls_without}
 use Rattle.cuts.specs.Cuts.{IsPart}
-use Rattle.cuts.specs.CutOperations.{has_failed, is_put_before_end, is_taken_before_end, is_early, is_late}
+use Rattle.cuts.specs.CutOperations.{has_failed, is_put_before_end, is_taken_before_end, is_cut_out, stays}
 use Rattle.cuts.proofs.Absences.{without_valid}
 use Rattle.cuts.proofs.CountedCalls.{passes, count_calls}
 use Rattle.cuts.proofs.Kept.{own, own_is, own_call, as_filter, filter_lives}
@@ -19,8 +19,8 @@ abbrev late_call : ℤ → ℕ → Call → Bool
 late_call v before e = not (is_put_before v before e || is_taken_before v before e)
 
 operation_call : (v : ℤ) (before : ℕ) (o : Invocation)
-    → bind (own (is_late v before) o) call_of ≡ bind (call_of o) (own (late_call v before))
-operation_call v before o = own_call (is_late v before) o ∙ sym (part o.«end»)
+    → bind (own (stays v before) o) call_of ≡ bind (call_of o) (own (late_call v before))
+operation_call v before o = own_call (stays v before) o ∙ sym (part o.«end»)
   where
     part : (e : End) → bind (call_with o.number o.op e) (own (late_call v before))
         ≡ cond (not (has_failed e)
@@ -29,16 +29,16 @@ operation_call v before o = own_call (is_late v before) o ∙ sym (part o.«end�
     part e = grind arith
 
 pub late_history : (v : ℤ) (before : ℕ) (h : ObjectCalls) → IsObjectHistory h
-    → IsObjectHistory (record { object = h.object; kind = h.kind; ops = filter (is_late v before) h.ops })
+    → IsObjectHistory (record { object = h.object; kind = h.kind; ops = filter (stays v before) h.ops })
 late_history v before h is =
     subst (λ (ops : List Invocation). IsObjectHistory (record { object = h.object; kind = h.kind; ops = ops }))
-    (as_filter (is_late v before) h.ops)
-    (cut_history h.object h.kind h.ops (own (is_late v before)) (λ o p i e. own_is (is_late v before) o p e) is)
+    (as_filter (stays v before) h.ops)
+    (cut_history h.object h.kind h.ops (own (stays v before)) (λ o p i e. own_is (stays v before) o p e) is)
 
 pub late_calls_of : (v : ℤ) (before : ℕ) (ops : List Invocation)
-    → calls_of (filter (is_late v before) ops) ≡ calls_without v before (calls_of ops)
-late_calls_of v before ops = ap calls_of (sym (as_filter (is_late v before) ops))
-    ∙ cut_calls (own (is_late v before)) (own (late_call v before)) ops (operation_call v before)
+    → calls_of (filter (stays v before) ops) ≡ calls_without v before (calls_of ops)
+late_calls_of v before ops = ap calls_of (sym (as_filter (stays v before) ops))
+    ∙ cut_calls (own (stays v before)) (own (late_call v before)) ops (operation_call v before)
     ∙ as_filter (late_call v before) (calls_of ops)
 
 -- ---- how many
@@ -81,10 +81,10 @@ absent_to v before ops put taken e f h =
     grind (arith, nat_tests)
 
 pub late_shows : (v : ℤ) (before : ℕ) (h : ObjectCalls) → IsObjectHistory h → IsAbsent v before (calls_of h.ops)
-    → IsPart h (record { object = h.object; kind = h.kind; ops = filter (is_late v before) h.ops })
+    → IsPart h (record { object = h.object; kind = h.kind; ops = filter (stays v before) h.ops })
 late_shows v before h is absent = record {
   object = refl;
-  none_failed = filter_lives (λ o. not (is_early v before o)) h.ops;
+  none_failed = filter_lives (λ o. not (is_cut_out v before o)) h.ops;
   shows = λ none order valid.
       let r = without_valid h.kind (calls_of h.ops) v before order (rising_calls h.ops is.rising) absent valid in
       none r.0 (subst (λ (cs : List Call). IsValidOrder h.kind cs r.0) (sym (late_calls_of v before h.ops)) r.1);

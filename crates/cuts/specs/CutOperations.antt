@@ -93,13 +93,13 @@ is_taken_before_end v before op (Returned at reply) =
 is_taken_before_end v before op Pending = false
 is_taken_before_end v before op Failed = false
 
-abbrev pub is_early : ℤ → ℕ → Invocation → Bool
-is_early v before o =
+abbrev pub is_cut_out : ℤ → ℕ → Invocation → Bool
+is_cut_out v before o =
     is_put_before_end v before o.number o.op o.«end» || is_taken_before_end v before o.op o.«end»
 
 -- the operation did not fail, and is not one of these
-abbrev pub is_late : ℤ → ℕ → Invocation → Bool
-is_late v before o = not (has_failed o.«end») && not (is_early v before o)
+abbrev pub stays : ℤ → ℕ → Invocation → Bool
+stays v before o = not (has_failed o.«end») && not (is_cut_out v before o)
 
 -- ---- a suffix
 

@@ -5,7 +5,7 @@ ghost use Rattle.std.specs.Prelude.{◌≡◌, true, IfOk, IfSome, None, count_b
 ghost use Rattle.events.specs.Operations.{calls_of};
 ghost use Rattle.cuts.specs.Absent.{IsAbsent, IsRest};
 ghost use Rattle.cuts.specs.Cuts.{IsPart};
-ghost use Rattle.cuts.specs.CutOperations.{is_late, is_put_before_end, is_taken_before_end};
+ghost use Rattle.cuts.specs.CutOperations.{stays, is_put_before_end, is_taken_before_end};
 
 use crate::kinds::containers::{is_removal, put_value};
 use events::{End, Invocation, ObjectHistory};
@@ -77,7 +77,7 @@ fn cut_operations(
     before: u32,
     operations: &[Invocation],
 ) -> Result<Vec<Invocation>, AllocError>
-    ensures { IfOk result (λ v. v.items ≡ filter (is_late value before) operations.now) }
+    ensures { IfOk result (λ v. v.items ≡ filter (stays value before) operations.now) }
 {
     operations
         .iter()
@@ -94,7 +94,7 @@ fn cut_operations(
 /// that the value definitely was not in the queue, stack or heap; `None`: there are fewer.
 ///
 /// An error: an allocation failed.
-pub fn part_without(
+pub(crate) fn part_without(
     alloc: Global,
     history: &ObjectHistory,
     value: i64,

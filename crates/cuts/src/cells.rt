@@ -189,7 +189,7 @@ fn part_at(
 /// become a write. Of another kind of object nothing stays.
 ///
 /// An error: an allocation failed.
-pub fn cell_part(
+pub(crate) fn cell_part(
     alloc: Global,
     history: &ObjectHistory,
     values: &Values,
@@ -212,7 +212,7 @@ pub fn cell_part(
 /// swap to it from a kept value. Of another kind of object nothing stays.
 ///
 /// An error: an allocation failed.
-pub fn entry_part(
+pub(crate) fn entry_part(
     alloc: Global,
     history: &ObjectHistory,
     key: i64,

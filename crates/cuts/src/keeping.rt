@@ -158,7 +158,7 @@ fn cut_operations(
 /// order can have a part that has none.
 ///
 /// An error: an allocation failed.
-pub fn closed_part(
+pub(crate) fn closed_part(
     alloc: Global,
     history: &ObjectHistory,
     values: &Values,

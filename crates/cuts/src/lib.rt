@@ -14,15 +14,11 @@ mod prefix;
 mod suffix;
 mod touches;
 
-pub use absent::part_without;
 pub use blocking::is_blocked;
-pub use cells::{cell_part, entry_part};
 pub use counting::{Count, Counted, is_overdrawn};
 pub use cutting::{Cut, part_by};
-pub use keeping::{Values, closed_part};
+pub use keeping::Values;
 pub use laws::{
     ahead_is_bounded, cell_is_valid, count_is_bounded, entry_is_valid, listed_is_valid, one_part,
     prefix_is_valid, projection_is_valid, suffix_is_valid, without_is_valid,
 };
-pub use prefix::prefix_until;
-pub use suffix::suffix_from;

@@ -55,7 +55,7 @@ fn cut_operations(
 /// returned at it or later is pending.
 ///
 /// An error: an allocation failed.
-pub fn prefix_until(
+pub(crate) fn prefix_until(
     alloc: Global,
     history: &ObjectHistory,
     until: u32,

@@ -185,7 +185,7 @@ fn start_at(operations: &[Invocation], number: u32) -> Option<Start>
 /// if it left nothing, all of them are.
 ///
 /// An error: an allocation failed.
-pub fn suffix_from(
+pub(crate) fn suffix_from(
     alloc: Global,
     history: &ObjectHistory,
     number: u32,

@@ -63,7 +63,7 @@ module _ {S O R : Type 0} (content : S → Content) (op_in : O → AnyOp) (reply
         × StartsWith l (seen_of (known before) step.word))
         × (found ≢ 0 → after ≡ (after_miss step.word (known before), taken_slots before))
 
-    -- what was put back is what the client has seen of the object
+    -- the log with which the object is released is what the client has seen of it
     abbrev pub releases : Step (Slot S O R) → Hands → ℕ → Hands → Type 0
     releases step before found after =
         (l : List AnyEntry) → (known before).held ≡ held.Pass step.word l

@@ -173,7 +173,7 @@ after_put_back x l r q v =
 abbrev pub after_answer : ℕ → ℕ → List AnyEntry → DeskView → DeskView
 after_answer r x l v = record v { held = held.Pass x l; ready = v.ready || (r == v.number) }
 
--- the object x is put back with this log
+-- the object x is released with this log
 abbrev pub after_release : ℕ → List AnyEntry → DeskView → DeskView
 after_release x l v = record v { held = held.Free; back = []; seen = slice_set v.seen x l }
 

@@ -22,7 +22,7 @@ NoneReturned n call done = (j : ℕ) (r : Return) → IsLeft n done j → (call 
 
 -- one call more: it is possible, and its recorded reply, if there is one, is the one that `next`
 -- gives
-pub record Places (call : ℕ → Call) (k : ℕ) (before after : Content) : Type 0 where
+pub record DoesCall (call : ℕ → Call) (k : ℕ) (before after : Content) : Type 0 where
   pub reply : AnyReply
   pub does : next before (call k).op ≡ Some (after, reply)
   pub agrees : (r : Return) → (call k).returned ≡ Some r → r.reply ≡ reply
@@ -31,7 +31,7 @@ pub record Places (call : ℕ → Call) (k : ℕ) (before after : Content) : Typ
 abbrev pub Continues : (n : ℕ) (call : ℕ → Call) → List ℕ → Content → List ℕ → Type 0
 Continues n call done c [] = NoneReturned n call done
 Continues n call done c (k ∷ rest) =
-    IsLeft n done k × IsCandidate n call done k × (after : Content) × Places call k c after
+    IsLeft n done k × IsCandidate n call done k × (after : Content) × DoesCall call k c after
     × Continues n call (k ∷ done) after rest
 
 -- nothing goes on from here

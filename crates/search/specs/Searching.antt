@@ -13,7 +13,7 @@ use Rattle.search.specs.declared.pairs.Pair.{Pair}
 use Rattle.search.specs.declared.dead.Dead.{Dead}
 use Rattle.search.specs.declared.walk.State.{State}
 use Rattle.search.specs.Arranged.{call_at, owes, count_below, IsArranged}
-use Rattle.search.specs.Continuations.{IsLeft, IsCandidate, Places, Continues, IsDead}
+use Rattle.search.specs.Continuations.{IsLeft, IsCandidate, DoesCall, Continues, IsDead}
 use Rattle.search.specs.Continuations.{IsDeadAt, IsTried, IsDeadPair}
 use Rattle.search.specs.Links.{Linked, IsStop, AreWithin, next_with, before_with}
 use Rattle.search.specs.Arranged.{no_return}
@@ -38,7 +38,7 @@ pub record Frame (n : ℕ) (call : ℕ → Call) (done : List ℕ) (before after
     (place : ℕ) (window : Window) : Type 0 where
   pub left : IsLeft n done place
   pub candidate : IsCandidate n call done place
-  pub placed : Places call place before after
+  pub placed : DoesCall call place before after
   pub tried : IsTried n call done before place
   pub is_window : IsWindow n call done window
 

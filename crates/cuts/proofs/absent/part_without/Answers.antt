@@ -6,7 +6,7 @@ use Rattle.events.specs.declared.operations.Invocation.{Invocation}
 use Rattle.events.specs.Operations.{ObjectCalls, IsObjectHistory, calls_of}
 use Rattle.cuts.specs.Absent.{IsAbsent}
 use Rattle.cuts.specs.Cuts.{IsPart}
-use Rattle.cuts.specs.CutOperations.{is_late}
+use Rattle.cuts.specs.CutOperations.{stays}
 use Rattle.cuts.proofs.CutOperations.{same_history}
 use Rattle.cuts.proofs.AbsentValues.{late_history, late_calls_of, late_shows}
 use Rattle.cuts.proofs.absent.part_without.Goals as goal
@@ -14,9 +14,9 @@ use Rattle.cuts.proofs.absent.part_without.Goals as goal
 pub new-requires : goal.new-requires
 new-requires c =
     let h = c.args.history.now in
-    let own = ap (λ (z : ℤ). filter (is_late z c.args.before) c.ops-operations.result.now)
+    let own = ap (λ (z : ℤ). filter (stays z c.args.before) c.ops-operations.result.now)
     (to_z-of_z w64 c.args.value c.ranges.value) in
-    let late = ap (filter (is_late c.args.value c.args.before)) c.ops-operations.ensures.ops in
+    let late = ap (filter (stays c.args.value c.args.before)) c.ops-operations.ensures.ops in
     subst IsObjectHistory (sym (same_history c.object.ensures c.kind.ensures (c.in_ok-ops.ensures ∙ own ∙ late)))
     (late_history c.args.value c.args.before h c.ops-operations.ensures.kept)
 
@@ -24,8 +24,8 @@ pub returns-clause-part : goal.returns-clause-part
 returns-clause-part c =
     let h = c.args.history.now in
     let same = to_z-of_z w64 c.args.value c.ranges.value in
-    let own = ap (λ (z : ℤ). filter (is_late z c.args.before) c.ops-operations.result.now) same in
-    let late = ap (filter (is_late c.args.value c.args.before)) c.ops-operations.ensures.ops in
+    let own = ap (λ (z : ℤ). filter (stays z c.args.before) c.ops-operations.result.now) same in
+    let late = ap (filter (stays c.args.value c.args.before)) c.ops-operations.ensures.ops in
     let here = subst (λ (z : ℤ). IsAbsent z c.args.before (calls_of c.ops-operations.result.now)) same
     (c.is_absent.ensures.yes c.if-not-is_absent.false) in
     let absent = subst (λ (os : List Invocation). IsAbsent c.args.value c.args.before (calls_of os))
@@ -38,8 +38,8 @@ pub returns-clause-calls : goal.returns-clause-calls
 returns-clause-calls c =
     let h = c.args.history.now in
     let same = to_z-of_z w64 c.args.value c.ranges.value in
-    let own = ap (λ (z : ℤ). filter (is_late z c.args.before) c.ops-operations.result.now) same in
-    let late = ap (filter (is_late c.args.value c.args.before)) c.ops-operations.ensures.ops in
+    let own = ap (λ (z : ℤ). filter (stays z c.args.before) c.ops-operations.result.now) same in
+    let late = ap (filter (stays c.args.value c.args.before)) c.ops-operations.ensures.ops in
     let here = subst (λ (z : ℤ). IsAbsent z c.args.before (calls_of c.ops-operations.result.now)) same
     (c.is_absent.ensures.yes c.if-not-is_absent.false) in (
       subst (λ (os : List Invocation). IsAbsent c.args.value c.args.before (calls_of os))
