@@ -32,7 +32,7 @@ use Rattle.cuts.proofs.Booleans.{false_is_not_true, true_or_false}
 use Rattle.model.proofs.Bags.{with_value-more, with_value-front}
 
 -- what a register contains in the part: the same as in the whole, or anything if the part leaves out that value
-abbrev IsCellShadow : (ℤ → Bool) → Option ℤ → Option ℤ → Type 0
+abbrev pub IsCellShadow : (ℤ → Bool) → Option ℤ → Option ℤ → Type 0
 IsCellShadow keeps None y = y ≡ None
 IsCellShadow keeps (Some v) y = keeps v ≡ true → y ≡ Some v
 

@@ -38,7 +38,7 @@ leaves_kind op reply = search rules
 -- ---- where a suffix begins
 
 -- the operation with which a suffix begins
-record IsStartOperation (ops : List Invocation) (from at : ℕ) (first : Option (AnyOp × AnyReply))
+pub record IsStartOperation (ops : List Invocation) (from at : ℕ) (first : Option (AnyOp × AnyReply))
     (reply : AnyReply) : Type 0 where
   pub operation : Invocation
   pub known : In operation ops

@@ -128,7 +128,7 @@ in_time_cut x z y w a b h r =
 -- ---- writes that may be before the first call
 
 -- the write that a call with this return becomes, if it becomes one
-abbrev front_written : Option (AnyOp × AnyReply) → ℕ → AnyOp → Option Return → Option Call
+abbrev pub front_written : Option (AnyOp × AnyReply) → ℕ → AnyOp → Option Return → Option Call
 front_written first number op None = None
 front_written first number op (Some r) = option_map (write_call number r.at) (written_before first op r.reply)
 
@@ -193,7 +193,7 @@ front_facts from at first y x e = over (ended_before from y.returned) refl e
     over false n e = late (nat_lt at y.number) refl n e
 
 -- A call of the suffix that returned was invoked later than the first one returned, or may be before it.
-record Late (from at : ℕ) (first : Option (AnyOp × AnyReply)) (y : Call) : Type 0 where
+pub record Late (from at : ℕ) (first : Option (AnyOp × AnyReply)) (y : Call) : Type 0 where
   pub return : Return
   pub was : y.returned ≡ Some return
   pub either : (at < y.number)

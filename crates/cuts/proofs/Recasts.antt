@@ -46,7 +46,7 @@ pub record Steps (R : Content → Content → Type 0) (done : Done) (pending : O
   pub returned : (kept : Bool) → DoneOf R (done kept op reply) d after
   pub unfinished : OpenOf R (pending op) d after
 
-record IsRecast (R : Content → Content → Type 0) (done : Done) (pending : Open) : Type 0 where
+pub record IsRecast (R : Content → Content → Type 0) (done : Done) (pending : Open) : Type 0 where
   pub step : (c d : Content) (op : AnyOp) → R c d → IfSome (next c op) (λ p. Steps R done pending op d p.0 p.1)
 
 pub recast_timed : (done : AnyOp → AnyReply → Option (AnyOp × AnyReply)) (pending : Open) (y x : Call)

@@ -60,7 +60,7 @@ module _ (h c : List ℕ) (es : List Event) (cs : List Certificate) (t : DenoteO
       (subst (λ fs. AreValid fs v.certificates) (t.no_other_events v.client_events v.history_text) v.valid)
 
 -- locality for a text, as the law says it
-abbrev ValidSuffice : Type 0
+abbrev pub ValidSuffice : Type 0
 ValidSuffice = (text : List ℕ) (es : List Event) (cs : List Certificate) → DenotesHistory text es → AreValid es cs
     → IsLinearizableText text
 

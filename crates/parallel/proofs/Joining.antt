@@ -114,7 +114,7 @@ all_put all rest given old new is over h x =
 -- ---- all parts
 
 -- the objects of the first parts have their histories
-record IsWholeTo (es : List Event) (met parts : ℕ) (m : BTreeMap ℕ ObjectCalls) : Type 0 where
+pub record IsWholeTo (es : List Event) (met parts : ℕ) (m : BTreeMap ℕ ObjectCalls) : Type 0 where
   pub right : (x : ℕ) (o : ObjectCalls) → get nat_cmp m x ≡ Some o → IsHistoryOfObject es x o
   pub whole : (x : ℕ) → IsNamed es x → x % parts < met → (o : ObjectCalls) × (get nat_cmp m x ≡ Some o)
 

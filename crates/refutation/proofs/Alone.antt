@@ -451,7 +451,7 @@ listed_apart x h part hist = timed_apart (calls_on x h) (listed part (calls_on x
     (history_apart x h hist)
 
 -- what the law on listed operations asks of the calls of a history
-record AreOfHistory (calls : List Call) : Type 0 where
+pub record AreOfHistory (calls : List Call) : Type 0 where
   pub rising : AllPairs (λ a b. a.number < b.number) calls
   pub ends : All (λ e. (r : Return) → e.returned ≡ Some r → e.number < r.at) calls
 

@@ -43,25 +43,25 @@ use Rattle.refutation.proofs.Rising.{put_next}
 
 -- ---- the forms that are written
 
-abbrev integers_data : List ℤ → List Datum
+abbrev pub integers_data : List ℤ → List Datum
 integers_data zs = map (λ z. atom (integer z)) zs
 
 abbrev pub numbers_data : List ℕ → List Datum
 numbers_data ns = map (λ n. atom (integer (pos n))) ns
 
-abbrev values_datum : Values → Datum
+abbrev pub values_datum : Values → Datum
 values_datum All = atom (keyword (codes "all"))
 values_datum (Only s) = vector (items_of (integers_data s.keys))
 
-abbrev numbers_entries : List ℕ → Entries
+abbrev pub numbers_entries : List ℕ → Entries
 numbers_entries [] = no_entries
 numbers_entries (n ∷ ns) = entry (codes "numbers") (vector (items_of (numbers_data (n ∷ ns))))
     no_entries
 
-abbrev other_entries : ℤ → List ℕ → Entries
+abbrev pub other_entries : ℤ → List ℕ → Entries
 other_entries other ns = entry (codes "other") (atom (integer other)) (numbers_entries ns)
 
-abbrev cut_datum : Cut → Datum
+abbrev pub cut_datum : Cut → Datum
 cut_datum (From n) = dictionary (entry (codes "from") (atom (integer (pos n))) no_entries)
 cut_datum (Until n) = dictionary (entry (codes "until") (atom (integer (pos n))) no_entries)
 cut_datum (Without v n) = dictionary (entry (codes "without") (atom (integer v))
@@ -74,10 +74,10 @@ cut_datum (Entry key vs other ns) =
     dictionary (entry (codes "cell") (values_datum vs)
     (entry (codes "key") (atom (integer key)) (other_entries other ns.keys)))
 
-abbrev cuts_data : List Cut → List Datum
+abbrev pub cuts_data : List Cut → List Datum
 cuts_data cs = map cut_datum cs
 
-abbrev from_entries : ℕ → Entries
+abbrev pub from_entries : ℕ → Entries
 from_entries n = entry (codes "from") (atom (integer (pos n))) no_entries
 
 abbrev pub counted_entries : Counted → ℕ → Entries
@@ -104,13 +104,13 @@ abbrev steps_entries : Option ℕ → Entries
 steps_entries None = no_entries
 steps_entries (Some n) = entry (codes "steps") (atom (integer (pos n))) no_entries
 
-abbrev search_entries : TryFirst → Option ℕ → Entries
+abbrev pub search_entries : TryFirst → Option ℕ → Entries
 search_entries LeastNumber None = no_entries
 search_entries first steps = entry (codes "search")
     (dictionary (entry (codes "first") (atom (keyword (first_word first))) (steps_entries steps)))
     no_entries
 
-abbrev basis_entries : Basis → Entries
+abbrev pub basis_entries : Basis → Entries
 basis_entries (Search trial) = search_entries trial.first trial.steps
 basis_entries (Counting c) = entry (codes "count")
     (dictionary (counted_entries c.counted c.from)) no_entries

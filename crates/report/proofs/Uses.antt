@@ -114,7 +114,7 @@ kinds_on all i d old new lt h step =
 
 -- ---- what is counted is what the history has
 
-abbrev of_invoked : Invoked → Use
+abbrev pub of_invoked : Invoked → Use
 of_invoked i = record { object = i.object; kind = i.kind }
 
 uses_step : (x : ℕ) (a : Action) (failed : Bool) (us : List Use) (later : List Invoked) → us ≡ map of_invoked later
@@ -160,7 +160,7 @@ objects_of_are k es =
 -- ---- operations
 
 -- a call of this kind, or any
-abbrev is_call_of : Option Kind → ProcessCall → Bool
+abbrev pub is_call_of : Option Kind → ProcessCall → Bool
 is_call_of None c = true
 is_call_of (Some k) c = same_kind k (kind_of c.call.op)
 

@@ -43,7 +43,7 @@ same_stop {n} {done} {s} {p} {q} a b = elim (cases_order p q) [
 -- ---- the neighbours of a place
 
 -- what a list with its neighbours knows of a place that is left
-record Around (n : ℕ) (done nx pv : List ℕ) (k : ℕ) : Type 0 where
+pub record Around (n : ℕ) (done nx pv : List ℕ) (k : ℕ) : Type 0 where
   pub left : IsLeft n done k
   pub behind : IsForth n done (suc k) (get_or nx (suc k) 0)
   pub front : IsBack n done (get_or pv k 0) k

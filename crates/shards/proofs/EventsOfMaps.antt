@@ -20,7 +20,7 @@ use Rattle.history.proofs.Reading.{events_push}
 use Rattle.shards.specs.Forms.{is_on}
 
 -- the event is that of the map of a client
-record IsEventOf (d : Datum) (place : ℕ) (e : Event) : Type 0 where
+pub record IsEventOf (d : Datum) (place : ℕ) (e : Event) : Type 0 where
   pub map : ClientMap
   pub client : client_of d ≡ Some map
   pub object : map.object ≡ e.object

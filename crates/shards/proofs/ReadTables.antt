@@ -70,7 +70,7 @@ read_line ns numbers number tail short h =
     }
 
 -- what a byte that is no line feed does
-record ReadsDigit (ns numbers : List ℕ) (number byte : ℕ) (tail : List ℕ) : Type 0 where
+pub record ReadsDigit (ns numbers : List ℕ) (number byte : ℕ) (tail : List ℕ) : Type 0 where
   pub digit : is_digit byte ≡ true
   pub short : number * 10 + (byte - 48) < 2 ^ 32
   pub read : IsReadTo ns numbers (number * 10 + (byte - 48)) tail

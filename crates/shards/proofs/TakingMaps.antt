@@ -252,7 +252,7 @@ at_all (m ∷ ms) (d ∷ ds) zero z x h l = h.0
 at_all (m ∷ ms) (d ∷ ds) (suc i) z x h l = at_all ms ds i z x h.1 (omega arith)
 
 -- the next map of a piece
-record IsNextMap (ms : List MapText) (ds : List Datum) (i : ℕ) (m : MapText) : Type 0 where
+pub record IsNextMap (ms : List MapText) (ds : List Datum) (i : ℕ) (m : MapText) : Type 0 where
   pub form : Datum
   pub is : IsMapText m form
   pub more : take (i + 1) ds ≡ take i ds ++ form ∷ []
