@@ -18,8 +18,8 @@ use Rattle.history_commands.specs.declared.status.Status.{Status}
 use Rattle.history_commands.specs.declared.status.Status.TheVariants.{Yes, No, Malformed, Undecided, Failed}
 use Rattle.commands.specs.Leaves.{Leaves}
 use Rattle.commands.specs.Sharded.{AreShardsRead, FolderHoldsSplit, FolderContents, IsMergeOfFolder, IsSplitOutput}
-use Rattle.commands.proofs.StatusMeanings.{is_no, is_yes, memory_not_no, memory_not_yes, no_not_failed}
-use Rattle.commands.proofs.StatusMeanings.{yes_not_failed}
+use Rattle.history_commands.proofs.Numbers.{no_by_number, yes_by_number}
+use Rattle.commands.proofs.StatusMeanings.{memory_not_no, memory_not_yes, no_not_failed, yes_not_failed}
 
 not_malformed : (status : Status) → status ≡ Malformed
     → (status_number status ≡ status_number Yes) ⊎ (status_number status ≡ status_number Undecided) → ⊥
@@ -95,7 +95,7 @@ module _ (holds : FolderContents) (count limit : ℕ) (some : 0 < count) {before
   pub shows_linearizable : number ≡ status_number Yes → IsLinearizableAtAnyLength whole
   shows_linearizable e =
       let w = h.written (yes_not_failed number e) in
-      let yes : w.0 ≡ Yes = is_yes w.0 (sym w.3 ∙ e) in
+      let yes : w.0 ≡ Yes = yes_by_number w.0 (sym w.3 ∙ e) in
       elim w.2 [
         | inl merged ↦ whole_linearizable holds limit count some merged.0 merged.1 merged.2 whole split
             (merged.3.linearizable yes)
@@ -105,7 +105,7 @@ module _ (holds : FolderContents) (count limit : ℕ) (some : 0 < count) {before
   pub shows_refuted : number ≡ status_number No → IsLinearizableAtAnyLength whole → ⊥
   shows_refuted e =
       let w = h.written (no_not_failed number e) in
-      let no : w.0 ≡ No = is_no w.0 (sym w.3 ∙ e) in
+      let no : w.0 ≡ No = no_by_number w.0 (sym w.3 ∙ e) in
       elim w.2 [
         | inl merged ↦ whole_refuted holds limit count some merged.0 merged.1 merged.2 whole split
             (merged.3.refuted no)

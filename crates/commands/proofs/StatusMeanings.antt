@@ -1,6 +1,5 @@
 -- What the exit status of a command says of the history in its first file, by the status of its output: the number 0 is
 -- that of a yes alone, and 1 that of a no alone.
-use Rattle.std.proofs.Common.{arith}
 use Rattle.std.proofs.Common.{◌≡◌, ◌≢◌, ◌∙◌, ℕ, true, List, Option, inl, inr, sym, refl}
 use Rattle.std.proofs.Common.{Bool}
 use Rattle.command_line.specs.declared.asking.Line.{Line}
@@ -11,14 +10,9 @@ use Rattle.history_commands.specs.Outputs.{status_number}
 use Rattle.history_commands.specs.declared.status.Status.{Status}
 use Rattle.history_commands.specs.declared.status.Status.TheVariants.{Yes, No, Malformed, Undecided, OutOfMemory}
 use Rattle.history_commands.specs.declared.status.Status.TheVariants.{NoThread, Failed, Usage}
+use Rattle.history_commands.proofs.Numbers.{no_by_number, yes_by_number}
 use Rattle.commands.specs.Leaves.{Leaves}
 use Rattle.commands.specs.Performed.{IsPerformedOn, says_no, says_yes}
-
-pub is_yes : (status : Status) → status_number status ≡ status_number Yes → status ≡ Yes
-is_yes status e = grind arith
-
-pub is_no : (status : Status) → status_number status ≡ status_number No → status ≡ No
-is_no status e = grind arith
 
 pub memory_not_yes : (status : Status) → status ≡ OutOfMemory → status ≢ Yes
 memory_not_yes status e y = absurd cc
@@ -62,9 +56,9 @@ module _ (one one_after other other_after : Option (List ℕ)) where
     pub shows_yes : says_yes line ≡ true → number ≡ status_number Yes → IsLinearizableRead one one_after
     shows_yes says y =
         let w = left.written (yes_not_failed number y) in
-        said_yes line w.0 w.1 w.2 says (is_yes w.0 (sym w.3 ∙ y))
+        said_yes line w.0 w.1 w.2 says (yes_by_number w.0 (sym w.3 ∙ y))
 
     pub shows_no : says_no line ≡ true → number ≡ status_number No → IsNotLinearizableRead one one_after
     shows_no says n =
         let w = left.written (no_not_failed number n) in
-        said_no line w.0 w.1 w.2 says (is_no w.0 (sym w.3 ∙ n))
+        said_no line w.0 w.1 w.2 says (no_by_number w.0 (sym w.3 ∙ n))

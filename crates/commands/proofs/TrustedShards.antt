@@ -23,8 +23,8 @@ use Rattle.commands.specs.Trusted.{IsEachYesRight, finding_by, finding_of, lines
 use Rattle.commands.specs.Leaves.{Leaves}
 use Rattle.commands.specs.Sharded.{AreShardsOf}
 use Rattle.commands.specs.declared.trusting.Trusted.{Trusted}
-use Rattle.commands.proofs.StatusMeanings.{is_no, is_yes, memory_not_no, memory_not_yes, no_not_failed}
-use Rattle.commands.proofs.StatusMeanings.{yes_not_failed}
+use Rattle.history_commands.proofs.Numbers.{no_by_number, yes_by_number}
+use Rattle.commands.proofs.StatusMeanings.{memory_not_no, memory_not_yes, no_not_failed, yes_not_failed}
 
 -- ---- one shard more
 
@@ -127,7 +127,7 @@ module _ (holds : HoldingStatus) (count : ℕ) (some : 0 < count) (whole : List 
     pub trusted_yes : number ≡ status_number Yes → IsEachYesRight holds count files → IsLinearizableAtAnyLength whole
     trusted_yes e right =
         let w = h.written (yes_not_failed number e) in
-        let is = is_yes w.0 (sym w.3 ∙ e) in
+        let is = yes_by_number w.0 (sym w.3 ∙ e) in
         elim w.2 [
           | inl b ↦ whole_linearizable b.0 b.1 b.2 (yes_certified (finding_by b.0) (sym b.3.0 ∙ is)) right
           | inr memory ↦ absurd (memory_not_yes w.0 memory.0 is)
@@ -136,7 +136,7 @@ module _ (holds : HoldingStatus) (count : ℕ) (some : 0 < count) (whole : List 
     pub trusted_no : number ≡ status_number No → IsEachNoRight holds count files → IsLinearizableAtAnyLength whole → ⊥
     trusted_no e right =
         let w = h.written (no_not_failed number e) in
-        let is = is_no w.0 (sym w.3 ∙ e) in
+        let is = no_by_number w.0 (sym w.3 ∙ e) in
         elim w.2 [
           | inl b ↦ whole_refuted b.0 b.1 b.2 (no_refuted (finding_by b.0) (sym b.3.0 ∙ is)) right
           | inr memory ↦ absurd (memory_not_no w.0 memory.0 is)
