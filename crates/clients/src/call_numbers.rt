@@ -10,7 +10,7 @@ use rand::RngExt;
 use rand_pcg::Lcg64Xsh32;
 
 /// The numbers that make one call.
-#[derive(Clone, Copy, Debug)]
+#[derive(Clone, Copy)]
 pub(crate) struct Draws {
     pub object: u32,
     pub choice: u32,

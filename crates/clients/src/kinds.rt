@@ -7,7 +7,7 @@ ghost use Rattle.clients.specs.Drawing.{AreOf};
 use model::{AnyOp, Kind};
 
 /// The operations of which one is drawn for a call.
-#[derive(Clone, Copy, Debug)]
+#[derive(Clone, Copy)]
 pub(crate) enum Operations {
     Two(AnyOp, AnyOp),
     Three(AnyOp, AnyOp, AnyOp),

@@ -17,7 +17,7 @@ use seq_objects::Gate;
 use std::alloc::Global;
 
 /// A refusal, and the place of its object among those of the history.
-#[derive(Clone, Copy, Debug, PartialEq, Eq)]
+#[derive(Clone, Copy)]
 pub(crate) struct RefusedObject {
     pub(crate) place: usize,
     pub(crate) refusal: Refusal,

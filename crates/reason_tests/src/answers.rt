@@ -1,7 +1,7 @@
 //! What a reason that does not show anything hands out.
 
-use history::read_history_text;
 use cuts::{Count, Counted, Cut};
+use history::read_history_text;
 use refutation::{Basis, Reason, ReasonAnswer, Trial, WhyNotShown, refute_all};
 use search::TryFirst;
 use std::alloc::{AllocError, Global};

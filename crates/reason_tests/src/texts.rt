@@ -1,10 +1,10 @@
 //! The lines of reasons and of their operations that no command writes, and those when an
 //! allocation fails.
 
+use cuts::{Cut, part_by};
 use edn::{Out, WriteFault, read_forms};
 use events::split;
 use history::read_history_text;
-use cuts::{Cut, part_by};
 use reason_report::{push_operations, push_reason};
 use refutation::{Reason, ReasonFault, ReasonFaultKind, read_reasons, write_reasons};
 use std::alloc::Global;

@@ -10,9 +10,9 @@ ghost use Rattle.refutation.specs.Denotes as spec;
 use crate::cut::optional_int_at;
 use crate::sets::number;
 use crate::{Basis, Trial};
+use cuts::{Count, Counted};
 use edn::{Form, Name};
 use edn_fields::{is_same, value_at};
-use cuts::{Count, Counted};
 use search::TryFirst;
 
 /// Reads which content is counted: `:value`, `:key` and `:value`, `:key` alone, `:held` or `:free`.

@@ -6,9 +6,9 @@ ghost use Rattle.edn_reader.specs.View.{view, views, pair_views};
 ghost use Rattle.refutation.specs.Denotes as spec;
 
 use crate::sets::{number, numbers, values};
+use cuts::Cut;
 use edn::{Form, Name};
 use edn_fields::value_at;
-use cuts::Cut;
 use std::alloc::{AllocError, Global};
 
 /// The integer under a key.

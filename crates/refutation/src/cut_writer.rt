@@ -12,8 +12,8 @@ ghost use Rattle.refutation.specs.Written.{AreNumberKeys, AreTypedValues, IsType
 use crate::set_writer::{
     write_between, write_integer_after, write_number_after, write_numbers, write_vector,
 };
-use edn::{Failed, Sink, write_bytes};
 use cuts::{Cut, Values};
+use edn::{Failed, Sink, write_bytes};
 use std::collections::BTreeSet;
 
 /// Which values are kept: all, or a vector of them.

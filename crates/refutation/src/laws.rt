@@ -16,8 +16,8 @@ ghost use Rattle.cuts.specs.Listed.{listed};
 ghost use Rattle.refutation.specs.Alone.{alone};
 ghost use Rattle.refutation.specs.Refutations.{PartHasNoValidOrder, IsNamedPart};
 
-use locality::{linearizable_has_orders, named_objects};
 use cuts::{listed_is_valid, one_part};
+use locality::{linearizable_has_orders, named_objects};
 
 /// A reason names one part at most: with its object, its kind and its operations. So what is listed
 /// of a reason is what any check of it would list.

@@ -9,8 +9,8 @@ ghost use Rattle.refutation.specs.Refutations.{IfPart, IsWhyNotShown, IsNamedPar
 ghost use Rattle.refutation.specs.Refutations.{PartHasNoValidOrder, IsShownBy};
 
 use crate::reason::{Basis, Reason, Trial};
-use events::ObjectHistory;
 use cuts::{Count, is_blocked, is_overdrawn, part_by};
+use events::ObjectHistory;
 use search::{OrderOutcome, OrderSearch, find_order_of_any_size};
 use std::alloc::{AllocError, Global};
 

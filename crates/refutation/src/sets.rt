@@ -5,8 +5,8 @@ ghost use Rattle.edn_reader.specs.Datum.{items_of};
 ghost use Rattle.edn_reader.specs.View.{view, views};
 ghost use Rattle.refutation.specs.Denotes as spec;
 
-use edn::Form;
 use cuts::Values;
+use edn::Form;
 use std::alloc::{AllocError, Global};
 use std::collections::BTreeSet;
 

@@ -13,8 +13,8 @@ ghost use Rattle.refutation.specs.Written.{IsTypedReason};
 use crate::cut_writer::write_cuts;
 use crate::set_writer::{write_integer_after, write_number_after};
 use crate::{Basis, Reason, Trial};
-use edn::{Failed, Sink, WriteFault, write_bytes};
 use cuts::{Count, Counted};
+use edn::{Failed, Sink, WriteFault, write_bytes};
 use search::TryFirst;
 
 /// A value under a key.

@@ -23,7 +23,7 @@ use seq_objects::{AnyObject, Kind, SeqObject};
 use std::alloc::{AllocError, Global};
 
 /// An invocation: its object, the kind of its operation, and whether that failed.
-#[derive(Clone, Copy, Debug, PartialEq, Eq)]
+#[derive(Clone, Copy)]
 struct Invoked {
     object: u32,
     kind: Kind,

@@ -4,7 +4,7 @@
 /// Two ways to do the same operations that leave the same content have one digest, so that a pair
 /// is found again by its hash. Whether it is the same pair is always compared: nothing is promised
 /// of a digest.
-#[derive(Clone, Copy, Debug)]
+#[derive(Clone, Copy)]
 pub(crate) struct Digest {
     done: u64,
     content: u64,

@@ -26,7 +26,7 @@ use events::{End, Invocation};
 use std::alloc::{AllocError, Global};
 
 /// How a walk ends.
-#[derive(Clone, Copy, Debug, PartialEq, Eq)]
+#[derive(Clone, Copy)]
 pub(crate) enum Ending {
     /// The levels are an order.
     Done,

@@ -15,14 +15,14 @@ use seq_objects::{AnyOp, SeqObject};
 use std::alloc::{AllocError, Global};
 
 /// A call of a client: its object and its operation.
-#[derive(Clone, Copy, Debug, PartialEq, Eq)]
+#[derive(Clone, Copy)]
 pub(crate) struct Call {
     pub object: u32,
     pub op: AnyOp,
 }
 
 /// A client event, and the operation of its call.
-#[derive(Clone, Copy, Debug, PartialEq, Eq)]
+#[derive(Clone, Copy)]
 pub(crate) struct Line {
     pub event: Event,
     pub op: AnyOp,
