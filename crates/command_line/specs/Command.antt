@@ -36,6 +36,7 @@ option_rule o = record (new_rule o.0) {
   action = action_of o.1;
 }
 
+-- the command with these arguments and options added to it, in order
 abbrev pub with_rules : App → List Rule → App
 with_rules a [] = a
 with_rules a (r ∷ rs) = with_rules (with_rule a r) rs
@@ -45,6 +46,7 @@ abbrev pub command_of : Text → List Text → List (Text × Takes) → App
 command_of name files options =
     with_rules (with_rules (new_app name) (map file_rule files)) (map option_rule options)
 
+-- the program with these commands added to it, in order
 abbrev pub with_commands : App → List App → App
 with_commands a [] = a
 with_commands a (c ∷ cs) = with_commands (with_subcommand a c.top) cs
@@ -53,10 +55,12 @@ with_commands a (c ∷ cs) = with_commands (with_subcommand a c.top) cs
 abbrev pub program : App
 program = on_top (λ s. record s { subcommand_required = true }) (new_app (codes "fcbench"))
 
+-- the commands of the table, each with its files and its options
 abbrev pub commands : List App
 commands =
     map (λ row. command_of row.1.now (map (λ f. f.0.now) row.3.now)
     (map (λ o. (o.0.now, o.2)) row.4.now)) COMMANDS
 
+-- what clap is told of: the program with the commands of the table
 abbrev pub command : App
 command = with_commands program commands

@@ -82,7 +82,8 @@ IsFolderLine v rows (Merge folder steps trust_statuses) =
     × IsNumber STEPS (first_of (codes "steps") rows) steps
     × (trust_statuses ≡ is_given (first_of (codes "trust-statuses") rows))
 
--- The same of the line of any command.
+-- The line of this command has the files that the rows have, and for each option the value that the
+-- rows have, or its default.
 abbrev pub IsLine : Verb → List Row → Line → Type 0
 IsLine v rows (Check history certificates workers) =
     (v ≡ is.Check) × IsFile (codes "HISTORY") rows (string_bytes history)
@@ -138,6 +139,7 @@ pub record AskFor (words : List Text) (line : Line) : Type 0 where
   pub faultless : fault_of command words ≡ []
   pub finds : Finds (subcommand_of command words) line
 
+-- the error of clap stands for a request for help, or for the version
 abbrev pub IsHelp : ErrorKind → Type 0
 IsHelp k = (k ≡ DisplayHelp) ⊎ (k ≡ DisplayVersion)
 

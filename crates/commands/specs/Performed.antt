@@ -65,7 +65,7 @@ says_no (OnFolder line) = false
 
 -- ---- on files
 
--- whether the command reads a file, and whether it reads two
+-- whether the command reads a file
 abbrev pub has_first : Line → Bool
 has_first (Check history certificates workers) = true
 has_first (Search history steps try_first) = true
@@ -75,6 +75,7 @@ has_first (Run options) = false
 has_first (Simulate schedule) = true
 has_first (OnFolder line) = false
 
+-- whether the command reads two files
 abbrev pub has_second : Line → Bool
 has_second (Check history certificates workers) = true
 has_second (Search history steps try_first) = false

@@ -28,10 +28,11 @@ use Rattle.history_commands.specs.Outputs.{status_of}
 use Rattle.history_commands.specs.declared.status.Status.{Status}
 use Rattle.history_commands.specs.declared.status.Status.TheVariants as status_is
 
--- a record's journals and logs, as they are
+-- a record's journals, as they are
 abbrev pub journals_of : Recorded AnyOp AnyReply → ℕ → List AnyEvent
 journals_of r = journals_in (λ (op : AnyOp). op) (λ (reply : AnyReply). reply) r
 
+-- a record's logs, as they are
 abbrev pub logs_of : Recorded AnyOp AnyReply → ℕ → List AnyEntry
 logs_of r = logs_in (λ (op : AnyOp). op) (λ (reply : AnyReply). reply) r
 

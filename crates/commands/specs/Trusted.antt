@@ -51,6 +51,7 @@ finding_by read = worst (map finding_of read)
 
 -- ---- the lines
 
+-- a line on a shard, such as `; shard 5: no`
 abbrev pub status_line : ℕ → List ℕ → List ℕ
 status_line shard end = codes "; shard " ++ (decimal shard ++ end)
 

@@ -21,11 +21,13 @@ is_taken_before v number e =
 pub record IsAbsent (v : ℤ) (number : ℕ) (calls : List Call) : Type 0 where
   pub taken : count_by (is_put_before v number) calls ≤ count_by (is_taken_before v number) calls
 
--- the calls without those
+-- the calls except two sorts: those that put in the value and were invoked before this number, and
+-- those that took it out and returned before it
 abbrev pub calls_without : ℤ → ℕ → List Call → List Call
 calls_without v number calls =
     filter (λ e. not (is_put_before v number e || is_taken_before v number e)) calls
 
--- the value is absent before this number, and these are the calls without those
+-- The value definitely was absent before this number, and the part is the calls without those that
+-- had put it in or taken it out by then.
 abbrev pub IsRest : ℤ → ℕ → List Call → List Call → Type 0
 IsRest v number calls part = IsAbsent v number calls × (part ≡ calls_without v number calls)

@@ -58,29 +58,36 @@ touched_op keeps other t =
 
 -- ---- calls
 
--- what an operation that returned becomes
+-- what an operation that returned becomes, as a call of a register, in the part at this cell;
+-- `None`: the part leaves it out
 abbrev pub done_at : Place → (ℤ → Bool) → ℤ → Bool → AnyOp → AnyReply → Option (AnyOp × AnyReply)
 done_at place keeps other kept op reply =
     touched_call (keeps_content (keeps_none place) keeps) other kept (own_call place op reply)
     (touch_at place op (Some reply))
 
--- what a pending operation becomes
+-- what a pending operation becomes in the part at this cell: it stays only if it can leave a kept
+-- content
 abbrev pub opened_at : Place → (ℤ → Bool) → ℤ → AnyOp → Option AnyOp
 opened_at place keeps other op =
     touched_op (keeps_content (keeps_none place) keeps) other (touch_at place op None)
 
+-- what a call becomes, as one of a register, in the part at this cell; `None`: the part leaves it
+-- out
 abbrev pub call_at : Place → (ℤ → Bool) → ℤ → (ℕ → Bool) → Call → Option Call
 call_at place keeps other kept e = recast (done_at place keeps other (kept e.number))
     (opened_at place keeps other) e.number e.op e.returned
 
+-- The part of these calls at one cell of the object, as calls of a register. It keeps these values
+-- of the cell, and has one other value in place of all others.
 abbrev pub calls_at : Place → (ℤ → Bool) → ℤ → (ℕ → Bool) → List Call → List Call
 calls_at place keeps other kept calls = filter_map (call_at place keeps other kept) calls
 
--- A register of which the part keeps some values, and no value.
+-- The part of a register's calls that keeps some values, and "no value", and has one other value in
+-- place of all others.
 abbrev pub cell_calls : (ℤ → Bool) → ℤ → (ℕ → Bool) → List Call → List Call
 cell_calls keeps other kept calls = calls_at OfRegister keeps other kept calls
 
--- One key of a map, as a register of which the part keeps some values. No value, and all values
--- that are not kept, are the other value.
+-- The part of a map's calls on one key, as calls of a register, that keeps some values. No value,
+-- and all values that are not kept, are the other value.
 abbrev pub entry_calls : ℤ → (ℤ → Bool) → ℤ → (ℕ → Bool) → List Call → List Call
 entry_calls key keeps other kept calls = calls_at (OfKey key) keeps other kept calls

@@ -20,7 +20,7 @@ abbrev pub taken_since : Counted → ℕ → List Call → ℕ
 taken_since what from calls = count_by
     (λ e. takes what e.op (reply_of e.returned) && not (nat_lt e.number from)) calls
 
--- how often an empty object contains it
+-- how often an empty object contains what is counted
 abbrev pub times_at_first : Counted → ℕ
 times_at_first (Value v) = 0
 times_at_first (Entry k v) = 0
@@ -28,8 +28,9 @@ times_at_first (NoEntry k) = 1
 times_at_first Held = 0
 times_at_first Free = 1
 
--- How often the object can have contained it before this number, at most. Of a queue, stack or heap
--- that is known only at the beginning. Nothing is counted at a set, a counter or a lock.
+-- How often the object can have contained what is counted before this number, at most. Of a queue,
+-- stack or heap that is known only at the beginning. Nothing is counted at a set, a counter or a
+-- lock.
 abbrev pub most_before : Kind → Counted → ℕ → Option ℕ
 most_before kind what from =
     if from == 0 then Some (times_at_first what) else (if is_single kind then Some 1 else None)

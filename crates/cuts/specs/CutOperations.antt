@@ -21,6 +21,7 @@ use Rattle.cuts.specs.Kinds.Keeping.{fits}
 use Rattle.cuts.specs.Kinds.Containers.{puts_in, is_removal, takes_first, takes_last}
 use Rattle.cuts.specs.Kinds.Starts.{key_of}
 
+-- whether an operation failed, by how it ended
 abbrev pub has_failed : End → Bool
 has_failed (Returned at reply) = false
 has_failed Pending = false
@@ -34,6 +35,7 @@ fits_end all keeps kept op (Returned at reply) = fits all keeps kept op (Some re
 fits_end all keeps kept op Pending = fits all keeps kept op None
 fits_end all keeps kept op Failed = true
 
+-- whether an operation is a removal that is pending; one that failed is not
 abbrev pub is_open_removal : AnyOp → End → Bool
 is_open_removal op (Returned at reply) = false
 is_open_removal op Pending = is_removal op
@@ -65,11 +67,14 @@ is_taken keeps op Failed = false
 
 -- ---- a prefix
 
+-- how an operation ends in a prefix: it is pending if it had not returned before this number
 abbrev pub end_before : ℕ → End → End
 end_before until (Returned at reply) = if nat_lt at until then Returned at reply else Pending
 end_before until Pending = Pending
 end_before until Failed = Failed
 
+-- what an operation becomes in the prefix up to this number; `None`: it failed, or was not invoked
+-- before this number
 abbrev pub operation_before : ℕ → Invocation → Option Invocation
 operation_before until o =
     if has_failed o.«end» then None
@@ -93,11 +98,14 @@ is_taken_before_end v before op (Returned at reply) =
 is_taken_before_end v before op Pending = false
 is_taken_before_end v before op Failed = false
 
+-- whether an operation put in the value and was invoked before this number, or took it out and
+-- returned before it
 abbrev pub is_cut_out : ℤ → ℕ → Invocation → Bool
 is_cut_out v before o =
     is_put_before_end v before o.number o.op o.«end» || is_taken_before_end v before o.op o.«end»
 
--- the operation did not fail, and is not one of these
+-- whether an operation did not fail, and did neither of these before this number: put in the value,
+-- or take it out
 abbrev pub stays : ℤ → ℕ → Invocation → Bool
 stays v before o = not (has_failed o.«end») && not (is_cut_out v before o)
 
@@ -107,16 +115,18 @@ stays v before o = not (has_failed o.«end») && not (is_cut_out v before o)
 abbrev pub IsOnKey : Option ℤ → Invocation → Type 0
 IsOnKey key o = (has_failed o.«end» ≡ true) ⊎ (key_of o.op ≡ key)
 
--- the operation returned before
+-- whether an operation returned before this number
 abbrev pub is_over : ℕ → End → Bool
 is_over from (Returned at reply) = nat_lt at from
 is_over from Pending = false
 is_over from Failed = false
 
+-- a write of this value, invoked at the first number and returned at the second
 abbrev pub as_write : ℕ → ℕ → ℤ → Invocation
 as_write number at v =
     record { number = number; op = (setting (Some v)).0; «end» = Returned at (setting (Some v)).1 }
 
+-- a pending operation
 abbrev pub as_pending : ℕ → AnyOp → Invocation
 as_pending number op = record { number = number; op = op; «end» = Pending }
 
@@ -128,14 +138,19 @@ overlapping_operation first number op (Returned at reply) =
 overlapping_operation first number op Pending = as_pending number op
 overlapping_operation first number op Failed = as_pending number op
 
+-- what an operation of a suffix becomes: it stays as it is if it was invoked after `at`, where the
+-- suffix's first operation returned
 abbrev pub operation_later : Option (AnyOp × AnyReply) → ℕ → Invocation → Invocation
 operation_later first at o =
     if nat_lt at o.number then o else overlapping_operation first o.number o.op o.«end»
 
+-- an operation with this reply, invoked at the first number and returned at the second
 abbrev pub as_returned : ℕ → ℕ → AnyOp × AnyReply → Invocation
 as_returned from at first =
     record { number = from; op = first.0; «end» = Returned at first.1 }
 
+-- what an operation becomes in the suffix that begins with the operation `from`; `None`: it failed,
+-- or the suffix leaves it out
 abbrev pub operation_from : ℕ → ℕ → Option (AnyOp × AnyReply) → Invocation → Option Invocation
 operation_from from at first o =
     if has_failed o.«end» then None
@@ -159,6 +174,8 @@ is_gone what from number op Failed = false
 
 -- ---- what was ahead of what a removal found
 
+-- the number of the return of a removal, and what it found: a value, or nothing; `None` of any
+-- other operation, and of a removal that is pending or failed
 abbrev pub found_end : AnyOp → End → Option (ℕ × Option ℤ)
 found_end op (Returned at reply) = if is_removal op then found_in at reply else None
 found_end op Pending = None
@@ -169,11 +186,15 @@ abbrev pub first_put_end : ℤ → List Invocation → ℕ
 first_put_end v ops = option_map_or (λ (o : Invocation). o.number)
     (find (λ o. is_put (int_eq v) o.op o.«end») ops) 0
 
+-- A put counts only if it returned before this number. It is the number of the removal; of a
+-- removal that found a value in a queue, at most that of the first put of this value.
 abbrev pub ahead_before_end : Option ℤ → AnyOp → ℕ → List Invocation → ℕ
 ahead_before_end None op number ops = number
 ahead_before_end (Some b) op number ops =
     if takes_first op then min number (first_put_end b ops) else number
 
+-- whether an operation put in one of these values, was invoked at the first number or later, and
+-- returned before the second
 abbrev pub is_put_ahead_end : (ℤ → Bool) → ℕ → ℕ → ℕ → AnyOp → End → Bool
 is_put_ahead_end keeps from before number op (Returned at reply) =
     puts_in keeps op && (nat_lt at before && not (nat_lt number from))
@@ -184,16 +205,21 @@ is_put_ahead_end keeps from before number op Failed = false
 abbrev pub is_settled_end : ℤ → ℕ → Invocation → Bool
 is_settled_end b from o = not (is_put (int_eq b) o.op o.«end») || is_over from o.«end»
 
+-- If a removal found a value in a stack: whether each put of this value returned before this
+-- number. Otherwise it is true.
 abbrev pub are_settled : Option ℤ → AnyOp → ℕ → List Invocation → Bool
 are_settled None op from ops = true
 are_settled (Some b) op from ops =
     if takes_last op then list_all (is_settled_end b from) ops else true
 
+-- whether an operation took out one of these values, or is a pending removal
 abbrev pub may_take_end : (ℤ → Bool) → AnyOp → End → Bool
 may_take_end keeps op (Returned at reply) = takes_out keeps op (Some reply)
 may_take_end keeps op Pending = is_removal op
 may_take_end keeps op Failed = false
 
+-- whether another operation than the removal of this number took out one of these values, or may
+-- have, and was not invoked after `at`, where the removal returned
 abbrev pub may_precede_end : (ℤ → Bool) → ℕ → ℕ → Invocation → Bool
 may_precede_end keeps number at o =
     may_take_end keeps o.op o.«end» && not (o.number == number || nat_lt at o.number)
@@ -209,6 +235,8 @@ pub record IsRemoval (ops : List Invocation) (number : ℕ) (op : AnyOp) (at : �
 
 -- ---- cells
 
+-- what an operation becomes if one that returned becomes what `done` says, and a pending one what
+-- `pending` says; `None`: it failed, or the part leaves it out
 abbrev pub recast_end : (AnyOp → AnyReply → Option (AnyOp × AnyReply)) → (AnyOp → Option AnyOp)
     → ℕ → AnyOp → End → Option Invocation
 recast_end done pending number op (Returned at reply) =
@@ -216,6 +244,7 @@ recast_end done pending number op (Returned at reply) =
 recast_end done pending number op Pending = option_map (as_pending number) (pending op)
 recast_end done pending number op Failed = None
 
+-- what an operation becomes in the part at this cell; `None`: it failed, or the part leaves it out
 abbrev pub operation_at : Place → (ℤ → Bool) → ℤ → (ℕ → Bool) → Invocation → Option Invocation
 operation_at place keeps other kept o = recast_end (done_at place keeps other (kept o.number))
     (opened_at place keeps other) o.number o.op o.«end»

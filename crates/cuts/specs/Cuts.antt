@@ -32,14 +32,17 @@ pub record IsPart (whole part : ObjectCalls) : Type 0 where
   pub shows : HasNoValidOrder part.kind (calls_of part.ops)
       → HasNoValidOrder whole.kind (calls_of whole.ops)
 
+-- whether these are all values, and not a set of some
 abbrev pub keeps_all : Values → Bool
 keeps_all which.All = true
 keeps_all (which.Only values) = false
 
+-- whether this value is one of those that are kept
 abbrev pub keeps_value : Values → ℤ → Bool
 keeps_value which.All v = true
 keeps_value (which.Only values) v = contains int_cmp values v
 
+-- whether this number is in the set
 abbrev pub keeps_number : BTreeSet ℕ → ℕ → Bool
 keeps_number numbers n = contains nat_cmp numbers n
 

@@ -3,6 +3,7 @@ use Rattle.std.specs.Prelude.{ℕ, ◌==◌, Bool, List, filter}
 use Rattle.std.specs.List.{list_any}
 use Rattle.model.specs.Orders.{Call}
 
+-- whether a call of the part has this number
 abbrev pub has_number : List Call → ℕ → Bool
 has_number part number = list_any (λ e. e.number == number) part
 

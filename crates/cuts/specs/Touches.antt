@@ -4,5 +4,6 @@ use Rattle.cuts.specs.declared.touches.Need.{Need}
 use Rattle.cuts.specs.declared.touches.Leave.{Leave}
 use Rattle.cuts.specs.declared.touches.Touch.{Touch}
 
+-- what a call does to a cell that needs this of the content before it, and leaves this
 abbrev pub touch : Need → Leave → Touch
 touch need leave = record { need = need; leave = leave }

@@ -42,10 +42,13 @@ use Rattle.desk_invariant.specs.Views.{table_words, table_slots, first_picked, a
 abbrev pub Home : (S O R : Type 0) → Type 0
 Home S O R = maybe.Option (maybe.Option (Slot S O R))
 
+-- the word of an object's lock: 0 while it is free, otherwise 1 more than the number of its holder
 abbrev pub lock_word : Option ℕ → ℕ
 lock_word None = 0
 lock_word (Some c) = 1 + c
 
+-- The word of a client's row, by the stage of its call: it tells the object of a request that is
+-- posted or picked, or that there is an answer. At any other stage it is 0.
 abbrev pub row_word : Stage → ℕ
 row_word absent = 0
 row_word idle = 0
@@ -55,6 +58,7 @@ row_word (picked q) = first_picked + q.object
 row_word (answered q a) = answered_word
 row_word (taken q a) = 0
 
+-- the word of a client's end: 1 if the client has ended, otherwise 0
 abbrev pub end_word : Bool → ℕ
 end_word false = 0
 end_word true = 1
@@ -82,7 +86,7 @@ HeldAgrees n w c (held.Hand x l r q) =
     (x < n) × (w.holder x ≡ Some c) × (w.hand x ≡ Some r) × (w.log x ≡ l) × HoldsOnly w c x
     × (r < max_clients) × (w.stage r ≡ picked q)
 
--- the view of the client c
+-- the view of the client c agrees with the world
 pub record SeatAgrees (kinds : List Kind) (w : World) (c : ℕ) (v : DeskView) : Type 0 where
   pub number : v.number ≡ c
   pub small : c < max_clients
@@ -108,7 +112,7 @@ pub record SeatAgrees (kinds : List Kind) (w : World) (c : ℕ) (v : DeskView) :
 abbrev pub HasLeft : World → Leaving → Type 0
 HasLeft w l = (w.ended l.client ≡ true) × (journal_in w l.client ≡ l.journal)
 
--- any view: a client's, the maker's, or a message
+-- any view, of a client, of the maker or of a message, agrees with the world
 pub record ViewAgrees (kinds : List Kind) (lists : List TableId) (w : World) (seat_of : ℕ → ℕ)
     (j : ℕ)
     (v : DeskView) : Type 0 where
@@ -141,11 +145,13 @@ module _ {S O R : Type 0} (content : S → Content) (op_in : O → AnyOp) (reply
         (map (entry_in op_in reply_in) k.log.items ≡ log)
         × Replays (empty kind) log (content k.object) × (list ≡ some k.list.roster)
 
+-- the core is in its slot, with this log, an object that is what the log leaves, and the walker of
+-- this list
     abbrev pub CoreAt : Kind → maybe.Option TableId → Home S O R → List AnyEntry → Type 0
     CoreAt kind list home log =
         (k : Core S O R) × (home ≡ some (some (slot.Core k))) × CoreFits kind list k log
 
-    -- the slot of a client's request or answer
+-- the slot of a client's request or answer has what the stage of its call says
     abbrev pub CallAt : Home S O R → Stage → Type 0
     CallAt home absent = home ≡ some (some slot.Nothing)
     CallAt home (posted q) =

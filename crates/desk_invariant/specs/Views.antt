@@ -15,35 +15,41 @@ use Rattle.desk_model.specs.World.{entries_of_client}
 use Rattle.desk_model.specs.World.{served, journal_of}
 use Rattle.desk_model.specs.Limits.{max_objects}
 
--- Where the words of the table are: first the locks, by the number of the object, then the rows
--- and the ends of the clients, and the clock last.
+-- The place of the first row among the words of the table. Before it are the locks, by the number
+-- of the object; after the rows are the ends of the clients, and the clock is the last word.
 abbrev pub first_row : ℕ
 first_row = 16
 
+-- the place of the first end of a client among the words of the table, after the rows
 abbrev pub first_end : ℕ
 first_end = 48
 
+-- the place of the row of client c among the words of the table
 abbrev pub row_place : ℕ → ℕ
 row_place c = first_row + c
 
+-- the place of the end of client c among the words of the table
 abbrev pub end_place : ℕ → ℕ
 end_place c = first_end + c
 
+-- the place of the clock, the last word of the table
 abbrev pub clock_place : ℕ
 clock_place = 80
 
--- Where the slots are: first the cores, by the number of the object, then the requests and answers
--- of the clients, and their journals last.
+-- The slot of the request or the answer of client c. Before these slots are the cores, by the
+-- number of the object.
 abbrev pub call_slot : ℕ → ℕ
 call_slot c = first_row + c
 
+-- the slot of the journal of client c, after those of the requests and answers
 abbrev pub journal_slot : ℕ → ℕ
 journal_slot c = first_end + c
 
--- how many words the table has, and how many slots
+-- how many words the table has
 abbrev pub table_words : ℕ
 table_words = 81
 
+-- how many slots the table has
 abbrev pub table_slots : ℕ
 table_slots = 80
 
@@ -79,10 +85,11 @@ new_client kinds lists c =
       still_there = [];
     }
 
--- the first view is no client's, and makes the clients
+-- the view of the maker of clients, which has made n of them
 abbrev pub maker_of : List Kind → List TableId → ℕ → DeskView
 maker_of kinds lists n = record (new_client kinds lists 0) { role = role.Maker; made = n }
 
+-- the view of the maker of clients, which has made none yet
 abbrev pub first_maker : List Kind → List TableId → DeskView
 first_maker kinds lists = maker_of kinds lists 0
 
@@ -138,6 +145,7 @@ abbrev pub waits_on : ℕ → Own → Bool
 waits_on x (own.Waiting q) = q.object == x
 waits_on x o = false
 
+-- whether a call was posted and its answer was not taken
 abbrev pub is_waiting : Own → Bool
 is_waiting (own.Waiting q) = true
 is_waiting o = false

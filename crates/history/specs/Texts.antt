@@ -38,6 +38,8 @@ IsHistoryTextFault text (Maps f) = SpellsWithFault IsHistoryFaultIn text f
 
 -- ---- the maps so far
 
+-- These forms were read without a fault: this is their number, these are their events, and `seen`
+-- is what is kept of them.
 pub record AreEventsRead (seen : Seen) (number : ℕ) (ds : List Datum) (es : List Event) :
     Type 0 where
   pub kept : IsSeen seen ds
@@ -45,10 +47,11 @@ pub record AreEventsRead (seen : Seen) (number : ℕ) (ds : List Datum) (es : Li
   pub events : es ≡ events_of_forms 0 ds
   pub count : length ds ≡ number
 
--- no fault so far, or what was found
+-- these forms were read without a fault, or this is the fault that was found in them
 abbrev pub AreEventsReadOrFaulty : Option HistoryFault → Seen → ℕ → List Datum → List Event → Type 0
 AreEventsReadOrFaulty None seen number ds es = AreEventsRead seen number ds es
 AreEventsReadOrFaulty (Some f) seen number ds es = IsHistoryFaultIn ds f
 
+-- what the reader has after these forms: their events, and what it keeps of them, or a fault
 abbrev pub IsHistoryReading : Reading → List Datum → Type 0
 IsHistoryReading r ds = AreEventsReadOrFaulty r.fault r.seen r.map ds r.events.items

@@ -47,17 +47,19 @@ abbrev pub LackEach : List (List ℕ) → Entries → Type 0
 LackEach [] es = Unit {0}
 LackEach (k ∷ ks) es = Lacks k es × LackEach ks es
 
--- the keys that come before the last pairs of a map: those of an operation; then also its object,
--- a time, and an index
+-- the keys of an operation: :process, :type, :f and :value
 abbrev pub operation_keys : List (List ℕ)
 operation_keys = codes "process" ∷ codes "type" ∷ codes "f" ∷ codes "value" ∷ []
 
+-- the keys of an operation, and :object
 abbrev pub keys_to_object : List (List ℕ)
 keys_to_object = codes "object" ∷ operation_keys
 
+-- the keys of an operation, :object and :time
 abbrev pub keys_to_time : List (List ℕ)
 keys_to_time = codes "time" ∷ keys_to_object
 
+-- the keys of an operation, :object, :time and :index
 abbrev pub keys_to_index : List (List ℕ)
 keys_to_index = codes "index" ∷ keys_to_time
 

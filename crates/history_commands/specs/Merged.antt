@@ -61,19 +61,22 @@ pub record Answer : Type 0 where
 
 -- ---- the order of findings
 
+-- how bad a finding is: certified 0, undecided 1, refuted 2, malformed 3
 abbrev pub finding_rank : Finding → ℕ
 finding_rank Certified = 0
 finding_rank Undecided = 1
 finding_rank Refuted = 2
 finding_rank Malformed = 3
 
+-- the worse of two findings
 abbrev pub worse : Finding → Finding → Finding
 worse f g = if nat_lt (finding_rank f) (finding_rank g) then g else f
 
--- the worst of these: malformed before refuted, before undecided, before certified
+-- the worst of these findings: malformed before refuted, before undecided, before certified
 abbrev pub worst : List Finding → Finding
 worst fs = fold worse Certified fs
 
+-- the exit status of a merge, by its worst finding
 abbrev pub status_with : Finding → Status
 status_with Certified = ends.Yes
 status_with Undecided = ends.Undecided
@@ -82,7 +85,7 @@ status_with Malformed = ends.Malformed
 
 -- ---- a shard of which nothing is decided
 
--- a line on a shard, as shard 5: too large
+-- a line on a shard, such as `shard 5: too large`
 abbrev pub shard_line : ℕ → List ℕ → List ℕ
 shard_line number said = (codes "shard " ++ (decimal number ++ codes ": ")) ++ said
 
@@ -178,6 +181,7 @@ AnswersShard s a =
 abbrev pub seen_lines : List ObjectLines → List (ℕ × List ℕ)
 seen_lines lines = map (λ l. (l.object, l.text.items)) lines
 
+-- the answer for a shard, apart from how it is in memory
 abbrev pub answer_seen : ShardAnswer → Answer
 answer_seen a =
     record {

@@ -63,7 +63,7 @@ IsReasonsFault r status text =
 abbrev pub reason_object_text : Reason → List ℕ
 reason_object_text reason = codes "object " ++ decimal reason.object
 
--- as 3 of 80: how many calls the part has, of this many
+-- how many calls a part has, and of how many, such as `3 of 80`
 abbrev pub counts_text : ℕ → ObjectCalls → List ℕ
 counts_text whole part =
     decimal (length (calls_of part.ops)) ++ (codes " of " ++ decimal whole)
@@ -99,6 +99,7 @@ refutation_lines es whole limit reason OtherObject =
 abbrev pub call_count_on : List Event → Reason → ℕ
 call_count_on es reason = length (calls_on reason.object (denoted es))
 
+-- the lines of the answers to the reasons, in order
 abbrev pub refutations_text : List Event → ℕ → List Reason → List ReasonAnswer → List ℕ
 refutations_text es limit [] answers = []
 refutations_text es limit (r ∷ rs) [] = []

@@ -27,7 +27,7 @@ use Rattle.history_commands.specs.Outputs.{IsOutput, lines_on, status_on}
 use Rattle.history_commands.specs.declared.status.Status.{Status}
 use Rattle.history_commands.specs.declared.status.Status.TheVariants as ends
 
--- the line of an answer on an object: its certificate, or why it has none
+-- the line of an outcome on an object, after n steps: its certificate, or why it has none
 abbrev pub outcome_line : ℕ → ℕ → CertificateOutcome → List ℕ
 outcome_line x n (found.Found c) = certificate_lines (c ∷ [])
 outcome_line x n Impossible = (codes "; object " ++ decimal x) ++ codes ": impossible\n"
@@ -36,9 +36,11 @@ outcome_line x n OutOfSteps =
 outcome_line x n TooLarge = (codes "; object " ++ decimal x) ++ codes ": too large\n"
 outcome_line x n NoMemory = (codes "; object " ++ decimal x) ++ codes ": out of memory\n"
 
+-- the line of a search's answer on an object: its certificate, or why it has none
 abbrev pub answer_line : ℕ → Search → List ℕ
 answer_line x s = outcome_line x s.steps s.found
 
+-- whether a search excluded all orders
 abbrev pub finds_impossible : CertificateOutcome → Bool
 finds_impossible (found.Found c) = false
 finds_impossible Impossible = true
@@ -46,6 +48,7 @@ finds_impossible OutOfSteps = false
 finds_impossible TooLarge = false
 finds_impossible NoMemory = false
 
+-- whether a search found a certificate
 abbrev pub is_found : CertificateOutcome → Bool
 is_found (found.Found c) = true
 is_found Impossible = false

@@ -18,6 +18,7 @@ use Rattle.history_commands.specs.declared.shard_counts.KindFrom.{KindFrom}
 
 -- ---- one shard
 
+-- whether an event with this action invokes an operation of this kind
 abbrev pub invokes_kind : Kind → Action → Bool
 invokes_kind k (Invoke op) = same_kind k (kind_of op)
 invokes_kind k (Ok r) = false
@@ -39,6 +40,8 @@ pub record Counted : Type 0 where
 abbrev pub kind_in_shard : List Event → Kind → KindFrom
 kind_in_shard es k = record { count = count_of es k; first = first_number es k }
 
+-- what the events of a shard have: how many operations and objects, and how many of each kind with
+-- its first invocation
 abbrev pub counted : List Event → Counted
 counted es =
     record {
@@ -47,9 +50,11 @@ counted es =
       kinds = map (kind_in_shard es) (kinds_in (uses es));
     }
 
+-- what is counted of a shard whose history is not read: nothing
 abbrev pub nothing_counted : Counted
 nothing_counted = record { operations = 0; objects = 0; kinds = [] }
 
+-- the counts, apart from how they are in memory
 abbrev pub seen_counts : Counts → Counted
 seen_counts c =
     record { operations = c.operations; objects = c.objects; kinds = c.kinds.items }
@@ -60,10 +65,11 @@ seen_counts c =
 abbrev pub capped : ℕ → ℕ
 capped n = min n (2 ^ 64 - 1)
 
+-- the sum of one number over the counts of this kind
 abbrev pub sum_for : (KindCount → ℕ) → Kind → List KindFrom → ℕ
 sum_for f k ks = sum_by (λ x. if same_kind k x.count.kind then f x.count else 0) ks
 
--- what there is of one kind in all of these
+-- what there is of one kind in all of these counts
 abbrev pub total_of : List KindFrom → Kind → KindCount
 total_of ks k =
     record {
@@ -72,14 +78,15 @@ total_of ks k =
       operations = capped (sum_for (λ c. c.operations) k ks);
     }
 
--- The numbers in all are the sums of those of each, and what each has of kinds is in one list.
+-- The numbers in all are the sums of those of each shard, and what each has of kinds is in one
+-- list.
 pub record AreAdded (c : Counted) (all : List Counted) : Type 0 where
   pub operations : c.operations ≡ capped (sum_by (λ x. x.operations) all)
   pub objects : c.objects ≡ capped (sum_by (λ x. x.objects) all)
   pub kinds : c.kinds ≡ flat_map (λ x. x.kinds) all
 
--- The counts of a yes are the sums of what each has. The kinds are in the order of their first
--- invocations.
+-- The counts of a yes are the sums of what each shard has. The kinds are in the order of their
+-- first invocations.
 pub record AreSums (s : Summary) (all : List Counted) : Type 0 where
   pub operations : s.operations ≡ capped (sum_by (λ x. x.operations) all)
   pub objects : s.objects ≡ capped (sum_by (λ x. x.objects) all)

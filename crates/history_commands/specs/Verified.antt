@@ -42,7 +42,7 @@ use Rattle.history_commands.specs.declared.status.Status.TheVariants as ends
 
 -- ---- evidence that denotes no claims
 
--- the code of what is wrong with an element; memory that is refused has none
+-- the code of what is wrong with an element; an allocation failure has none
 abbrev pub code_of : ClaimFaultKind → List ℕ
 code_of NotACertificate = codes "K1"
 code_of NotAReason = codes "N1"
@@ -167,6 +167,8 @@ IsVerdictText h e limit (verdict.No r) = ⊥
 IsVerdictText h e limit (verdict.Malformed f) = IsHistoryFault h (Faulty f)
 IsVerdictText h e limit verdict.NoMemory = ⊤
 
+-- the output of a verification of a history's text by the text of its evidence: the lines on
+-- objects without an order, or a verdict
 abbrev pub IsVerificationOutput : List ℕ → List ℕ → ℕ → Status → List ℕ → Type 0
 IsVerificationOutput h e limit status text =
     IsOutput (LacksSomeOrderText h e limit) (IsVerdictText h e limit) status text

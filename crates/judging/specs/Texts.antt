@@ -81,7 +81,8 @@ AreCertificatesSound c =
     × (((place : ℕ) × IsSoundAt place c)
     ⊎ ((ds : List Datum) × Spells ds c × (form : ℕ) × certificate_fault.IsCertSoundAt ds form))
 
--- what stops the reading of a history's text, or of a certificates' text
+-- what stops the reading of a history's text: it is unreadable, its forms have a fault, or an
+-- allocation failed
 abbrev pub IsHistoryFault : List ℕ → TextFailure → Type 0
 IsHistoryFault h (Faulty (HistoryText e)) = IsUnreadable h e
 IsHistoryFault h (Faulty (HistoryMaps f)) = SpellsWithFault history_fault.IsFirstFault h f
@@ -89,6 +90,8 @@ IsHistoryFault h (Faulty (CertificateText e)) = ⊥
 IsHistoryFault h (Faulty (CertificateForms f)) = ⊥
 IsHistoryFault h NoMemory = IsHistorySound h
 
+-- what stops the reading of a text of certificates: it is unreadable, its forms have a fault, or an
+-- allocation failed
 abbrev pub IsCertificatesFault : List ℕ → TextFailure → Type 0
 IsCertificatesFault c (Faulty (HistoryText e)) = ⊥
 IsCertificatesFault c (Faulty (HistoryMaps f)) = ⊥

@@ -71,6 +71,7 @@ pub record IsStepTaken (s : State) (c : ℕ) (w : world.Step) (s' : State) : Typ
   pub clients : clients_of s' ≡ clients_of s
   pub quota : s'.quota ≡ s.quota
 
+-- the transition draws a ticket, for a call or for its return
 abbrev pub IsDraw : world.Step → Type 0
 IsDraw (world.draw_call x op) = ⊤
 IsDraw world.draw_return = ⊤

@@ -18,14 +18,14 @@ use Rattle.desk_model.specs.Limits.{max_objects, max_clients, max_calls}
 use Rattle.desk_invariant.specs.Views.{table_slots}
 
 module _ {S O R : Type 0} where
-  -- slot x is the core of object x, with the walker of its list
+-- slot x is the core of object x, with an empty log and the walker of the object's list
   abbrev pub AreCores : List S → List TableId → List (Slot S O R) → Type 0
   AreCores objects lists slots =
       (x : ℕ) (o : S) → get_elem? objects x ≡ some o
       → (k : Core S O R) × (get_elem? slots x ≡ some (slot.Core k)) × (k.object ≡ o)
       × (k.log.items ≡ []) × (get_elem? lists x ≡ some k.list.roster)
 
-  -- and after the objects there is nothing
+-- The slots of a new desk are the cores of its objects, and after them nothing.
   pub record IsLaid (objects : List S) (lists : List TableId) (slots : List (Slot S O R)) : Type 0
     where
       pub long : length slots ≡ table_slots
@@ -37,6 +37,7 @@ module _ {S O R : Type 0} where
 abbrev pub rosters_of : List WalkerSeen → List TableId
 rosters_of walkers = map (λ (w : WalkerSeen). w.roster) walkers
 
+-- these are walkers of these publication lists, in this order
 abbrev pub AreWalkersOf : List TableId → List WalkerSeen → Type 0
 AreWalkersOf lists walkers = rosters_of walkers ≡ lists
 
@@ -44,6 +45,7 @@ AreWalkersOf lists walkers = rosters_of walkers ≡ lists
 abbrev pub AreEmpty : {S : Type 0} → (S → Content) → List S → Type 0
 AreEmpty content objects = All (λ o. content o ≡ empty (kind_with (content o))) objects
 
+-- the kind of each object
 abbrev pub kinds_with : {S : Type 0} → (S → Content) → List S → List Kind
 kinds_with content objects = map (λ o. kind_with (content o)) objects
 
@@ -56,7 +58,7 @@ IsFresh quota calls most outstanding = (calls ≡ 0) × (most ≡ quota) × (out
 abbrev pub HasRoom : {O R : Type 0} → ℕ → Journal O R → Type 0
 HasRoom quota j = IsRoom (quota + quota) j.events
 
--- no more than there may be
+-- the plan has no more objects, clients and calls than a desk can have
 abbrev pub IsSmall : Plan → Type 0
 IsSmall plan =
     (length plan.kinds.items < 1 + max_objects) × (plan.clients < 1 + max_clients)
@@ -68,7 +70,8 @@ abbrev pub HasPlaces : {Z : Type 0} → ℕ → List TableId → Vec PlaceSeen Z
 HasPlaces c lists v =
     (v.items ≡ fresh_places c lists) × (vec_len v ≡ length lists) × (vec_capacity v ≡ max_objects)
 
--- each of n owners has, of whose rows this is the first
+-- These are n owners of rows, and the row of the first has this number. Each has the places of its
+-- row (`HasPlaces`).
 abbrev pub AreDealt : {Z : Type 0} → ℕ → ℕ → List TableId → List (Vec PlaceSeen Z) → Type 0
 AreDealt {Z} first n lists owners =
     (length owners ≡ n)

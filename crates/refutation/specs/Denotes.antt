@@ -28,6 +28,7 @@ pub data KeptValues : Type 0 where
   every : KeptValues
   only : List ℤ → KeptValues
 
+-- a cut, apart from how its sets are in memory: a set is its elements in rising order
 pub data CutSeen : Type 0 where
   from : ℕ → CutSeen
   until : ℕ → CutSeen
@@ -36,15 +37,18 @@ pub data CutSeen : Type 0 where
   cell : KeptValues → ℤ → List ℕ → CutSeen
   entry_cell : ℤ → KeptValues → ℤ → List ℕ → CutSeen
 
+-- a reason, apart from how the sets of its cuts are in memory
 pub record ReasonSeen : Type 0 where
   pub object : ℕ
   pub cuts : List CutSeen
   pub basis : Basis
 
+-- the values that a cut keeps, apart from how their set is in memory
 abbrev pub seen_values : Values → KeptValues
 seen_values All = every
 seen_values (Only s) = only s.keys
 
+-- the cut, apart from how its sets are in memory
 abbrev pub seen_cut : Cut → CutSeen
 seen_cut (From n) = from n
 seen_cut (Until n) = until n
@@ -54,19 +58,23 @@ seen_cut (Cell values other numbers) = cell (seen_values values) other numbers.k
 seen_cut (Entry key values other numbers) =
     entry_cell key (seen_values values) other numbers.keys
 
+-- the reason, apart from how the sets of its cuts are in memory
 abbrev pub reason_seen : Reason → ReasonSeen
 reason_seen r = record { object = r.object; cuts = map seen_cut r.cuts.items; basis = r.basis }
 
 -- ---- numbers and sets
 
--- the number of a map of a history
+-- the greatest number of a map of a history that a reason can have
 abbrev pub max_number : ℕ
 max_number = 4294967295
 
+-- the number, if it is at most 4,294,967,295
 abbrev pub number_within : Option ℕ → Option ℕ
 number_within None = None
 number_within (Some n) = if nat_le n max_number then Some n else None
 
+-- the number of a map that a value is; `None` if there is no value, or it is none from 0 to
+-- 4,294,967,295
 abbrev pub number_in : Option Datum → Option ℕ
 number_in value = number_within (natural_in value)
 
@@ -89,7 +97,7 @@ values_in (Some (atom (keyword k))) = if same_bytes k (codes "all") then Some ev
 values_in (Some (vector ds)) = option_map only (integers_with [] ds)
 values_in other = None
 
--- a vector of numbers; an absent one is empty
+-- the numbers of maps in a vector, in rising order; none if the value is absent
 abbrev pub numbers_in : Option Datum → Option (List ℕ)
 numbers_in None = Some []
 numbers_in (Some (vector ds)) = numbers_with [] ds
@@ -102,41 +110,51 @@ integer_or_absent (Some d) = option_map (λ z. Some z) (integer_in d)
 
 -- ---- cuts
 
--- a register's cell, or that of a key of a map
+-- the cut :cell of a register, or with a key that of one key of a map; `None` if something that it
+-- needs is absent or malformed
 abbrev pub cell_with : Option KeptValues → Option (Option ℤ) → Option ℤ → Option (List ℕ)
     → Option CutSeen
 cell_with (Some vs) (Some None) (Some w) (Some ns) = Some (cell vs w ns)
 cell_with (Some vs) (Some (Some k)) (Some w) (Some ns) = Some (entry_cell k vs w ns)
 cell_with vs k w ns = None
 
+-- the cut :without of this value before this number; `None` if either is absent or malformed
 abbrev pub without_with : Option ℤ → Option ℕ → Option CutSeen
 without_with (Some v) (Some n) = Some (without v n)
 without_with v n = None
 
+-- the cut :keep of these values and numbers; `None` if either is absent or malformed
 abbrev pub keep_with : Option KeptValues → Option (List ℕ) → Option CutSeen
 keep_with (Some vs) (Some ns) = Some (keep vs ns)
 keep_with vs ns = None
 
--- if a key is absent
+-- what a map says with the value under a key (`here`), or without one (`there`)
 abbrev pub or_else : Option Datum → Option CutSeen → Option CutSeen → Option CutSeen
 or_else None here there = there
 or_else (Some d) here there = here
 
+-- the integer that a map has under this key; `None` if there is none
 abbrev pub int_at : List ℕ → Entries → Option ℤ
 int_at key es = option_and_then integer_in (value_at key es)
 
+-- the integer that a map has under this key; `Some None` if the key is absent, and `None` if its
+-- value is no integer
 abbrev pub optional_int_at : List ℕ → Entries → Option (Option ℤ)
 optional_int_at key es = integer_or_absent (value_at key es)
 
+-- the cut of a map with the key :without, which has a value, and the key :before, which has a
+-- number
 abbrev pub without_of : Entries → Option CutSeen
 without_of es =
     without_with (int_at (codes "without") es) (number_in (value_at (codes "before") es))
 
+-- the cut of a map with the key :keep, which has the values, and maybe the key :numbers
 abbrev pub keep_of : Entries → Option CutSeen
 keep_of es =
     keep_with (values_in (value_at (codes "keep") es))
     (numbers_in (value_at (codes "numbers") es))
 
+-- the cut of a map with the keys :cell and :other, and maybe the keys :key and :numbers
 abbrev pub cell_of : Entries → Option CutSeen
 cell_of es =
     cell_with (values_in (value_at (codes "cell") es)) (optional_int_at (codes "key") es)
@@ -153,6 +171,7 @@ cut_of es =
     (or_else (value_at (codes "without") es) (without_of es)
     (or_else (value_at (codes "keep") es) (keep_of es) (cell_of es))))
 
+-- the cut that a form is, if it is one: a map that names a cut
 abbrev pub cut_in : Datum → Option CutSeen
 cut_in (dictionary es) = cut_of es
 cut_in other = None
@@ -162,7 +181,7 @@ abbrev pub cuts_with : List CutSeen → Items → Option (List CutSeen)
 cuts_with cuts no_items = Some cuts
 cuts_with cuts (item d ds) = option_and_then (λ c. cuts_with (cuts ++ c ∷ []) ds) (cut_in d)
 
--- a vector of cuts; an absent one is empty
+-- the cuts in a vector, in order; none if the value is absent
 abbrev pub cuts_in : Option Datum → Option (List CutSeen)
 cuts_in None = Some []
 cuts_in (Some (vector ds)) = cuts_with [] ds
@@ -180,25 +199,30 @@ counted_with (Some None) (Some None) true free = Some counted.Held
 counted_with (Some None) (Some None) false true = Some counted.Free
 counted_with k v held free = None
 
--- from this number on; an absent one is 0
+-- the number from which on a count counts; 0 if the value is absent
 abbrev pub start_number : Option Datum → Option ℕ
 start_number None = Some 0
 start_number (Some d) = number_in (Some d)
 
+-- the count of this content from this number on; `None` if either is absent or malformed
 abbrev pub count_with : Option Counted → Option ℕ → Option Basis
 count_with (Some c) (Some n) = Some (Counting (record { counted = c; from = n }))
 count_with c n = None
 
+-- the content that a map says is counted, by its keys :key, :value, :held and :free
 abbrev pub counted_of : Entries → Option Counted
 counted_of es =
     counted_with (optional_int_at (codes "key") es) (optional_int_at (codes "value") es)
     (is_some (value_at (codes "held") es)) (is_some (value_at (codes "free") es))
 
+-- the count of what was ahead of the removal with the first number, by puts from the second number
+-- on; `None` if either is malformed
 abbrev pub ahead_with : Option ℕ → Option ℕ → Option Basis
 ahead_with (Some number) (Some start) = Some (Ahead number start)
 ahead_with number start = None
 
--- what was ahead of the removal with this number, if there is a value; else what is counted
+-- what was ahead of the removal with this number, if the key :ahead has a value; otherwise the
+-- count of this content
 abbrev pub count_from : Option Datum → Option Counted → Option ℕ → Option Basis
 count_from None what start = count_with what start
 count_from (Some d) what start = ahead_with (number_in (Some d)) start
@@ -222,18 +246,22 @@ abbrev pub steps_in : Option Datum → Option (Option ℕ)
 steps_in None = Some None
 steps_in (Some d) = option_map (λ n. Some n) (number_in (Some d))
 
+-- the search of a part, with this operation tried first and at most this many steps; `None` if
+-- either is malformed
 abbrev pub search_with : Option TryFirst → Option (Option ℕ) → Option Basis
 search_with (Some first) (Some steps) = Some (Search (record { first = first; steps = steps }))
 search_with first steps = None
 
--- how a part is searched
+-- how a part is searched, by the value under :search; with none, the operation with the least
+-- number is tried first
 abbrev pub search_in : Option Datum → Option Basis
 search_in None = search_with (Some LeastNumber) (Some None)
 search_in (Some (dictionary es)) =
     search_with (first_in (value_at (codes "first") es)) (steps_in (value_at (codes "steps") es))
 search_in (Some other) = None
 
--- a count, or without one a search
+-- what shows that a part has no valid order, by the values under :count and :search: a count, or
+-- without one a search
 abbrev pub basis_in : Option Datum → Option Datum → Option Basis
 basis_in None search = search_in search
 basis_in (Some (dictionary es)) search = basis_of es
@@ -241,6 +269,8 @@ basis_in (Some other) search = None
 
 -- ---- reasons
 
+-- the reason with this object, these cuts and this basis; `None` if one of them is absent or
+-- malformed
 abbrev pub reason_with : Option ℕ → Option (List CutSeen) → Option Basis → Option ReasonSeen
 reason_with (Some x) (Some cs) (Some e) = Some (record { object = x; cuts = cs; basis = e })
 reason_with x cs e = None

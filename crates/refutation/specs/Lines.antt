@@ -50,6 +50,7 @@ given_numbers_text (n ∷ ns) = codes ", :numbers [" ++ (naturals_text true (n �
 abbrev pub other_text : ℤ → List ℕ → List ℕ
 other_text other ns = (codes ", :other " ++ signed_decimal other) ++ given_numbers_text ns
 
+-- a cut of a cell, up to the values that it keeps, such as `{:cell [1 2]`
 abbrev pub cell_text : Values → List ℕ
 cell_text vs = codes "{:cell " ++ values_text vs
 
@@ -64,7 +65,7 @@ open_cut_text (Cell vs other ns) = cell_text vs ++ other_text other ns.keys
 open_cut_text (Entry key vs other ns) =
     cell_text vs ++ ((codes ", :key " ++ signed_decimal key) ++ other_text other ns.keys)
 
--- a cut, as {:until 120} or {:keep [1 2], :numbers [4 7]}
+-- the text of a cut, such as `{:until 120}` or `{:keep [1 2], :numbers [4 7]}`
 abbrev pub cut_text : Cut → List ℕ
 cut_text c = open_cut_text c ++ codes "}"
 
@@ -75,6 +76,7 @@ cuts_text first (c ∷ cs) = (between first (codes " ") ++ cut_text c) ++ cuts_t
 
 -- ---- basis
 
+-- the pairs that say what is counted, such as `:key 5, :value 7`
 abbrev pub counted_text : Counted → List ℕ
 counted_text (counted.Value v) = codes ":value " ++ signed_decimal v
 counted_text (counted.Entry k v) =
@@ -83,7 +85,7 @@ counted_text (counted.NoEntry k) = codes ":key " ++ signed_decimal k
 counted_text counted.Held = codes ":held true"
 counted_text counted.Free = codes ":free true"
 
--- the pair :count, as in `, :count {:value 7, :from 0}`
+-- the pair :count, such as `, :count {:value 7, :from 0}`
 abbrev pub count_text : Count → List ℕ
 count_text c =
     codes ", :count {"
@@ -94,7 +96,7 @@ abbrev pub start_text : ℕ → List ℕ
 start_text from =
     if from == 0 then codes "}" else (codes ", :from " ++ decimal from) ++ codes "}"
 
--- the pair :count, as in `, :count {:ahead 1708}` and `, :count {:ahead 40, :from 17}`
+-- the pair :count, such as `, :count {:ahead 1708}` and `, :count {:ahead 40, :from 17}`
 abbrev pub ahead_text : ℕ → ℕ → List ℕ
 ahead_text number from = (codes ", :count {:ahead " ++ decimal number) ++ start_text from
 
@@ -103,8 +105,8 @@ abbrev pub first_text : TryFirst → List ℕ
 first_text LeastNumber = codes ", :search {:first :number, :steps "
 first_text LeastReturn = codes ", :search {:first :return, :steps "
 
--- the pair :search, as in `, :search {:first :return, :steps 20000}`; nothing if it says nothing
--- that would not be so without it
+-- the pair :search, such as `, :search {:first :return, :steps 20000}`; nothing if the search has
+-- the default order and no number of steps
 abbrev pub search_text : TryFirst → Option ℕ → List ℕ
 search_text first (Some n) = (first_text first ++ decimal n) ++ codes "}"
 search_text LeastNumber None = []
@@ -128,10 +130,11 @@ open_reason_text r =
     (codes "{:object " ++ decimal r.object)
     ++ (all_cuts_text r.cuts.items ++ basis_text r.basis)
 
--- the line of a reason, as {:object 0, :cuts [{:until 120}]}
+-- the line of a reason, such as `{:object 0, :cuts [{:until 120}]}`
 abbrev pub reason_line : Reason → List ℕ
 reason_line r = open_reason_text r ++ codes "}\n"
 
+-- the lines of the reasons, in order
 abbrev pub reason_lines : List Reason → List ℕ
 reason_lines [] = []
 reason_lines (r ∷ rs) = reason_line r ++ reason_lines rs
@@ -140,7 +143,7 @@ reason_lines (r ∷ rs) = reason_line r ++ reason_lines rs
 abbrev pub AreReasonsInRange : List Reason → Type 0
 AreReasonsInRange rs = All (λ r. r.object ≤ max_object) rs
 
--- the text is that of some forms, and these denote the reasons
+-- the text spells some forms, and these denote the reasons
 pub record SpellsReasons (rs : List Reason) (bytes : List ℕ) : Type 0 where
   pub forms : List Datum
   pub spelled : Spells forms bytes

@@ -53,11 +53,14 @@ abbrev pub steps_or : Option ℕ → ℕ → ℕ
 steps_or None limit = limit
 steps_or (Some n) limit = n
 
+-- how many steps a search for this basis may take: those that the reason gives, or this limit if it
+-- gives none
 abbrev pub steps_of : Basis → ℕ → ℕ
 steps_of (Search trial) limit = steps_or trial.steps limit
 steps_of (Counting count) limit = limit
 steps_of (Ahead number from) limit = limit
 
+-- the basis is a search, and not a count
 abbrev pub IsSearchBasis : Basis → Type 0
 IsSearchBasis (Search trial) = ⊤
 IsSearchBasis (Counting count) = ⊥
@@ -105,13 +108,15 @@ pub record IsReasonAnswerOn (kind : Kind) (calls : List Call) (reason : Reason)
     (answer : ReasonAnswer) : Type 0 where
   -- it is impossible only if no order of the operations is valid
   pub impossible : shows_impossible answer ≡ true → HasNoValidOrder kind calls
-  -- what is handed out is a part with the calls that the reason names
+  -- the part that is returned has the calls that the reason names
   pub part : IfPart answer (IsNamedPart reason.cuts.items reason.object kind calls)
   -- it is impossible only if the reason's basis shows it of that part, and no order of the
   -- part is valid
   pub shown : IfShownImpossible answer (λ part.
       IsShownBy reason.basis part × PartHasNoValidOrder part)
+  -- if the answer is that nothing is shown, it says why
   pub not_shown : IfNotShown answer (IsWhyNotShown reason.basis)
+  -- the answer is that there is no part only if the cuts name none
   pub no_part : answer ≡ refutation.NoPart → (part : List Call)
       → NamesPart reason.cuts.items calls part → ⊥
 

@@ -27,10 +27,12 @@ pub record AreNumberKeys (ns : List ℕ) : Type 0 where
   pub in_range : AllByRecursion (λ n. n ≤ max_number) ns
   pub rising : IsStrictlySortedBy nat_cmp ns
 
+-- the values that a cut keeps are all, or integers of 64 bits in rising order
 abbrev pub AreTypedValues : Values → Type 0
 AreTypedValues All = Unit {0}
 AreTypedValues (Only s) = AreIntegerKeys s.keys
 
+-- the integers of a cut have 64 bits, its numbers of maps 32, and its sets rise
 abbrev pub IsTypedCut : Cut → Type 0
 IsTypedCut (From n) = n ≤ max_number
 IsTypedCut (Until n) = n ≤ max_number
@@ -40,6 +42,7 @@ IsTypedCut (Cell vs other ns) = AreTypedValues vs × IsInt64 other × AreNumberK
 IsTypedCut (Entry key vs other ns) =
     AreTypedValues vs × IsInt64 key × IsInt64 other × AreNumberKeys ns.keys
 
+-- the key and the value of what is counted have 64 bits
 abbrev pub IsTypedCounted : Counted → Type 0
 IsTypedCounted (counted.Value v) = IsInt64 v
 IsTypedCounted (counted.Entry k v) = IsInt64 k × IsInt64 v
@@ -47,14 +50,17 @@ IsTypedCounted (counted.NoEntry k) = IsInt64 k
 IsTypedCounted counted.Held = Unit {0}
 IsTypedCounted counted.Free = Unit {0}
 
+-- a number of steps, if there is one, has 32 bits
 abbrev pub AreTypedSteps : Option ℕ → Type 0
 AreTypedSteps None = Unit {0}
 AreTypedSteps (Some n) = n ≤ max_number
 
+-- the integers of a basis have 64 bits, and its numbers of maps and of steps 32
 abbrev pub IsTypedBasis : Basis → Type 0
 IsTypedBasis (Search trial) = AreTypedSteps trial.steps
 IsTypedBasis (Counting c) = IsTypedCounted c.counted × (c.from ≤ max_number)
 IsTypedBasis (Ahead number from) = (number ≤ max_number) × (from ≤ max_number)
 
+-- the integers of a reason have 64 bits, its numbers of maps and of steps 32, and its sets rise
 abbrev pub IsTypedReason : Reason → Type 0
 IsTypedReason r = AllByRecursion IsTypedCut r.cuts.items × IsTypedBasis r.basis

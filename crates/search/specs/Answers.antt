@@ -27,7 +27,8 @@ certificate_found OutOfSteps = None
 certificate_found TooLarge = None
 certificate_found NoMemory = None
 
--- what an outcome is for the object with this number
+-- the outcome of a search for an order, as that of a search for a certificate of the object with
+-- this number
 abbrev pub outcome_for : ℕ → OrderOutcome → CertificateOutcome
 outcome_for object (outcome.Found order) = found.Found (record { object = object; order = order })
 outcome_for object outcome.Impossible = Impossible
@@ -35,7 +36,8 @@ outcome_for object outcome.OutOfSteps = OutOfSteps
 outcome_for object outcome.TooLarge = TooLarge
 outcome_for object outcome.NoMemory = NoMemory
 
--- what a search for an order is for that object
+-- the result of a search for an order, as that of a search for a certificate of the object with
+-- this number
 abbrev pub search_for : ℕ → OrderSearch → Search
 search_for object a = record { found = outcome_for object a.outcome; steps = a.steps }
 
@@ -47,6 +49,7 @@ IfFound OutOfSteps P = ⊤
 IfFound TooLarge P = ⊤
 IfFound NoMemory P = ⊤
 
+-- the search found a certificate
 abbrev pub IsFound : Search → Type 0
 IsFound s = IsSome (certificate_found s.found)
 
@@ -69,7 +72,7 @@ pub record IsSoundAnswer (object : ℕ) (kind : Kind) (calls : List Call) (limit
     -- the answer is NoMemory only if some operation returned
     pub memory : s.found ≡ NoMemory → Any (λ call. IsSome call.returned) calls
 
--- what a search that takes on some calls alone may answer
+-- what a search that accepts at most 4,096 calls may answer of the calls of an object
 pub record IsSearchAnswer (object : ℕ) (kind : Kind) (calls : List Call) (limit : ℕ) (s : Search) :
     Type 0
   where

@@ -27,19 +27,21 @@ call_at items k = as_call (get_or items k (record { number = 0; op = some_op; «
 abbrev pub owes : (ℕ → Call) → List ℕ → ℕ → Bool
 owes call done k = is_some (call k).returned && not (list_any (λ j. j == k) done)
 
+-- how many numbers below this one pass the test
 abbrev pub count_below : (ℕ → Bool) → ℕ → ℕ
 count_below f zero = 0
 count_below f (suc k) = if f k then suc (count_below f k) else count_below f k
 
--- no call from place j on was invoked before the floor at j: of all, or of those that returned
+-- No call from place j on was invoked before the number at j. All calls count, or only those that
+-- returned.
 pub record AreFloors (of_all : Bool) (items : List Invocation) (floors : List ℕ) : Type 0 where
   pub long : length floors ≡ length items
   pub below : (j k : ℕ) → j ≤ k → k < length items
       → (of_all ≡ true) ⊎ IsSome (call_at items k).returned
       → get_or floors j 0 ≤ (call_at items k).number
 
--- There are not too many, they are of the kind, and each returned after it was invoked. All below
--- the place `pending` returned.
+-- The operations of a search are not too many, are of the kind, and each that returned did so after
+-- it was invoked. All below the place `pending` returned.
 pub record IsArranged (kind : Kind) (items : List Invocation) (floors return_floors : List ℕ)
     (pending : ℕ) : Type 0 where
   pub few : length items ≤ max_places

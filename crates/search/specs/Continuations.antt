@@ -8,7 +8,7 @@ use Rattle.model.specs.Objects.{Content, next}
 use Rattle.model.specs.Orders.{Call, Return, ReturnsBefore}
 use Rattle.model.specs.Lists.{In}
 
--- the place is one whose call is not done
+-- the place is below n, and its call is not done
 abbrev pub IsLeft : ℕ → List ℕ → ℕ → Type 0
 IsLeft n done k = (k < n) × (In k done → ⊥)
 
@@ -20,29 +20,33 @@ IsCandidate n call done k = (j : ℕ) → IsLeft n done j → j ≢ k → Return
 abbrev pub NoneReturned : (n : ℕ) (call : ℕ → Call) → List ℕ → Type 0
 NoneReturned n call done = (j : ℕ) (r : Return) → IsLeft n done j → (call j).returned ≡ Some r → ⊥
 
--- one call more: it is possible, and its recorded reply, if there is one, is the one that `next`
--- gives
+-- The call at k is possible with the first content, and leaves the second. Its recorded reply, if
+-- there is one, is the one that `next` gives.
 pub record DoesCall (call : ℕ → Call) (k : ℕ) (before after : Content) : Type 0 where
   pub reply : AnyReply
   pub does : next before (call k).op ≡ Some (after, reply)
   pub agrees : (r : Return) → (call k).returned ≡ Some r → r.reply ≡ reply
 
--- From these done, with this content, the places go on to an order of all calls that returned.
+-- From the calls at the places `done`, with this content, the next places go on to an order of all
+-- calls that returned.
 abbrev pub Continues : (n : ℕ) (call : ℕ → Call) → List ℕ → Content → List ℕ → Type 0
 Continues n call done c [] = NoneReturned n call done
 Continues n call done c (k ∷ rest) =
     IsLeft n done k × IsCandidate n call done k × (after : Content) × DoesCall call k c after
     × Continues n call (k ∷ done) after rest
 
--- nothing goes on from here
+-- no order of all calls that returned goes on from the calls at the places `done`, with this
+-- content
 abbrev pub IsDead : (n : ℕ) (call : ℕ → Call) → List ℕ → Content → Type 0
 IsDead n call done c = (rest : List ℕ) → Continues n call done c rest → ⊥
 
--- nothing that begins with k goes on from here
+-- no order of all calls that returned goes on with k from the calls at the places `done`, with this
+-- content
 abbrev pub IsDeadAt : (n : ℕ) (call : ℕ → Call) → List ℕ → Content → ℕ → Type 0
 IsDeadAt n call done c k = (rest : List ℕ) → Continues n call done c (k ∷ rest) → ⊥
 
--- nor anything that begins with a place below `at`
+-- no order of all calls that returned goes on with a place below `at` from the calls at the places
+-- `done`, with this content
 abbrev pub IsTried : (n : ℕ) (call : ℕ → Call) → List ℕ → Content → ℕ → Type 0
 IsTried n call done c at = (k : ℕ) → k < at → IsDeadAt n call done c k
 
@@ -52,7 +56,8 @@ pub record Describes (n : ℕ) (high : ℕ) (not_done : List ℕ) (done : List �
   pub apart : (k : ℕ) → In k not_done → In k done → ⊥
   pub cover : (k : ℕ) → k < n → k < high → (In k not_done → ⊥) → In k done
 
--- a pair of calls done and content from which nothing goes on
+-- a pair of the places that are done and a content, from which no order of all calls that returned
+-- goes on
 pub record IsDeadPair (n : ℕ) (call : ℕ → Call) (high : ℕ) (not_done : List ℕ)
     (c : Content) : Type 0 where
   pub done : List ℕ

@@ -14,15 +14,17 @@ pub record IsStop (n : ℕ) (done : List ℕ) (q : ℕ) : Type 0 where
   pub within : q ≤ n
   pub left : q < n → In q done → ⊥
 
--- the places from one up to another are in the beginning
+-- the places from s on and below q are done
 abbrev pub IsFilledGap : List ℕ → ℕ → ℕ → Type 0
 IsFilledGap done s q = (j : ℕ) → s ≤ j → j < q → In j done
 
+-- q is the first place from s on that is left, or the end
 pub record IsForth (n : ℕ) (done : List ℕ) (s q : ℕ) : Type 0 where
   pub rises : s ≤ q
   pub stop : IsStop n done q
   pub gap : IsFilledGap done s q
 
+-- s is the slot after the last place below q that is left, or slot 0
 pub record IsBack (n : ℕ) (done : List ℕ) (s q : ℕ) : Type 0 where
   pub rises : s ≤ q
   pub slot : IsSlot n done s
@@ -35,16 +37,19 @@ pub record Linked (n : ℕ) (done : List ℕ) (nx pv : List ℕ) : Type 0 where
   pub forth : (s : ℕ) → s ≤ n → IsSlot n done s → IsForth n done s (get_or nx s 0)
   pub back : (q : ℕ) → IsStop n done q → IsBack n done (get_or pv q 0) q
 
--- what take_out and put_back make of the two lists
+-- the links to the next places after `take_out` of place k
 abbrev pub next_without : List ℕ → List ℕ → ℕ → List ℕ
 next_without nx pv k = slice_set nx (get_or pv k 0) (get_or nx (suc k) 0)
 
+-- the links to the previous slots after `take_out` of place k
 abbrev pub before_without : List ℕ → List ℕ → ℕ → List ℕ
 before_without nx pv k = slice_set pv (get_or nx (suc k) 0) (get_or pv k 0)
 
+-- the links to the next places after `put_back` of place k
 abbrev pub next_with : List ℕ → List ℕ → ℕ → List ℕ
 next_with nx pv k = slice_set nx (get_or pv k 0) k
 
+-- the links to the previous slots after `put_back` of place k
 abbrev pub before_with : List ℕ → List ℕ → ℕ → List ℕ
 before_with nx pv k = slice_set pv (get_or nx (suc k) 0) (suc k)
 

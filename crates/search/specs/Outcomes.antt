@@ -5,11 +5,11 @@ use Rattle.search.specs.declared.order_search.OrderOutcome.TheVariants.{Found, I
 use Rattle.search.specs.declared.order_search.OrderOutcome.TheVariants.{OutOfSteps}
 use Rattle.search.specs.declared.order_search.OrderOutcome.TheVariants.{TooLarge, NoMemory}
 
--- the most operations that `find_order` takes on, those that failed apart
+-- the most operations that `find_order` accepts, not counting failed ones
 abbrev pub max_operations : ℕ
 max_operations = 4096
 
--- The most operations that any search takes on, those that failed apart: a place, and the one after
+-- The most operations that any search accepts, not counting failed ones: a place, and the one after
 -- it, are numbers of 32 bits. No history within the limits of its form has as many.
 abbrev pub max_places : ℕ
 max_places = 4294967294

@@ -18,6 +18,7 @@ use Rattle.search.specs.Continuations.{IsDeadAt, IsTried, IsDeadPair}
 use Rattle.search.specs.Links.{Linked, IsStop, AreWithin, next_with, before_with}
 use Rattle.search.specs.Arranged.{no_return}
 
+-- the places of the calls that the levels of a search placed
 abbrev pub places : List Level → List ℕ
 places ls = map (λ l. l.place) ls
 
@@ -47,6 +48,7 @@ abbrev pub befores : List Level → Content → List Content
 befores [] c = []
 befores (l ∷ ls) c = undone l.undo c ∷ befores ls (undone l.undo c)
 
+-- every place that is done is below this number
 abbrev pub IsBound : List ℕ → ℕ → Type 0
 IsBound done high = (k : ℕ) → In k done → k < high
 
@@ -58,7 +60,8 @@ pub record Position : Type 0 where
   pub back : List ℕ
   pub high : ℕ
 
--- how it goes on: the place that it tries next, its window, and how many calls are to return
+-- how a search goes on: the place that it tries next, its window, and how many of the calls that
+-- returned it has still to place
 pub record Turn : Type 0 where
   pub at : ℕ
   pub window : Window
@@ -107,39 +110,45 @@ AreTrials t =
 abbrev pub IsOrder : Trials → List ℕ → Type 0
 IsOrder t rest = Continues (length t.items.items) (call_at t.items.items) [] (empty t.kind) rest
 
--- and none do
+-- no places make an order of all calls that returned, from the empty content
 abbrev pub IsNoOrder : Trials → Type 0
 IsNoOrder t = IsDead (length t.items.items) (call_at t.items.items) [] (empty t.kind)
 
--- if the search is nothing goes on, or nothing that begins with this place
+-- no order of all calls that returned begins with the calls that the search has placed
 abbrev pub IsDeadHere : Trials → State → Type 0
 IsDeadHere t s =
     IsDead (length t.items.items) (call_at t.items.items) (places (reverse s.levels.items))
     (reversible_content s.object)
 
+-- no order of all calls that returned begins with the calls that the search has placed, followed by
+-- the one at place k
 abbrev pub IsDeadAtPlace : Trials → State → ℕ → Type 0
 IsDeadAtPlace t s k =
     IsDeadAt (length t.items.items) (call_at t.items.items) (places (reverse s.levels.items))
     (reversible_content s.object) k
 
--- this many calls returned
+-- this many of the calls returned
 abbrev pub AreOwed : Trials → ℕ → Type 0
 AreOwed t left = left ≡ count_below (owes (call_at t.items.items) []) (length t.items.items)
 
--- each remembered pair is dead
+-- the remembered pair is dead: no order of all calls that returned goes on from its calls and its
+-- content
 abbrev pub IsPairDead : Trials → Pair → Type 0
 IsPairDead t p =
     IsDeadPair (length t.items.items) (call_at t.items.items) p.high p.not_done.items
     (content_kept p.content)
 
+-- each of these remembered pairs is dead: no order goes on from its calls and its content
 abbrev pub AreDead : Trials → List Pair → Type 0
 AreDead t pairs = All (IsPairDead t) pairs
 
--- and so are those of both generations
+-- the remembered pairs of both generations are dead: no order goes on from the calls and the
+-- content of one
 pub record AreAllDead (t : Trials) (d : Dead) : Type 0 where
   pub older : AreDead t d.older.pairs.items
   pub younger : AreDead t d.younger.pairs.items
 
+-- where the search is, if its object has this content
 abbrev pub position_at : State → Content → Position
 position_at s c = record {
   content = c;
@@ -148,6 +157,8 @@ position_at s c = record {
   high = s.high;
 }
 
+-- how the search goes on: the place that it tries next, its window, and how many of the calls that
+-- returned it has still to place
 abbrev pub turn_of : State → Turn
 turn_of s = record { at = s.at; window = s.window; left = s.left }
 
@@ -157,14 +168,15 @@ pub record IsSearchingAt (t : Trials) (s : State) (c : Content) : Type 0 where
       (reverse s.levels.items) (befores (reverse s.levels.items) c) (position_at s c) (turn_of s)
   pub dead : AreAllDead t s.dead
 
+-- the search is between two steps, at the content of its object
 abbrev pub IsSearching : Trials → State → Type 0
 IsSearching t s = IsSearchingAt t s (reversible_content s.object)
 
--- the content before a step that was done
+-- the content that the search's object had before this step
 abbrev pub content_before : State → Step → Content
 content_before s step = undone step.undo (reversible_content s.object)
 
--- the numbers of an order of places that goes on from nothing
+-- these are the numbers of the calls in an order of all calls that returned
 pub record IsOrderOfTrials (t : Trials) (order : List ℤ) : Type 0 where
   pub rest : List ℕ
   pub goes_on : IsOrder t rest

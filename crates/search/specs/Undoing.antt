@@ -20,6 +20,7 @@ use Rattle.search.specs.declared.step.Undo.TheVariants.{PutFirst, SetRegister, S
 use Rattle.search.specs.declared.step.Undo.TheVariants.{SetElement, SetCount, SetOwner}
 use Rattle.search.specs.declared.step.Step.{Step}
 
+-- what an object that can be undone contains
 abbrev pub reversible_content : Reversible → Content
 reversible_content (Queue vs) = queue vs.items
 reversible_content (Stack vs) = stack vs.items
@@ -31,13 +32,14 @@ reversible_content (Set s) = elements s
 reversible_content (Counter n) = count n
 reversible_content (Lock o) = owner o
 
+-- what an object contained when its content was kept with a remembered pair
 abbrev pub content_kept : Kept → Content
 content_kept (kept.Queue vs) = queue vs.items
 content_kept (kept.Stack vs) = stack vs.items
 content_kept (kept.Heap vs) = heap vs.items
 content_kept (kept.Whole object) = reversible_content object
 
--- the values after something was undone
+-- the values of a queue, a stack or a heap after an operation on it was undone
 abbrev pub values_undone : Undo → List ℤ → List ℤ
 values_undone Nothing vs = vs
 values_undone TakeFirst vs = drop 1 vs
@@ -46,7 +48,7 @@ values_undone (TakeAt k) vs = remove vs k
 values_undone (PutFirst v) vs = v ∷ vs
 values_undone u vs = vs
 
--- the content after something was undone
+-- the content after an operation on it was undone
 abbrev pub undone : Undo → Content → Content
 undone u (queue vs) = queue (values_undone u vs)
 undone u (stack vs) = stack (values_undone u vs)

@@ -36,6 +36,7 @@ pub record IsObjectOfShard (count shard name x : ℕ) : Type 0 where
 abbrev pub FitsAmong : ℕ → Datum → Type 0
 FitsAmong count d = (c : ClientMap) → client_of d ≡ Some c → c.object / most_names < count
 
+-- the map is on no object that does not fit into this many shards
 abbrev pub ObjectFits : ℕ → SpelledMap → Type 0
 ObjectFits count m = FitsAmong count m.form
 
@@ -67,5 +68,7 @@ pub record IsDivided (shard_of name : ℕ → ℕ) (whole : List ℕ) (files : F
 abbrev pub numbered_by : List ℕ → Event → Event
 numbered_by ns e = record e { number = get_or ns e.number 0 }
 
+-- each event with the number that is in its place of the list: those of a shard's text get the
+-- numbers that their maps have in the whole
 abbrev pub with_numbers : List ℕ → List Event → List Event
 with_numbers ns es = map (numbered_by ns) es

@@ -23,10 +23,11 @@ pub record AreRenumbered (es others : List Event) : Type 0 where
   pub same : map said others ≡ map said es
   pub rising : AllPairs (λ a b. a.number < b.number) others
 
--- the same events, if each object has another name: a text names objects by small numbers
+-- the event, with another name for its object: a text names objects by small numbers
 abbrev pub renamed_event : (ℕ → ℕ) → Event → Event
 renamed_event name e = record e { object = name e.object }
 
+-- the events, with another name for each object: a text names objects by small numbers
 abbrev pub renamed : (ℕ → ℕ) → List Event → List Event
 renamed name es = map (renamed_event name) es
 

@@ -48,6 +48,8 @@ pub record BeginsWith (text : List ℕ) (left : Option (List ℕ)) (Found : List
   pub spelled : Spells forms piece
   pub found : Found forms
 
+-- The text begins with a piece that spells forms, and this is their first fault, or the first form
+-- that is too many.
 abbrev pub HasMapFault : List ℕ → Option (List ℕ) → HistoryFault → Type 0
 HasMapFault text left f = BeginsWith text left (λ ds. IsFoundAmong ds f)
 

@@ -34,9 +34,11 @@ pub record Flushes (shard : ℕ) (old new : Waiting) (files files_after : Option
 
 -- ---- what waits of each shard
 
+-- the lines of shard s's text that wait to be written
 abbrev pub waiting_maps : List Waiting → ℕ → List ℕ
 waiting_maps ws s = get_or (map (λ w. w.maps.items) ws) s []
 
+-- the lines of shard s's table that wait to be written
 abbrev pub waiting_places : List Waiting → ℕ → List ℕ
 waiting_places ws s = get_or (map (λ w. w.places.items) ws) s []
 
@@ -71,6 +73,7 @@ pub record AddsMap (count : ℕ) (d : Datum) (object place : ℕ) (old new : Lis
 
 -- ---- the maps that were taken
 
+-- the forms of the maps
 abbrev pub forms_of : List SpelledMap → List Datum
 forms_of maps = map (λ m. m.form) maps
 
@@ -137,6 +140,7 @@ IsMapFoundAmong count ds (Malformed (Text e)) = ⊥
 IsMapFoundAmong count ds (Malformed (Maps f)) = f.kind ≢ history_kind.NoMemory → IsFoundAmong ds f
 IsMapFoundAmong count ds (FewShards x) = NeedsMoreShards count ds x
 
+-- the fault is that a piece is unreadable, and not one of its maps
 abbrev pub IsOfPiece : PieceFault → Type 0
 IsOfPiece (Malformed (Text e)) = ⊤
 IsOfPiece (Malformed (Maps f)) = ⊥

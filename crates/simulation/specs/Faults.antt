@@ -23,12 +23,15 @@ pub record IsNoStepAt (ds : List Datum) (place : ℕ) : Type 0 where
   pub steps : All (λ d. step_of d ≢ None) earlier
   pub none : step_of form ≡ None
 
--- Of the same forms, those up to this one and with it are steps.
+-- Of the forms after the header, with the numbers from 1 on, those up to this one and with it are
+-- steps.
 pub record AreStepsTo (ds : List Datum) (place : ℕ) : Type 0 where
   pub after_header : 0 < place
   pub there : place ≤ length ds
   pub steps : All (λ d. step_of d ≢ None) (take place ds)
 
+-- This is wrong at this form after the header, with the numbers from 1 on: it is the first that is
+-- no step. An allocation failure is at a form up to which all are steps.
 abbrev pub StepFaultIs : List Datum → ScheduleFaultKind → ℕ → Type 0
 StepFaultIs ds NoHeader n = ⊥
 StepFaultIs ds NotAStep n = IsNoStepAt ds n

@@ -35,12 +35,14 @@ client_at key es = number_at key 0 (max_clients - 1) es
 
 -- ---- the header
 
+-- the header of these kinds, and of this many objects, clients and calls of each client; `None` if
+-- one is absent or malformed
 abbrev pub header_with : Option Kinds → Option ℕ → Option ℕ → Option ℕ → Option Header
 header_with (Some k) (Some n) (Some c) (Some q) =
     Some (record { kinds = k; objects = n; clients = c; quota = q })
 header_with k n c q = None
 
--- what a machine can be made of
+-- a machine can be made of as many objects, clients and calls as the header says
 pub record IsWithin (h : Header) : Type 0 where
   pub objects : (0 < h.objects) × (h.objects ≤ max_objects)
   pub clients : (0 < h.clients) × (h.clients ≤ max_clients)
@@ -59,6 +61,7 @@ header_of (dictionary es) =
 
 -- ---- steps
 
+-- a step of a machine, on an object of any kind
 abbrev pub AnyStep : Type 0
 AnyStep = Step AnyOp
 
@@ -68,6 +71,7 @@ op_named k es =
     option_and_then (λ f. option_and_then (op_with f)
     (plain_value (value_in (value_at (codes "value") es)))) (function_named k)
 
+-- the draw of a call of this operation on this object; `None` if either is absent or malformed
 abbrev pub call_with : Option ℕ → Option AnyOp → Option AnyStep
 call_with (Some x) (Some op) = Some (Draw (Some (x, op)))
 call_with x op = None
@@ -79,6 +83,8 @@ draw_with (Some d) es =
     call_with (object_of_step es)
     (option_and_then (λ k. op_named k es) (keyword_in (Some d)))
 
+-- the step with this name, and with what the map says under other keys; `None` if there is no such
+-- step
 abbrev pub step_named : List ℕ → Entries → Option AnyStep
 step_named k es =
     if same_bytes k (codes "draw") then draw_with (value_at (codes "f") es) es
@@ -92,6 +98,7 @@ step_named k es =
     else if same_bytes k (codes "end") then Some End
     else None
 
+-- the step of this client; `None` if either is absent or malformed
 abbrev pub step_with : Option ℕ → Option AnyStep → Option (ℕ × AnyStep)
 step_with (Some c) (Some s) = Some (c, s)
 step_with c s = None

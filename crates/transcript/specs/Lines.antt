@@ -39,6 +39,8 @@ event_of_journal c x (Returned u a) = record {
       action_of a;
 }
 
+-- the line of an event in the journal of client c, with the call that the event belongs to; none
+-- without a call
 abbrev pub line_with : ℕ → AnyEvent → Option Call → List Line
 line_with c e None = []
 line_with c e (Some q) = record { event = event_of_journal c q.object e; op = q.op } ∷ []
@@ -49,6 +51,7 @@ journal_lines_from c last [] = []
 journal_lines_from c last (e ∷ es) =
     line_with c e (call_after last e) ++ journal_lines_from c (call_after last e) es
 
+-- the lines of the journal of client c
 abbrev pub journal_lines : ℕ → List AnyEvent → List Line
 journal_lines c journal = journal_lines_from c None journal
 
@@ -62,6 +65,7 @@ pub record AreLinesOf (journals : ℕ → List AnyEvent) (ls : List Line) : Type
   pub rising : AllPairs (λ a b. a.event.number < b.event.number) ls
   pub each : (c : ℕ) → filter (λ l. l.event.process == c) ls ≡ journal_lines c (journals c)
 
+-- the client events of the lines
 abbrev pub events_in : List Line → List Event
 events_in ls = map (λ l. l.event) ls
 
@@ -91,7 +95,7 @@ map_value op (Ok r) = reply_value r
 map_value op Fail = op_value op
 map_value op Info = op_value op
 
--- as {:process 0, :type :invoke, :f :enqueue, :value 1, :object 0}
+-- the form of a line, such as `{:process 0, :type :invoke, :f :enqueue, :value 1, :object 0}`
 abbrev pub form_of : Line → Datum
 form_of l = dictionary
     (entry (codes "process") (atom (integer (pos l.event.process)))
@@ -100,6 +104,6 @@ form_of l = dictionary
     (entry (codes "value") (value_form (map_value l.op l.event.action))
     (entry (codes "object") (atom (integer (pos l.event.object))) no_entries)))))
 
--- each line is the text of its form and a line feed
+-- the text of the lines: of each its form and a line feed
 abbrev pub history_text : List Line → List ℕ
 history_text ls = edn.form_lines (map form_of ls)

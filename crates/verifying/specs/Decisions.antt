@@ -28,6 +28,7 @@ use Rattle.verifying.specs.declared.decision.Decision.TheVariants.{NoMemory, Ope
 
 -- ---- the cases
 
+-- the certificate, if the decision is an order
 abbrev pub certificate_decided : Decision → Option Certificate
 certificate_decided (Order c) = Some c
 certificate_decided (Impossible f) = None
@@ -59,6 +60,7 @@ IfOutOfSteps (OutOfSteps n) P = P n
 IfOutOfSteps NoMemory P = ⊤
 IfOutOfSteps Open P = ⊤
 
+-- whether the decision is an order
 abbrev pub is_order : Decision → Bool
 is_order (Order c) = true
 is_order (Impossible f) = false
@@ -66,6 +68,7 @@ is_order (OutOfSteps n) = false
 is_order NoMemory = false
 is_order Open = false
 
+-- whether the decision is that no order is valid
 abbrev pub is_impossible : Decision → Bool
 is_impossible (Order c) = false
 is_impossible (Impossible f) = true
@@ -73,6 +76,7 @@ is_impossible (OutOfSteps n) = false
 is_impossible NoMemory = false
 is_impossible Open = false
 
+-- whether the decision is that the object is open
 abbrev pub is_open : Decision → Bool
 is_open (Order c) = false
 is_open (Impossible f) = false
@@ -95,11 +99,12 @@ abbrev pub AsksForSearch : Claim → Type 0
 AsksForSearch (claim.Order c) = ⊥
 AsksForSearch (claim.Reason r _) = (r.cuts.items ≡ []) × IsSearchBasis r.basis
 
--- the order is claimed, or a search of the whole object is asked for
+-- the claim is this order, or asks for a search of the whole object, which can find it
 abbrev pub IsSourceOf : Certificate → Claim → Type 0
 IsSourceOf c e = (e ≡ claim.Order c) ⊎ AsksForSearch e
 
--- a search of at most this many steps is asked for, of a part or of the whole
+-- the claim asks for a search, of a part or of the whole, that takes at most `n` steps: as many as
+-- its reason says, or else the limit
 abbrev pub AsksForSearchWithin : ℕ → ℕ → Claim → Type 0
 AsksForSearchWithin limit n (claim.Order c) = ⊥
 AsksForSearchWithin limit n (claim.Reason r _) = IsSearchBasis r.basis
@@ -150,12 +155,18 @@ pub record IsShownReason (x : ℕ) (kind : Kind) (calls : List Call) (f : ShownR
 -- what is decided of an object by one claim on it
 pub record IsClaimAnswer (x : ℕ) (kind : Kind) (calls : List Call) (limit : ℕ) (e : Claim)
     (d : Decision) : Type 0 where
+  -- the order is valid, and is claimed, or found by the search for which the claim asks
   pub order : IfOrder d (λ c. IsCertificateOf x kind calls c × IsSourceOf c e)
+  -- the reason is claimed, and shows that no order is valid
   pub impossible : IfImpossible d (λ f.
       IsShownReason x kind calls f × (e ≡ claim.Reason f.reason f.note))
+  -- the claim asks for a search with this limit (no clause says that it took the steps)
   pub out_of_steps : IfOutOfSteps d (λ n. AsksForSearchWithin limit n e)
+  -- a search ran out of memory only if the claim asks for one
   pub memory : d ≡ NoMemory → AsksForAnySearch e
+  -- if nothing is shown, the claim is not true, or asks for a search
   pub unshown : is_shown d ≡ false → IsUntrue kind calls e ⊎ AsksForAnySearch e
+  -- the object is open only if the claim is not true
   pub refused : d ≡ Open → IsUntrue kind calls e
 
 -- What is decided of an object, with its kind and calls, by claims, if a search for which none

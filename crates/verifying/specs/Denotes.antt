@@ -21,21 +21,24 @@ pub data ClaimSeen : Type 0 where
   order : Reading → ClaimSeen
   reason : ReasonSeen → Option (List ℕ) → ClaimSeen
 
+-- the claim, apart from how it is in memory
 abbrev pub claim_seen : Claim → ClaimSeen
 claim_seen (claim.Order c) = order (reading_of c)
 claim_seen (claim.Reason r note) = reason (reasons.reason_seen r) (option_map (λ v. v.items) note)
 
+-- the object that the claim is on
 abbrev pub claim_object : Claim → ℕ
 claim_object (claim.Order c) = c.object
 claim_object (claim.Reason r _) = r.object
 
 -- ---- forms
 
+-- whether a form is a map with the key :order; then it claims an order, and otherwise a reason
 abbrev pub names_order : Datum → Bool
 names_order (dictionary es) = is_some (value_at (codes "order") es)
 names_order other = false
 
--- a character of ASCII, and no control character
+-- whether a byte is a character of ASCII, and no control character
 abbrev pub is_printed : ℕ → Bool
 is_printed byte = nat_le 32 byte && nat_lt byte 127
 
@@ -64,26 +67,30 @@ abbrev pub is_one_kind : Option Kinds → Bool
 is_one_kind (Some (One kind)) = true
 is_one_kind other = false
 
+-- whether a byte is a colon
 abbrev pub is_colon : ℕ → Bool
 is_colon byte = byte == 58
 
--- Whether a text begins as the line of a kind does, such as queue: 1 objects, 2 operations. What is
--- before the first colon is the name of a kind, and what is after it begins with a space.
+-- Whether a text begins as the line of a kind does, such as `queue: 1 objects, 2 operations`. What
+-- is before the first colon is the name of a kind, and what is after it begins with a space.
 abbrev pub begins_like_a_kind : List ℕ → Bool
 begins_like_a_kind s =
     is_one_kind (kinds_named (before_first is_colon s))
     && starts_with nat_eq (after_first is_colon s) (codes " ")
 
--- a sentence: printed characters that cannot be taken for a line that is proved
+-- whether a text may be the sentence of a reason: it has printed characters alone, and cannot be
+-- taken for a line that is proved
 abbrev pub is_sentence : List ℕ → Bool
 is_sentence s =
     list_all (λ b. is_printed b) s && not (begins_like_a_line s) && not (begins_like_a_kind s)
 
--- any other value is no sentence
+-- the sentence that the value under :note is; `None` if there is none, or it is not a string that
+-- may be a sentence
 abbrev pub note_in : Option Datum → Option (List ℕ)
 note_in (Some (atom (string s))) = if is_sentence s then Some s else None
 note_in other = None
 
+-- the sentence of a reason that a form has under :note, if it has one
 abbrev pub note_of : Datum → Option (List ℕ)
 note_of (dictionary es) = note_in (value_at (codes "note") es)
 note_of other = None

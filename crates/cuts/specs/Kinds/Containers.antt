@@ -16,6 +16,7 @@ put_value op = None
 abbrev pub puts_in : (ℤ → Bool) → AnyOp → Bool
 puts_in keeps op = option_map_or keeps (put_value op) false
 
+-- whether an operation takes a value out of a queue, a stack or a heap
 abbrev pub is_removal : AnyOp → Bool
 is_removal Dequeue = true
 is_removal Pop = true

@@ -11,6 +11,7 @@ use Rattle.model.specs.declared.AnyOp.TheVariants.{FetchAdd, GetCount, LockBy, U
 use Rattle.model.specs.declared.AnyReply.{AnyReply}
 use Rattle.model.specs.declared.AnyReply.TheVariants.{Value, Swapped, NotSwapped, Flag}
 
+-- whether both are true, or neither is
 abbrev pub is_same : Bool → Bool → Bool
 is_same a b = if a then b else not b
 
