@@ -128,7 +128,7 @@ def object_is_out_of_memory(whole, ran):
 
 
 def is_out_of_memory(command, whole, ran):
-    """Whether a run ended in the way in which its command says that memory was refused."""
+    """Whether a run ended in the way in which its command says that an allocation failed."""
     if (ran.status, ran.out) == (NO_MEMORY, OUT):
         return True
     if command == "search":

@@ -6,10 +6,11 @@ use Rattle.model.specs.Orders.{Return}
 use Rattle.events.specs.declared.operations.End.{End}
 use Rattle.events.specs.Operations.{return_of}
 
--- the operation returned, before the number was reached
+-- the operation returned before this number
 abbrev pub IsLate : End → ℕ → Type 0
 IsLate e by = (r : Return) × (return_of e ≡ Some r) × (r.at < by)
 
+-- the operation did not return before this number, if a number is given
 abbrev pub IsEarly : End → Option ℕ → Type 0
 IsEarly e greatest = (r : Return) (by : ℕ) → return_of e ≡ Some r → greatest ≡ Some by → by ≤ r.at
 

@@ -15,14 +15,15 @@ pub record Work : Type 0 where
   pub kinds : List Kind
   pub calls : List (List WorkCall)
 
+-- the calls of client c, in order
 abbrev pub calls_at : Work → ℕ → List WorkCall
 calls_at w c = slice_index_or w.calls c []
 
--- the object is there, and the operation is of its kind
+-- the object of the call is there, and the operation is of its kind
 abbrev pub IsCall : List Kind → WorkCall → Type 0
 IsCall kinds c = (c.0 < length kinds) × (kind_of c.1 ≡ kind_at kinds c.0)
 
--- a desk can be made for it
+-- a desk can be made for these objects and these calls of clients
 pub record IsWorkload (w : Work) : Type 0 where
   pub objects : 0 < length w.kinds
   pub few_objects : length w.kinds < 1 + max_objects

@@ -67,14 +67,17 @@ IsTried p t =
 abbrev pub HasLearnt : ℕ → DeskView → DeskView → Type 0
 HasLearnt x v w = w ≡ after_release x (seen_of w x) (after_win x (seen_of w x) v)
 
+-- if a try to combine won the object and made a pass, this holds
 abbrev pub IfServed : Combined → Type 0 → Type 0
 IfServed (combined.Served pass count) P = P
 IfServed c P = ⊤
 
+-- if a try to combine found the object held, this holds
 abbrev pub IfBusy : Combined → Type 0 → Type 0
 IfBusy combined.Busy P = P
 IfBusy c P = ⊤
 
+-- if an allocation for the log failed in a try to combine, this holds
 abbrev pub IfNoMemory : Combined → Type 0 → Type 0
 IfNoMemory combined.NoMemory P = P
 IfNoMemory c P = ⊤

@@ -18,24 +18,24 @@ use std::collections::BTreeSet;
 /// How a part is cut out of an object's history.
 #[derive(Drop)]
 pub enum Cut {
-    /// What can take effect from the call with this number on: see [`from`].
+    /// What can take effect from the call with this number on: see [`suffix_from`].
     From(u32),
     /// What was invoked before this number, pending if it had not returned by then: see
-    /// [`until`].
+    /// [`prefix_until`].
     Until(u32),
     /// All except what was done with this value before this number, if it definitely was not in:
-    /// see [`without`].
+    /// see [`part_without`].
     Without {
         value: i64,
         before: u32,
     },
-    /// The operations with these numbers, which keep these values, or keys: see [`keep`].
+    /// The operations with these numbers, which keep these values, or keys: see [`closed_part`].
     Keep {
         values: Values,
         numbers: BTreeSet<u32>,
     },
     /// A register's operations that can leave one of these values, and of the others those with
-    /// these numbers, with one other value in place of all others: see [`cell`].
+    /// these numbers, with one other value in place of all others: see [`cell_part`].
     Cell {
         values: Values,
         other: i64,
@@ -43,7 +43,7 @@ pub enum Cut {
     },
     /// A map's operations on one key, as a register: those that can leave one of these values, and
     /// of the others those with these numbers, with one other value in place of no value and of all
-    /// others: see [`entry`].
+    /// others: see [`entry_part`].
     Entry {
         key: i64,
         values: Values,

@@ -29,15 +29,15 @@ use Rattle.desk_model.specs.Limits.{max_objects}
 
 module _ {S O R : Type 0} (content : S → Content) (op_in : O → AnyOp) (reply_in : R → AnyReply)
   where
--- a client as a step sees it: what it knows, and the slots that it has taken out of the table
+    -- a client as a step sees it: what it knows, and the slots that it has taken out of the table
     abbrev pub Hands : Type 0
     Hands = Me (Slot S O R) DeskView
 
--- what the client knows
+    -- what the client knows
     abbrev pub known : Hands → DeskView
     known hands = hands.0
 
--- the slots that the client has taken out of the table
+    -- the slots that the client has taken out of the table
     abbrev pub taken_slots : Hands → List (ℕ × Slot S O R)
     taken_slots hands = hands.1
 
@@ -125,7 +125,7 @@ module _ {S O R : Type 0} (content : S → Content) (op_in : O → AnyOp) (reply
           taken_slots before,
         )
 
--- the drawn request went into the row of its client, which waits for the answer
+    -- the drawn request went into the row of its client, which waits for the answer
     abbrev pub posts : Step (Slot S O R) → Hands → ℕ → Hands → Type 0
     posts step before found after =
         (q : AnyRequest) → (known before).own ≡ own.Drawn q

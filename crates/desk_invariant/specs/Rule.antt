@@ -145,13 +145,13 @@ module _ {S O R : Type 0} (content : S → Content) (op_in : O → AnyOp) (reply
         (map (entry_in op_in reply_in) k.log.items ≡ log)
         × Replays (empty kind) log (content k.object) × (list ≡ some k.list.roster)
 
--- the core is in its slot, with this log, an object that is what the log leaves, and the walker of
--- this list
+    -- the core is in its slot, with this log, an object that is what the log leaves, and the walker
+    -- of this list
     abbrev pub CoreAt : Kind → maybe.Option TableId → Home S O R → List AnyEntry → Type 0
     CoreAt kind list home log =
         (k : Core S O R) × (home ≡ some (some (slot.Core k))) × CoreFits kind list k log
 
--- the slot of a client's request or answer has what the stage of its call says
+    -- the slot of a client's request or answer has what the stage of its call says
     abbrev pub CallAt : Home S O R → Stage → Type 0
     CallAt home absent = home ≡ some (some slot.Nothing)
     CallAt home (posted q) =

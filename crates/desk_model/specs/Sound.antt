@@ -44,6 +44,8 @@ pub record SoundJournals (kinds : List Kind) (w : World) : Type 0 where
   -- a client that has not come has done nothing
   pub not_come : (c : ℕ) → w.stage c ≡ absent → w.done c ≡ []
 
+-- What holds of the world of a desk or a machine with objects of these kinds, and this quota of
+-- calls for each client.
 pub record Sound (kinds : List Kind) (quota : ℕ) (w : World) : Type 0 where
   -- each log is legal
   pub legal : (x : ℕ) → IsLegalLog (kind_at kinds x) (w.log x)

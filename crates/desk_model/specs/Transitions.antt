@@ -14,7 +14,7 @@ use Rattle.desk_model.specs.Limits.{max_clients}
 unfoldable pub changed : {A : Type 0} → (ℕ → A) → ℕ → A → ℕ → A
 changed f i v j = if j == i then v else f j
 
--- What the transitions change. The client c goes to the stage t.
+-- the client c goes to the stage t
 abbrev pub staged : World → ℕ → Stage → World
 staged w c t = record w { stage = changed w.stage c t }
 
@@ -36,9 +36,11 @@ abbrev pub served_by : World → ℕ → ℕ → AnyRequest → AnyAnswer → Wo
 served_by w x r q a =
     record (handed w x None r (answered q a)) { log = changed w.log x (w.log x ++ logged r q a) }
 
+-- the client c has ended
 abbrev pub ended_by : World → ℕ → World
 ended_by w c = record w { ended = changed w.ended c true }
 
+-- a step of a client
 pub data Step : Type 0 where
   -- draw the ticket of a call on an object, or of a return
   draw_call : ℕ → AnyOp → Step
@@ -52,6 +54,7 @@ pub data Step : Type 0 where
   release : Step
   end : Step
 
+-- the client c holds no object
 abbrev pub HoldsNothing : World → ℕ → Type 0
 HoldsNothing w c = (x : ℕ) → w.holder x ≢ Some c
 

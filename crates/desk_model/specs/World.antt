@@ -17,19 +17,23 @@ use Rattle.desk_model.specs.declared.JournalEvent.{JournalEvent}
 use Rattle.desk_model.specs.declared.JournalEvent.TheVariants.{Invoked, Returned}
 use Rattle.desk_model.specs.declared.DoneCall.{DoneCall}
 
--- the world speaks of operations and replies of all kinds
+-- an entry of a log, with an operation and a reply of any kind
 abbrev pub AnyEntry : Type 0
 AnyEntry = LogEntry AnyOp AnyReply
 
+-- a request with an operation of any kind
 abbrev pub AnyRequest : Type 0
 AnyRequest = Request AnyOp
 
+-- an answer with a reply of any kind
 abbrev pub AnyAnswer : Type 0
 AnyAnswer = Answer AnyReply
 
+-- an event of a journal, with an operation or a reply of any kind
 abbrev pub AnyEvent : Type 0
 AnyEvent = JournalEvent AnyOp AnyReply
 
+-- a call that is over, with an operation and a reply of any kind
 abbrev pub AnyDone : Type 0
 AnyDone = DoneCall AnyOp AnyReply
 
@@ -49,6 +53,8 @@ pub data Stage : Type 0 where
   -- the client has the answer, and has not yet drawn the ticket of the return
   taken : AnyRequest → AnyAnswer → Stage
 
+-- The desk or the machine as plain data: the clock, and what there is of each object and of each
+-- client, by number.
 pub record World : Type 0 where
   -- the next ticket
   pub clock : ℕ
@@ -56,10 +62,13 @@ pub record World : Type 0 where
   pub holder : ℕ → Option ℕ
   -- the row that the holder has picked up, and not yet answered or put back
   pub hand : ℕ → Option ℕ
+  -- what the object has served, in order
   pub log : ℕ → List AnyEntry
+  -- how far the client's call has come
   pub stage : ℕ → Stage
   -- the calls that are over, in order
   pub done : ℕ → List AnyDone
+  -- whether the client has ended
   pub ended : ℕ → Bool
 
 -- at the start no ticket was drawn, and no client has come
@@ -84,7 +93,8 @@ abbrev pub logged : ℕ → AnyRequest → AnyAnswer → List AnyEntry
 logged c q (Reply r) = record { client = c; ticket = q.ticket; op = q.op; reply = r } ∷ []
 logged c q Refused = []
 
--- what it puts into the log of the object x
+-- what an answer to a request of this client puts into the log of the object x: nothing if the
+-- request is for another object
 abbrev pub logged_on : ℕ → ℕ → AnyRequest → AnyAnswer → List AnyEntry
 logged_on x c q a = if q.object == x then logged c q a else []
 
@@ -105,7 +115,7 @@ served_now x c (answered q a) = logged_on x c q a
 served_now x c (taken q a) = logged_on x c q a
 served_now x c t = []
 
--- the call that is not over
+-- the request of the call that is not over
 abbrev pub request_of : Stage → Option AnyRequest
 request_of absent = None
 request_of idle = None
@@ -115,7 +125,7 @@ request_of (picked q) = Some q
 request_of (answered q a) = Some q
 request_of (taken q a) = Some q
 
--- how many calls that are: one or none
+-- how many calls of a client are not over: one or none
 abbrev pub under_way : Option AnyRequest → ℕ
 under_way None = 0
 under_way (Some q) = 1
@@ -124,10 +134,11 @@ under_way (Some q) = 1
 abbrev pub calls_made : List AnyDone → Option AnyRequest → ℕ
 calls_made ds q = length ds + under_way q
 
--- how many tickets it has drawn: two for a call that is over, one for another
+-- how many tickets a client has drawn: two for each call that is over, one for the call that is not
 abbrev pub tickets_drawn : List AnyDone → Option AnyRequest → ℕ
 tickets_drawn ds q = length ds + length ds + under_way q
 
+-- the invocation of a request, as an event of a journal
 abbrev pub invoked : AnyRequest → AnyEvent
 invoked q = Invoked q.ticket q.object q.op
 
@@ -138,9 +149,11 @@ journal_of [] None = []
 journal_of [] (Some q) = invoked q ∷ []
 journal_of (d ∷ ds) q = invoked d.request ∷ Returned d.returned d.answer ∷ journal_of ds q
 
+-- the journal of client c in this world
 abbrev pub journal_in : World → ℕ → List AnyEvent
 journal_in w c = journal_of (w.done c) (request_of (w.stage c))
 
+-- the ticket of an event of a journal
 abbrev pub ticket_of : AnyEvent → ℕ
 ticket_of (Invoked t x op) = t
 ticket_of (Returned t a) = t

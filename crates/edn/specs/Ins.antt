@@ -4,17 +4,19 @@ use Rattle.std.specs.declared.io.ErrorKind.{ErrorKind}
 use Rattle.std.specs.declared.io.ErrorKind.TheVariants.{OutOfMemory}
 use Rattle.edn.specs.declared.source.In.{In}
 
+-- the supply from which a source takes its bytes
 abbrev pub supply_of : {D : Type 0} → In D → D
 supply_of source = source.supply
 
--- the kind of the error for which it failed
+-- the kind of the error for which the source failed, if it failed
 abbrev pub failure_in : {D : Type 0} → In D → Option ErrorKind
 failure_in source = source.failure
 
+-- whether the source has failed
 abbrev pub has_failed_in : {D : Type 0} → In D → Bool
 has_failed_in source = is_some (failure_in source)
 
--- an allocation failed
+-- whether a source failed because an allocation failed
 abbrev pub is_allocation_failure : Option ErrorKind → Bool
 is_allocation_failure (Some OutOfMemory) = true
 is_allocation_failure failure = false

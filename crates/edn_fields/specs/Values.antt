@@ -52,7 +52,7 @@ natural_of (atom (keyword k)) = None
 natural_of (vector ds) = None
 natural_of (dictionary es) = None
 
--- of a value whose tokens come first
+-- the number that is not negative whose token comes first, if one does
 abbrev pub natural_first : List Token → Option ℕ
 natural_first [] = None
 natural_first (open_vector ∷ ts) = None
@@ -61,6 +61,7 @@ natural_first (open_map ∷ ts) = None
 natural_first (close_map ∷ ts) = None
 natural_first (leaf d ∷ ts) = natural_of d
 
+-- the name of the keyword whose token comes first, if one does
 abbrev pub keyword_first : List Token → Option (List ℕ)
 keyword_first [] = None
 keyword_first (open_vector ∷ ts) = None

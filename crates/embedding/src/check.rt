@@ -26,7 +26,7 @@ pub extern "C" fn fcbench_check(
 ) -> u32
     // The headline: if it returns 0, the history that the bytes denote is linearizable.
     ensures linearizable { result ≡ status_number Status.Yes → IsLinearizableText history.now }
-    // The lines are those of a verdict that holds, with its status, or memory for them was refused.
+    // The lines are those of a verdict that holds, with its status, or an allocation failed.
     ensures checked { IsAnswered (IsCheck history.now certificates.now)
         result out.old out.new needed.new }
     // Valid certificates are accepted, unless an allocation fails.

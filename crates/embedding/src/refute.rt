@@ -29,7 +29,7 @@ pub extern "C" fn fcbench_refute(
 ) -> u32
     // If it returns 1, the history that the bytes denote is not linearizable.
     ensures refuted { result ≡ status_number Status.No → IsNotLinearizableText history.now }
-    // The lines are the answers to the reasons, with their status, or memory for them was refused.
+    // The lines are the answers to the reasons, with their status, or an allocation failed.
     ensures answered { IsAnswered (IsRefute history.now reasons.now (spec.search_steps steps))
         result out.old out.new needed.new }
 {

@@ -33,7 +33,7 @@ pub extern "C" fn fcbench_verify(
     ensures linearizable { result ≡ status_number Status.Yes → IsLinearizableText history.now }
     // If it returns 1, that history is not linearizable.
     ensures refuted { result ≡ status_number Status.No → IsNotLinearizableText history.now }
-    // The lines are those of a verification with this status, or memory for them was refused.
+    // The lines are those of a verification with this status, or an allocation failed.
     ensures verified { IsAnswered
         (IsVerification history.now evidence.now (spec.search_steps steps))
         result out.old out.new needed.new }

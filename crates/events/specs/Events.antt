@@ -31,11 +31,13 @@ IsIdleAfter (Ok r) = ⊤
 IsIdleAfter Fail = ⊤
 IsIdleAfter Info = ⊥
 
+-- a process may invoke if this is its last event: it has none, or one that completed an operation
+-- with Ok or Fail
 abbrev pub IsIdle : Option Event → Type 0
 IsIdle None = ⊤
 IsIdle (Some e) = IsIdleAfter e.action
 
--- the object is used by operations of one kind
+-- the earlier invocations on the object are of operations of the same kind as this one
 abbrev pub IsOfKindAt : List Event → ℕ → AnyOp → Type 0
 IsOfKindAt earlier x op =
     (e : Event) (earlier_op : AnyOp) → Contains earlier e → e.object ≡ x
@@ -68,11 +70,12 @@ pub record IsProper (es : List Event) : Type 0 where
 
 -- ---- what a list of events denotes
 
+-- whether an event with this action says that an operation did not happen
 abbrev pub is_fail : Action → Bool
 is_fail Fail = true
 is_fail a = false
 
--- whether the operation that is outstanding did not happen
+-- whether the operation that is outstanding did not happen, by the next event of its process
 abbrev pub fails : Option Event → Bool
 fails next = option_map_or (λ e. is_fail e.action) next false
 
@@ -104,6 +107,8 @@ pub record IsNamed (es : List Event) (x : ℕ) : Type 0 where
   pub on_object : event.object ≡ x
   pub invokes : event.action ≡ Invoke op
 
+-- the kind of the operation that an event with this action invokes; if it invokes none, the other
+-- kind
 abbrev pub kind_by : Action → Kind → Kind
 kind_by (Invoke op) other = kind_of op
 kind_by (Ok r) other = other

@@ -16,21 +16,24 @@ use Rattle.events.specs.declared.operations.End.TheVariants.{Returned, Pending, 
 use Rattle.events.specs.declared.operations.Invocation.{Invocation}
 use Rattle.events.specs.Events.{next_event, IsNamed, kind_of_object, denoted}
 
--- how an operation ends, by the next event of its process
+-- how an operation ends if the next event of its process has this number and this action
 abbrev pub end_by : ℕ → Action → End
 end_by number (Invoke op) = Pending
 end_by number (Ok r) = Returned number r
 end_by number Fail = Failed
 end_by number Info = Pending
 
+-- how an operation ends, by the next event of its process: without one it is pending
 abbrev pub end_at : Option Event → End
 end_at None = Pending
 end_at (Some e) = end_by e.number e.action
 
--- how it ends if nothing is kept of it
+-- how an operation ends, by what is kept of it: if nothing is kept, it is pending
 abbrev pub end_kept : Option End → End
 end_kept kept = unwrap_or kept Pending
 
+-- the operation that an event with this number and this action invokes, if it invokes one, with how
+-- it ends
 abbrev pub begun : ℕ → Action → End → List Invocation
 begun number (Invoke op) how = record { number = number; op = op; «end» = how } ∷ []
 begun number (Ok r) how = []
@@ -44,19 +47,20 @@ operations_on x (e ∷ later) =
     (if e.object == x then begun e.number e.action (end_at (next_event e.process later)) else [])
     ++ operations_on x later
 
--- those of an object whose number leaves the remainder part by parts, and none of another
+-- the operations on the object, if its number leaves the remainder `part` by `parts`; otherwise
+-- none
 abbrev pub operations_in : ℕ → ℕ → ℕ → List Event → List Invocation
 operations_in part parts x es = if x % parts == part then operations_on x es else []
 
 -- ---- as calls
 
--- the response, if there is one
+-- the response of an operation, if it returned
 abbrev pub return_of : End → Option Return
 return_of (Returned at reply) = Some (record { at = at; reply = reply })
 return_of Pending = None
 return_of Failed = None
 
--- a call returned, and another reply than this
+-- a call returned, and its reply is another one than this
 abbrev pub ReplyDiffers : Option Return → AnyReply → Type 0
 ReplyDiffers returned gives = (r : Return) × (returned ≡ Some r) × (r.reply ≢ gives)
 
@@ -64,6 +68,7 @@ ReplyDiffers returned gives = (r : Return) × (returned ≡ Some r) × (r.reply 
 abbrev pub Agrees : Option Return → AnyReply → Type 0
 Agrees returned gives = (r : Return) → returned ≡ Some r → r.reply ≡ gives
 
+-- an operation with this end, as a call; `None` if it failed
 abbrev pub call_with : ℕ → AnyOp → End → Option Call
 call_with number op (Returned at reply) =
     Some (record { number = number; op = op; returned = Some (record { at = at; reply = reply }) })
@@ -80,6 +85,8 @@ calls_of ops = filter_map call_of ops
 
 -- ---- an object's history
 
+-- the response of an operation, if it returned, is after its invocation, and has the number of no
+-- invocation among these
 abbrev pub EndsAfter : ℕ → List Invocation → End → Type 0
 EndsAfter number ops (Returned at reply) = (number < at) × All (λ o. o.number ≡ at → ⊥) ops
 EndsAfter number ops Pending = ⊤
@@ -98,7 +105,7 @@ pub record IsObjectHistory (h : ObjectCalls) : Type 0 where
   pub of_kind : All (λ o. kind_of o.op ≡ h.kind) h.ops
   pub ends : All (λ o. EndsAfter o.number h.ops o.«end») h.ops
 
--- what is kept of an object's operations: them in reverse, or nothing if there are none
+-- what is kept of an object's operations: the operations in reverse, or nothing if there are none
 abbrev pub IsGatheredObject : Option (List Invocation) → List Invocation → Type 0
 IsGatheredObject None ops = ops ≡ []
 IsGatheredObject (Some kept) ops = (kept ≡ reverse ops) × (ops ≢ [])

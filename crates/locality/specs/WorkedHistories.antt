@@ -14,9 +14,11 @@ invoke_on x n p op = record { number = n; event = Inv p x op }
 abbrev pub reply_on : ℕ → ℕ → ℕ → Option ℤ → Numbered
 reply_on x n p v = record { number = n; event = Res p x (Value v) }
 
+-- on object 0, at this number, this process invokes the operation
 abbrev pub invoke : ℕ → ℕ → AnyOp → Numbered
 invoke n p op = invoke_on 0 n p op
 
+-- on object 0, at this number, this process has the reply: a value, or nil
 abbrev pub reply : ℕ → ℕ → Option ℤ → Numbered
 reply n p v = reply_on 0 n p v
 

@@ -35,6 +35,7 @@ pub record State : Type 0 where
   pub quota : ℕ
 
 module _ {O R : Type 0} (op_in : O → AnyOp) (reply_in : R → AnyReply) where
+  -- the stage of a call, with what its operation and its reply stand for
   abbrev pub stage_in : Stage O R → AnyStage
   stage_in Idle = Idle
   stage_in (Drawn q) = Drawn (request_in op_in q)

@@ -41,7 +41,7 @@ pub enum Outcome<R> {
 pub enum StepFault {
     /// It is not possible now, or there is no such client, object or row.
     NotNow,
-    /// Memory for the journal was refused, at a draw.
+    /// An allocation for the journal failed, at a draw.
     NoMemory,
 }
 

@@ -13,14 +13,17 @@ pub data Event : Type 0 where
   Inv : ℕ → ℕ → AnyOp → Event
   Res : ℕ → ℕ → AnyReply → Event
 
+-- the process of an event
 abbrev pub process_of : Event → ℕ
 process_of (Inv p x op) = p
 process_of (Res p x r) = p
 
+-- the object of an event
 abbrev pub object_of : Event → ℕ
 object_of (Inv p x op) = x
 object_of (Res p x r) = x
 
+-- whether an event is an invocation, and not a response
 abbrev pub is_invocation : Event → Bool
 is_invocation (Inv p x op) = true
 is_invocation (Res p x r) = false
@@ -82,9 +85,11 @@ pub record Operation : Type 0 where
   pub process : ℕ
   pub turn : ℕ
 
+-- whether an event is an invocation of process p
 abbrev pub invokes : ℕ → Event → Bool
 invokes p e = is_invocation e && (process_of e == p)
 
+-- whether an event is a response to process p
 abbrev pub responds : ℕ → Event → Bool
 responds p e = not (is_invocation e) && (process_of e == p)
 

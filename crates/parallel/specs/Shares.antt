@@ -7,6 +7,7 @@ use Rattle.checker.specs.declared.refusal.Refusal.{Refusal}
 use Rattle.checker.specs.Checking.{IsFine, IsRefused}
 use Rattle.parallel.specs.declared.share.RefusedObject.{RefusedObject}
 
+-- the most workers of one command
 abbrev pub max_workers : ℕ
 max_workers = 16
 

@@ -182,42 +182,42 @@ module _ {O R : Type 0} (op_in : O → AnyOp) (reply_in : R → AnyReply) where
         (journal_at r c)) (λ x. map (entry_in op_in reply_in) (log_at r x))
 
 module _ {S O R : Type 0} where
--- the desk of a client after its try to win an object
+  -- the desk of a client after its try to win an object
   abbrev pub desk_after_win : Win S O R → DeskId
   desk_after_win (win.Won p) = p.desk
   desk_after_win (win.Held c) = c.desk
 
--- if the client won the object, this holds of the client with the object
+  -- if the client won the object, this holds of the client with the object
   abbrev pub IfWon : Win S O R → (Holding → Type 0) → Type 0
   IfWon (win.Won p) P = P p
   IfWon (win.Held c) P = ⊤
 
--- if the lock of the object was held, this holds of the client, which has not won the object
+  -- if the lock of the object was held, this holds of the client, which has not won the object
   abbrev pub IfHeld : Win S O R → (Known → Type 0) → Type 0
   IfHeld (win.Won p) P = ⊤
   IfHeld (win.Held c) P = P c
 
--- the desk of a client after its try to pick up a request
+  -- the desk of a client after its try to pick up a request
   abbrev pub desk_after_pick : Picked S O R → DeskId
   desk_after_pick (pick.Got h) = h.desk
   desk_after_pick (pick.Not p) = p.desk
 
--- what else is in the hands of a client after its try to pick up a request
+  -- what else is in the hands of a client after its try to pick up a request
   abbrev pub state_after_pick : Picked S O R → PassState
   state_after_pick (pick.Got h) = h.state
   state_after_pick (pick.Not p) = p.state
 
--- the places of a client after its try to win an object
+  -- the places of a client after its try to win an object
   abbrev pub places_after_win : Win S O R → List PlaceSeen
   places_after_win (win.Won p) = p.state.places
   places_after_win (win.Held c) = c.places
 
--- if a request was picked up, this holds of the client with the request
+  -- if a request was picked up, this holds of the client with the request
   abbrev pub IfGot : Picked S O R → (Handling → Type 0) → Type 0
   IfGot (pick.Got h) P = P h
   IfGot (pick.Not p) P = ⊤
 
--- if no request was picked up, this holds of the client, which still holds the object
+  -- if no request was picked up, this holds of the client, which still holds the object
   abbrev pub IfNot : Picked S O R → (Holding → Type 0) → Type 0
   IfNot (pick.Got h) P = ⊤
   IfNot (pick.Not p) P = P p

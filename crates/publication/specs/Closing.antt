@@ -26,11 +26,11 @@ IsTakenTo n left =
     × ((k : ℕ) → k < n → slice_index_or (slots_filled left.slots) k false ≡ false)
 
 module _ {S O R : Type 0} where
--- slot x has the core of object x
+  -- slot x has the core of object x
   abbrev pub HasCore : List (Slot S O R) → ℕ → Type 0
   HasCore xs x = (k : Core S O R) × (get_elem? xs x ≡ some (slot.Core k))
 
--- the slot for the journal of client c has one
+  -- the slot for the journal of client c has one
   abbrev pub HasJournal : List (Slot S O R) → ℕ → Type 0
   HasJournal xs c = (j : Journal O R) × (get_elem? xs (journal_slot c) ≡ some (slot.Journal j))
 
@@ -44,13 +44,13 @@ module _ {S O R : Type 0} where
       (j : Journal O R) × (get_elem? xs (journal_slot c) ≡ some (slot.Journal j))
       × (j.events.items ≡ events)
 
--- these are the logs of the first n objects, in order
+  -- these are the logs of the first n objects, in order
   abbrev pub AreLogs : ℕ → List (Slot S O R) → List (List (LogEntry O R)) → Type 0
   AreLogs n xs logs =
       (length logs ≡ n) × ((x : ℕ) → x < n → IsLogOf xs x (slice_index_or logs x []))
 
--- These are n journals, by the number of the client. From this number on each is the one that its
--- client left.
+  -- These are n journals, by the number of the client. From this number on each is the one that its
+  -- client left.
   abbrev pub AreJournals : ℕ → ℕ → List (Slot S O R) → List (List (JournalEvent O R)) → Type 0
   AreJournals from n xs journals =
       (length journals ≡ n)

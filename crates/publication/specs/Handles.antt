@@ -142,20 +142,21 @@ module _ {S O R : Type 0} where
   at_hand c o = (journal_slot c, slot.Nothing) ∷ []
 
 module _ {S O R : Type 0} (op_in : O → AnyOp) (reply_in : R → AnyReply) where
--- The fields of a client that holds no object agree with what it knows, and with the slots that it
--- has.
+  -- The fields of a client that holds no object agree with what it knows, and with the slots that
+  -- it has.
   pub record IsClient (number calls quota : ℕ) (outstanding : Bool) (j : Journal O R)
       (me : Me (Slot S O R) DeskView) : Type 0 where
     pub agrees : Agrees op_in reply_in number calls quota outstanding j me.0
     pub free : me.0.held ≡ held.Free
     pub in_hand : me.1 ≡ at_hand number me.0.own
 
--- the log of a core as contracts see it
+  -- the log of a core as contracts see it
   abbrev pub log_of : Core S O R → List AnyEntry
   log_of core = map (entry_in op_in reply_in) core.log.items
 
 module _ {S O R : Type 0} where
--- what is in the hands of a client with this core and these places, besides the object and its log
+  -- what is in the hands of a client with this core and these places, besides the object and its
+  -- log
   abbrev pub state_of : Core S O R → List PlaceSeen → PassState
   state_of core places =
       record {
@@ -168,8 +169,8 @@ module _ {S O R : Type 0} where
 
 module _ {S O R : Type 0} (content : S → Content) (op_in : O → AnyOp) (reply_in : R → AnyReply)
   where
--- The fields of a client that holds this object, with its core, agree with what it knows, and with
--- the slots that it has.
+    -- The fields of a client that holds this object, with its core, agree with what it knows, and
+    -- with the slots that it has.
     pub record IsPass (number calls quota : ℕ) (outstanding : Bool) (j : Journal O R) (object : ℕ)
         (core : Core S O R) (me : Me (Slot S O R) DeskView) : Type 0 where
       pub agrees : Agrees op_in reply_in number calls quota outstanding j me.0
@@ -180,8 +181,8 @@ module _ {S O R : Type 0} (content : S → Content) (op_in : O → AnyOp) (reply
           core (log_of op_in reply_in core)
       pub low : object < max_objects
 
--- The fields of a client that holds this object, and in its hand the request of this row, agree
--- with what it knows, and with the slots that it has.
+    -- The fields of a client that holds this object, and in its hand the request of this row, agree
+    -- with what it knows, and with the slots that it has.
     pub record IsHand (number calls quota : ℕ) (outstanding : Bool) (j : Journal O R) (object : ℕ)
         (core : Core S O R) (row : ℕ) (request : Request O) (me : Me (Slot S O R) DeskView) : Type 0
       where

@@ -18,14 +18,14 @@ use Rattle.desk_model.specs.Limits.{max_objects, max_clients, max_calls}
 use Rattle.desk_invariant.specs.Views.{table_slots}
 
 module _ {S O R : Type 0} where
--- slot x is the core of object x, with an empty log and the walker of the object's list
+  -- slot x is the core of object x, with an empty log and the walker of the object's list
   abbrev pub AreCores : List S → List TableId → List (Slot S O R) → Type 0
   AreCores objects lists slots =
       (x : ℕ) (o : S) → get_elem? objects x ≡ some o
       → (k : Core S O R) × (get_elem? slots x ≡ some (slot.Core k)) × (k.object ≡ o)
       × (k.log.items ≡ []) × (get_elem? lists x ≡ some k.list.roster)
 
--- The slots of a new desk are the cores of its objects, and after them nothing.
+  -- The slots of a new desk are the cores of its objects, and after them nothing.
   pub record IsLaid (objects : List S) (lists : List TableId) (slots : List (Slot S O R)) : Type 0
     where
       pub long : length slots ≡ table_slots

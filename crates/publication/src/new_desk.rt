@@ -267,7 +267,7 @@ fn make_all<S: SeqObject>(
 impl<S: SeqObject> Desk<S> {
     /// Makes a desk for these empty objects, and its clients, each of which may make this many
     /// calls. It makes room for the journals and the record. Logs and objects grow as calls are
-    /// answered, and there memory may be refused. There are 1 to 16 objects and 1 to 32 clients, of
+    /// answered, and there allocations may fail. There are 1 to 16 objects and 1 to 32 clients, of
     /// at most 10,000 calls each. The clients come in the order of their numbers, and no row is in
     /// any list.
     pub fn new(

@@ -17,35 +17,40 @@ abbrev pub tries_of : ListView → List Enlist
 tries_of (view.Place row o tries) = tries
 tries_of v = []
 
--- a row is between two tries to enlist it if its owner has woken it
+-- A row is between two tries to enlist it: its owner knows that it is awake if a try missed, and
+-- otherwise knows nothing of it.
 abbrev pub OwnAtRest : Bool → RowKnowledge → Type 0
 OwnAtRest false o = o ≡ own.Unknown
 OwnAtRest true o = (n : ℕ) × (o ≡ own.Awake n)
 
+-- The fields of the place of this row agree with what its owner knows.
 abbrev pub IsRowPlace : {S : Type 0} → ℕ → Bool → List Enlist → Me S ListView → Type 0
 IsRowPlace row trying tries me =
     (row < max_rows)
     × ((o : RowKnowledge) × (me ≡ (view.Place row o tries, [])) × OwnAtRest trying o)
 
--- if the row was not asleep, the try is over
+-- the tries of a place after a look at its mark: if the row was not asleep, the try is over
 abbrev pub after_look : Bool → List Enlist → List Enlist
 after_look true tries = tries
 after_look false tries = tries ++ Already ∷ []
 
+-- whether the try to enlist a row missed
 abbrev pub is_missed : Enlist → Bool
 is_missed Already = false
 is_missed Listed = false
 is_missed Missed = true
 
--- what the walker's view has of the list
+-- the rows of the list as the walker knows them
 abbrev pub list_left : ListView → List ℕ
 list_left (view.Walker made left out walks) = left
 list_left v = []
 
+-- how many rows have a place, as the walker knows
 abbrev pub made_of : ListView → ℕ
 made_of (view.Walker made left out walks) = made
 made_of v = 0
 
+-- the rows that each walk of the walker met
 abbrev pub walks_of : ListView → List (List ℕ)
 walks_of (view.Walker made left out walks) = walks
 walks_of v = []
@@ -66,6 +71,7 @@ pub record Meeting {S : Type 0} (left : List ℕ) (walks : List (List ℕ)) (pla
   pub within : length rows ≤ length (list_left me.0)
   pub at_is : at ≡ word_at (list_left me.0) (length rows)
 
+-- The fields of a walker between two walks agree with what it knows.
 pub record IsWalker {S Z : Type 0} (places : ℕ) (rows : Vec ℕ Z) (walks : List (List ℕ))
     (me : Me S ListView) : Type 0 where
   pub within : length rows.items ≤ places

@@ -11,11 +11,12 @@ use Rattle.publication_list.specs.declared.board.ListView.TheVariants as view
 use Rattle.publication_list.specs.PublicationList.{WalkMeets, word_at}
 use Rattle.publication_list.specs.Limits.{mark_place}
 
--- the walker's view once it has made a place more, and that of the place
+-- the walker's view after it made one more place
 abbrev pub after_making : ListView → ListView
 after_making (view.Walker made left out walks) = view.Walker (made + 1) left out walks
 after_making v = v
 
+-- the view of the place that the walker makes next
 abbrev pub new_place : ListView → ListView
 new_place (view.Walker made left out walks) = view.Place made own.Unknown []
 new_place v = v
@@ -24,10 +25,11 @@ new_place v = v
 abbrev pub Hands : Type 0
 Hands = Me ℕ ListView
 
--- what it knows
+-- what a seat knows
 abbrev pub known : Hands → ListView
 known hands = hands.0
 
+-- the slots that a seat has taken out of the table
 abbrev pub taken_slots : Hands → List (ℕ × ℕ)
 taken_slots hands = hands.1
 

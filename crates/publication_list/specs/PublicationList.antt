@@ -14,13 +14,16 @@ pub data Stage : Type 0 where
   -- it was taken out of the list, and is not marked inactive yet
   unlinked : Stage
 
+-- The publication list of one object as plain data.
 pub record PublicationList : Type 0 where
   -- the rows below this number have a place
   pub made : ℕ
   -- the listed rows, from the head on
   pub rows : List ℕ
+  -- the state of each row
   pub stage : ℕ → Stage
 
+-- the list while no row has a place
 abbrev pub empty_list : PublicationList
 empty_list = record { made = 0; rows = []; stage = λ r. asleep }
 

@@ -18,7 +18,7 @@ pub operations_left : (commented : Bool) (es : List Event) (ops : List Invocatio
     ++ operations_text commented es (drop (i + 1) ops)
 operations_left commented es ops i d lt = ap (operations_text commented es) (drop_more ops i d lt)
 
--- one more goes to what went out
+-- one more segment is added to what was sent
 pub one_more : (old new segment rest left all : List ℕ) → new ≡ old ++ segment → left ≡ segment ++ rest
     → old ++ left ≡ all
     → new ++ rest ≡ all

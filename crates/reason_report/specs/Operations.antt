@@ -26,29 +26,31 @@ abbrev pub process_in : Option Event → ℕ
 process_in None = 0
 process_in (Some e) = e.process
 
--- the operation that is invoked, or else this one
+-- the operation that an event with this action invokes, or the other one if it invokes none
 abbrev pub op_by : AnyOp → Action → AnyOp
 op_by other (Invoke op) = op
 op_by other (Ok r) = other
 op_by other Fail = other
 op_by other Info = other
 
+-- the operation that the event invokes, or the other one if there is no event or it invokes none
 abbrev pub op_shown : AnyOp → Option Event → AnyOp
 op_shown other None = other
 op_shown other (Some e) = op_by other e.action
 
--- the reply that is given, or else this one
+-- the reply that an event with this action has, or the other one if it has none
 abbrev pub reply_by : AnyReply → Action → AnyReply
 reply_by other (Invoke op) = other
 reply_by other (Ok r) = r
 reply_by other Fail = other
 reply_by other Info = other
 
+-- the reply that the event has, or the other one if there is no event or it has no reply
 abbrev pub reply_shown : AnyReply → Option Event → AnyReply
 reply_shown other None = other
 reply_shown other (Some e) = reply_by other e.action
 
--- with the reply that the history has if a part has a return
+-- how an operation of a part ends, with the reply that the history has if it returned in the part
 abbrev pub end_shown : List Event → End → End
 end_shown es (Returned at reply) = Returned at (reply_shown reply (event_at es at))
 end_shown es Pending = Pending
@@ -64,28 +66,28 @@ operation_in es o = record {
 
 -- ---- the text
 
--- as events 4 and 9, or event 12 if it did not return in the part
+-- where an operation is, such as `events 4 and 9`, or `event 12` if it did not return in the part
 abbrev pub place_text : ℕ → End → List ℕ
 place_text number (Returned at reply) =
     codes "events " ++ (decimal number ++ (codes " and " ++ decimal at))
 place_text number Pending = codes "event " ++ decimal number
 place_text number Failed = codes "event " ++ decimal number
 
--- as :enqueue 7
+-- the text of an operation, such as `:enqueue 7`
 abbrev pub op_text : AnyOp → List ℕ
 op_text op = codes ":" ++ (name_of (function_in op) ++ (codes " " ++ value_text (op_value op)))
 
--- as , :ok 7 if it returned
+-- the text of a reply, such as `, :ok 7`; nothing if the operation did not return
 abbrev pub reply_text : End → List ℕ
 reply_text (Returned at reply) = codes ", :ok " ++ value_text (reply_value reply)
 reply_text Pending = []
 reply_text Failed = []
 
--- as :dequeue nil, :ok 7
+-- the text of an operation with its reply, such as `:dequeue nil, :ok 7`
 abbrev pub call_text : Invocation → List ℕ
 call_text o = op_text o.op ++ reply_text o.«end»
 
--- whether they have the same number, operation and end: the derived test
+-- whether two operations have the same number, operation and end: the derived test
 abbrev pub same_invocation : Invocation → Invocation → Bool
 same_invocation left right = derived.eq-value.it left right
 
@@ -94,24 +96,24 @@ abbrev pub counted_as_text : Invocation → Invocation → List ℕ
 counted_as_text told counted =
     if same_invocation told counted then [] else codes ", counted as " ++ call_text counted
 
--- if it did not return in the part
+-- what the line of an operation adds if it did not return in the part
 abbrev pub open_text : End → List ℕ
 open_text (Returned at reply) = []
 open_text Pending = codes ", pending"
 open_text Failed = codes ", failed"
 
--- as events 4 and 9: process 2,
+-- the front of a line, such as `events 4 and 9: process 2, `
 abbrev pub heading_text : List Event → Invocation → List ℕ
 heading_text es o =
     place_text o.number o.«end»
     ++ (codes ": process " ++ (decimal (process_in (event_at es o.number)) ++ codes ", "))
 
--- as :dequeue nil, :ok 7
+-- the rest of a line, such as `:dequeue nil, :ok 7`, and what the part counts the operation as
 abbrev pub said_text : Invocation → Invocation → List ℕ
 said_text told counted =
     call_text told ++ (counted_as_text told counted ++ (open_text counted.«end» ++ codes "\n"))
 
--- as events 4 and 9: process 2, :dequeue nil, :ok 7
+-- the line of an operation, such as `events 4 and 9: process 2, :dequeue nil, :ok 7`
 abbrev pub operation_line : List Event → Invocation → List ℕ
 operation_line es o = heading_text es o ++ said_text (operation_in es o) o
 

@@ -24,6 +24,7 @@ value_text (value.Triple a b c) =
     ++ (signed_decimal a
     ++ (codes " " ++ (signed_decimal b ++ (codes " " ++ (signed_decimal c ++ codes "]")))))
 
+-- the text of a segment: bytes as they are, a number in decimal, or a value as a history writes it
 abbrev pub segment_text : Segment → List ℕ
 segment_text (segment.Text bytes) = bytes.now
 segment_text (segment.Natural n) = decimal n

@@ -64,15 +64,15 @@ pub record IsRecord (objects : ℕ) (journals : ℕ → List AnyEvent) (logs : �
     pub on_objects : All (λ e. e.object < objects) events
 
 module _ {O R : Type 0} (op_in : O → AnyOp) (reply_in : R → AnyReply) (r : Recorded O R) where
--- the journal of client c in the record, of operations and replies of all kinds
+  -- the journal of client c in the record, of operations and replies of all kinds
   abbrev pub journals_in : ℕ → List AnyEvent
   journals_in c = map (event_in op_in reply_in) (journal_at r c)
 
--- the log of object x in the record, of operations and replies of all kinds
+  -- the log of object x in the record, of operations and replies of all kinds
   abbrev pub logs_in : ℕ → List AnyEntry
   logs_in x = map (entry_in op_in reply_in) (log_at r x)
 
--- the journals and the logs of the record are one (`IsRecord`), of as many objects as there are
--- logs
+  -- the journals and the logs of the record are one (`IsRecord`), of as many objects as there are
+  -- logs
   abbrev pub IsRecordOf : Type 0
   IsRecordOf = IsRecord (length r.logs) journals_in logs_in

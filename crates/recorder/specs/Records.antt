@@ -19,10 +19,10 @@ abbrev pub recorded : {O R Y Z : Type 0} → List (Vec (JournalEvent O R) Y)
 recorded journals logs = record { journals = items_of_each journals; logs = items_of_each logs }
 
 module _ {O R : Type 0} where
--- the journal of client c; empty if the record has none for it
+  -- the journal of client c; empty if the record has none for it
   abbrev pub journal_at : Recorded O R → ℕ → List (JournalEvent O R)
   journal_at r c = slice_index_or r.journals c []
 
--- the log of object x; empty if the record has none for it
+  -- the log of object x; empty if the record has none for it
   abbrev pub log_at : Recorded O R → ℕ → List (LogEntry O R)
   log_at r x = slice_index_or r.logs x []

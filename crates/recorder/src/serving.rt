@@ -9,8 +9,8 @@ use desk_model::{Answer, LogEntry, Request};
 use seq_objects::SeqObject;
 
 /// Does the operation of a request, which the object can do, and logs it for the client of this
-/// row. `Refused` if memory was refused: then nothing is done, and nothing is logged. An entry for
-/// which there is room takes no memory.
+/// row. `Refused` if an allocation failed: then nothing is done, and nothing is logged. An entry
+/// for which there is room takes no memory.
 // Inlined, so that the answer stays in registers. Returned through memory, it is stored in two
 // pieces and loaded as one word, and that load waits for both stores.
 #[inline(always)]

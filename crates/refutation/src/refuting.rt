@@ -24,7 +24,7 @@ pub enum WhyNotShown {
     NotExceeded,
     /// The search reached its limit of steps.
     OutOfSteps,
-    /// The search ran out of memory.
+    /// An allocation failed in the search.
     NoMemory,
 }
 
@@ -38,7 +38,7 @@ pub enum ReasonAnswer {
         part: ObjectHistory,
         why_not: WhyNotShown,
     },
-    /// One of the cuts names no closed part.
+    /// The cuts name no part.
     NoPart,
     /// The reason is of another object.
     OtherObject,

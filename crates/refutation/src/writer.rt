@@ -175,7 +175,7 @@ pub fn write_reasons<S: Sink>(reasons: &[Reason], sink: &mut S) -> Result<(), Wr
     requires working { S.broken sink.old ≡ false }
     ensures sent { Writes result (S.sent sink.old) (S.sent sink.new) (S.broken sink.new)
         (text.reason_lines reasons.now) }
-    // What went out reads back as these reasons.
+    // What was sent reads back as these reasons.
     ensures spelled { OnOk result (AreReasonsInRange reasons.now →
         SpellsReasons reasons.now (text.reason_lines reasons.now)) }
     ensures device { IfErr result (λ e. e ≡ WriteFault.Device) }

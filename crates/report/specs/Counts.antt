@@ -18,13 +18,14 @@ pub record Use : Type 0 where
   pub object : ℕ
   pub kind : Kind
 
+-- the invocation that an event on object x with this action is, if it is one
 abbrev pub use_by : ℕ → Action → Option Use
 use_by x (Invoke op) = Some (record { object = x; kind = kind_of op })
 use_by x (Ok r) = None
 use_by x Fail = None
 use_by x Info = None
 
--- the invocations in their order, failed ones too
+-- the invocations in order, failed ones too
 abbrev pub uses : List Event → List Use
 uses es = filter_map (λ e. use_by e.object e.action) es
 
@@ -48,10 +49,11 @@ objects_in us = first_seen nat_eq (map (λ u. u.object) us)
 abbrev pub kinds_in : List Use → List Kind
 kinds_in us = first_seen same_kind (map (λ u. u.kind) us)
 
--- the operations that did not fail, and those of one kind
+-- the operations that did not fail
 abbrev pub operations_in : List Event → List ProcessCall
 operations_in es = calls_in (denoted es)
 
+-- the operations of this kind that did not fail
 abbrev pub operations_of_kind : Kind → List Event → List ProcessCall
 operations_of_kind k es = filter (λ c. same_kind k (kind_of c.call.op)) (operations_in es)
 
@@ -59,6 +61,7 @@ operations_of_kind k es = filter (λ c. same_kind k (kind_of c.call.op)) (operat
 abbrev pub objects_of : Kind → List Event → List ℕ
 objects_of k es = objects_in (filter (λ u. same_kind k u.kind) (uses es))
 
+-- how many objects and operations of this kind the events have
 abbrev pub count_of : List Event → Kind → KindCount
 count_of es k =
     record

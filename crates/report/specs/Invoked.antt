@@ -19,22 +19,26 @@ invocation_by x (Ok r) failed = []
 invocation_by x Fail failed = []
 invocation_by x Info failed = []
 
+-- the invocations among the events, each with whether its operation failed
 abbrev pub invocations : List Event → List Invoked
 invocations [] = []
 invocations (e ∷ later) =
     invocation_by e.object e.action (fails (next_event e.process later)) ++ invocations later
 
--- of this kind, or of any
+-- whether an invocation is of this kind; if no kind is given, it is of any
 abbrev pub is_of : Option Kind → Invoked → Bool
 is_of None i = true
 is_of (Some k) i = same_kind k i.kind
 
+-- how many operations of this kind, or of any, did not fail
 abbrev pub operation_count : Option Kind → List Invoked → ℕ
 operation_count k xs = length (filter (λ i. is_of k i && not i.failed) xs)
 
+-- the objects that invocations of this kind, or of any, name, each once
 abbrev pub object_numbers : Option Kind → List Invoked → List ℕ
 object_numbers k xs = first_seen nat_eq (map (λ i. i.object) (filter (is_of k) xs))
 
+-- how many objects and operations of this kind the invocations have
 abbrev pub kind_count : List Invoked → Kind → KindCount
 kind_count xs k =
     record {

@@ -23,14 +23,14 @@ use Rattle.report.specs.declared.verdict.Fault.TheVariants.{CertificateText, Cer
 use Rattle.report.specs.declared.verdict.Verdict.{Verdict}
 use Rattle.report.specs.declared.verdict.Verdict.TheVariants.{Yes, No, Malformed, NoMemory}
 
--- what each line begins with
+-- what a line of a verdict begins with: the mark of a comment, or nothing
 abbrev pub comment_text : Bool → List ℕ
 comment_text true = codes "; "
 comment_text false = []
 
 -- ---- yes
 
--- the line of a kind, as queue: 1 objects, 2 operations
+-- the line of a kind, such as `queue: 1 objects, 2 operations`
 abbrev pub kind_line : KindCount → List ℕ
 kind_line k =
     word_of k.kind
@@ -38,10 +38,12 @@ kind_line k =
     ++ (decimal k.objects
     ++ (codes " objects, " ++ (decimal k.operations ++ codes " operations\n"))))
 
+-- the lines of the kinds, each a comment if that is asked for
 abbrev pub kind_lines : Bool → List KindCount → List ℕ
 kind_lines commented [] = []
 kind_lines commented (k ∷ ks) = (comment_text commented ++ kind_line k) ++ kind_lines commented ks
 
+-- the first line of a yes, such as `yes: 3 operations, 1 objects`
 abbrev pub total_line : Summary → List ℕ
 total_line s =
     codes "yes: "
@@ -87,9 +89,11 @@ order_line x (WrongReply op gives) =
 order_line x (Omitted op) =
     codes "no: C7 object " ++ (decimal x ++ (codes ": " ++ (decimal op ++ codes " is left out\n")))
 
+-- the line of a verdict if an allocation failed
 abbrev pub no_memory_line : List ℕ
 no_memory_line = codes "out of memory\n"
 
+-- the line of a refusal, such as `no: C1 object 0 has no certificate`
 abbrev pub refusal_line : Refusal → List ℕ
 refusal_line (refusal.NoCertificate x) =
     codes "no: C1 object " ++ (decimal x ++ codes " has no certificate\n")
@@ -100,6 +104,7 @@ refusal_line refusal.NoMemory = no_memory_line
 
 -- ---- malformed
 
+-- the line of a fault of a text, such as `malformed history: H1 at map 4`
 abbrev pub fault_line : Fault → List ℕ
 fault_line (HistoryText e) =
     codes "malformed history: "
@@ -118,7 +123,7 @@ fault_line (CertificateForms k) =
 
 -- ---- all
 
--- the lines of a verdict, each a comment if that is wanted
+-- the lines of a verdict, each a comment if that is asked for
 abbrev pub verdict_text : Bool → Verdict → List ℕ
 verdict_text commented (Yes s) =
     (comment_text commented ++ total_line s) ++ kind_lines commented s.kinds.items

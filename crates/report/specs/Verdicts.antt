@@ -7,9 +7,9 @@ use Rattle.report.specs.Counts.{AreCountsOf}
 use Rattle.report.specs.declared.verdict.Verdict.{Verdict}
 use Rattle.report.specs.declared.verdict.Verdict.TheVariants.{Yes, No, Malformed, NoMemory}
 
--- If the certificates of these client events were checked with this result: yes with the counts
--- of the events, or no with the refusal. The verdict is `NoMemory` for the refusal of that name,
--- and if memory for the counts was refused.
+-- The verdict if the certificates of these client events were checked with this result: yes with
+-- the counts of the events, or no with the refusal. The verdict is `NoMemory` for the refusal of
+-- that name, and if an allocation for the counts failed.
 abbrev pub IsVerdictOnCheck : List Event → Result Unit Refusal → Verdict → Type 0
 IsVerdictOnCheck es (Ok u) (Yes s) = AreCountsOf es s
 IsVerdictOnCheck es (Ok u) (No r) = ⊥

@@ -6,6 +6,7 @@ use Rattle.seq_objects.specs.declared.any_object.AnyObject.TheVariants.{Queue, S
 use Rattle.seq_objects.specs.declared.any_object.AnyObject.TheVariants.{Register, Map, Mutex}
 use Rattle.seq_objects.specs.declared.any_object.AnyObject.TheVariants.{Set, Counter, Lock}
 
+-- what an object contains, among the contents of all kinds
 abbrev pub content_of : AnyObject → Content
 content_of (Queue vs) = queue vs
 content_of (Stack vs) = stack vs

@@ -39,6 +39,7 @@ pub data Replies : Type 0 where
 pub data Row : Type 0 where
   row : List ℕ → Argument → Replies → Row
 
+-- the row of a function
 abbrev pub row_of : Function → Row
 row_of Enqueue = row (codes "enqueue") (integer op.Enqueue) number
 row_of Dequeue = row (codes "dequeue") (no_argument op.Dequeue) number_or_nil
@@ -68,6 +69,7 @@ row_of GetCount = row (codes "get-count") (no_argument op.GetCount) number
 row_of LockBy = row (codes "lock") (integer op.LockBy) nil
 row_of UnlockBy = row (codes "unlock") (integer op.UnlockBy) nil
 
+-- the name in a row
 abbrev pub name_in : Row → List ℕ
 name_in (row name argument replies) = name
 

@@ -40,6 +40,7 @@ reply_in swap (Pair a b) = Some (reply.Swapped a b)
 reply_in swap False = Some reply.NotSwapped
 reply_in replies value = None
 
+-- how the replies of a row are written
 abbrev pub replies_in : Row → Replies
 replies_in (row name argument replies) = replies
 

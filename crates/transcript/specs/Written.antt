@@ -15,13 +15,13 @@ pub record IsHistoryText (journals : ℕ → List AnyEvent) (text : List ℕ) : 
   pub text_is : text ≡ history_text lines
   pub in_profile : All (λ l. InProfile (form_of l)) lines
 
--- it went out
+-- the text of the journals' lines was sent after what was sent before
 pub record AppendsHistory (journals : ℕ → List AnyEvent) (old new : Option (List ℕ)) : Type 0 where
   pub text : List ℕ
   pub of_journals : IsHistoryText journals text
   pub sent : Appends old new text
 
--- a beginning of it went out
+-- a beginning of the text of the journals' lines was sent after what was sent before
 pub record SendsFrontOfHistory (journals : ℕ → List AnyEvent) (old new : Option (List ℕ)) : Type 0
   where
     pub text : List ℕ

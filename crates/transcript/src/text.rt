@@ -185,8 +185,8 @@ pub(crate) fn history_text(alloc: Global, lines: &[Line]) -> Result<Vec<u8>, All
     }
 }
 
-/// Writes the lines of a record's history, in order of tickets. If an allocation fails nothing
-/// goes out.
+/// Writes the lines of a record's history, in order of tickets. If an allocation fails nothing is
+/// sent.
 pub fn write_history<S: SeqObject, K: Sink>(
     alloc: Global,
     account: &Record<S>,

@@ -162,7 +162,7 @@ pub record IsClaimAnswer (x : ℕ) (kind : Kind) (calls : List Call) (limit : �
       IsShownReason x kind calls f × (e ≡ claim.Reason f.reason f.note))
   -- the claim asks for a search with this limit (no clause says that it took the steps)
   pub out_of_steps : IfOutOfSteps d (λ n. AsksForSearchWithin limit n e)
-  -- a search ran out of memory only if the claim asks for one
+  -- the decision is that an allocation failed only if the claim asks for a search
   pub memory : d ≡ NoMemory → AsksForAnySearch e
   -- if nothing is shown, the claim is not true, or asks for a search
   pub unshown : is_shown d ≡ false → IsUntrue kind calls e ⊎ AsksForAnySearch e
@@ -182,7 +182,7 @@ pub record IsDecision (claims : List Claim) (limit x : ℕ) (kind : Kind) (calls
   -- a claim on the object asks for a search with this limit (that it took the steps is not said)
   pub out_of_steps : IfOutOfSteps d (λ n.
       Any (λ e. (claim_object e ≡ x) × AsksForSearchWithin limit n e) claims)
-  -- a search ran out of memory, for which a claim on the object asks
+  -- the decision is that an allocation failed only if a claim on the object asks for a search
   pub memory : d ≡ NoMemory → Any (λ e. (claim_object e ≡ x) × AsksForAnySearch e) claims
   -- if nothing is shown each claim on the object is not true, or asks for a search
   pub unshown : is_shown d ≡ false

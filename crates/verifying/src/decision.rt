@@ -24,7 +24,7 @@ pub enum Decision {
     Impossible(ShownReason),
     /// No claim is shown. A search gave no answer within its limit, which is this many steps.
     OutOfSteps(u64),
-    /// No claim is shown. A search ran out of memory.
+    /// No claim is shown. An allocation failed in a search.
     NoMemory,
     /// No claim is true, or there is none.
     Open,

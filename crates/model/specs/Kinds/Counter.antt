@@ -10,6 +10,7 @@ abbrev pub is_i64 : ℤ → Bool
 is_i64 (pos n) = nat_lt n 9223372036854775808
 is_i64 (negsuc n) = nat_lt n 9223372036854775808
 
+-- what an operation leaves in a counter, and what it replies, if it is possible
 abbrev pub next_counter : ℤ → AnyOp → Option (ℤ × AnyReply)
 next_counter c (FetchAdd n) = if is_i64 (c +ℤ n) then Some (c +ℤ n, Value (Some c)) else None
 next_counter c GetCount = Some (c, Value (Some c))

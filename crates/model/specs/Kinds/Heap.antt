@@ -10,6 +10,7 @@ abbrev pub with_value : ℤ → List ℤ → List ℤ
 with_value v [] = v ∷ []
 with_value v (w ∷ ws) = if int_lt w v then w ∷ with_value v ws else v ∷ w ∷ ws
 
+-- what an operation leaves in a heap, and what it replies, if it is possible
 abbrev pub next_heap : List ℤ → AnyOp → Option (List ℤ × AnyReply)
 next_heap vs (Insert v) = Some (with_value v vs, Value (Some v))
 next_heap [] ExtractMin = Some ([], Value None)

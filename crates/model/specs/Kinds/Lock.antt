@@ -7,6 +7,7 @@ use Rattle.model.specs.declared.AnyOp.TheVariants.{LockBy, UnlockBy}
 use Rattle.model.specs.declared.AnyReply.{AnyReply}
 use Rattle.model.specs.declared.AnyReply.TheVariants.{Value}
 
+-- what an operation leaves in a lock, and what it replies, if it is possible
 abbrev pub next_lock : Option ℤ → AnyOp → Option (Option ℤ × AnyReply)
 next_lock None (LockBy o) = Some (Some o, Value None)
 next_lock (Some p) (UnlockBy o) = if int_eq p o then Some (None, Value None) else None

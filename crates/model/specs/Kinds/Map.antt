@@ -9,6 +9,7 @@ use Rattle.model.specs.declared.AnyOp.TheVariants.{Dissoc}
 use Rattle.model.specs.declared.AnyReply.{AnyReply}
 use Rattle.model.specs.declared.AnyReply.TheVariants.{Value, Flag}
 
+-- what a map contains: a value for each of some keys
 abbrev pub Table : Type 0
 Table = map.FinMap int_cmp ℤ
 
@@ -20,10 +21,12 @@ inserted_if so m k v = if so then map.insert m k v else m
 abbrev pub has_value : Table → ℤ → ℤ → Bool
 has_value m k a = contains_value (map.get m k) a
 
+-- whether this key has no value
 abbrev pub is_absent : Table → ℤ → Bool
 is_absent m k = not (map.contains_key m k)
 
--- The last two tell nothing of the value that the key had.
+-- What an operation leaves in a map, and what it replies, if it is possible. `Assoc` and `Dissoc`
+-- tell nothing of the value that the key had.
 abbrev pub next_map : Table → AnyOp → Option (Table × AnyReply)
 next_map m (Put k v) = Some (map.insert m k v, Value (map.get m k))
 next_map m (Get k) = Some (m, Value (map.get m k))

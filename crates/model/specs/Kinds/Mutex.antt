@@ -6,6 +6,7 @@ use Rattle.model.specs.declared.AnyOp.TheVariants.{Acquire, Release}
 use Rattle.model.specs.declared.AnyReply.{AnyReply}
 use Rattle.model.specs.declared.AnyReply.TheVariants.{Value}
 
+-- what an operation leaves in a mutex, and what it replies, if it is possible
 abbrev pub next_mutex : Bool → AnyOp → Option (Bool × AnyReply)
 next_mutex false Acquire = Some (true, Value None)
 next_mutex true Release = Some (false, Value None)

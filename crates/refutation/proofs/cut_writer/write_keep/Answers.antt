@@ -1,4 +1,4 @@
--- `write_keep`: the cut's text without its closing bracket goes out, or a front of it if the sink fails. It is
+-- `write_keep`: the cut's text without its closing bracket is sent, or a front of it if the sink fails. It is
 -- three texts one after another, each of which is sent in whole or in front.
 use Rattle.std.proofs.Common.{rules}
 use Rattle.std.specs.Prelude.{codes}

@@ -1,4 +1,4 @@
--- `write_naturals`: the numbers go out with spaces between them, or a front of that if the sink fails, and are in
+-- `write_naturals`: the numbers are sent with spaces between them, or a front of that if the sink fails, and are in
 -- range. The loop keeps that what was sent and the text of the numbers left are the whole text.
 use Rattle.std.proofs.Common.{◌≡◌, ◌≤◌, ◌++◌, [], List, ℕ, true, false, ap, sym, ◌∙◌, rules}
 use Rattle.std.specs.Prelude.{codes, decimal}

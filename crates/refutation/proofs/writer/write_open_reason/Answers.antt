@@ -1,4 +1,4 @@
--- `write_open_reason`: the reason's text without its closing bracket goes out, or a front of it if the sink fails.
+-- `write_open_reason`: the reason's text without its closing bracket is sent, or a front of it if the sink fails.
 -- It is three texts one after another, each of which is sent in whole or in front; a reason sent in whole is typed.
 use Rattle.std.proofs.Common.{◌++◌, rules}
 use Rattle.std.specs.Prelude.{codes, decimal}

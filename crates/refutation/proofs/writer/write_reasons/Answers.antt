@@ -1,4 +1,4 @@
--- `write_reasons`: the lines go out, or a front of them if the sink fails, and read back as the reasons. The loop
+-- `write_reasons`: the lines are sent, or a front of them if the sink fails, and read back as the reasons. The loop
 -- keeps that what was sent and the lines left are all lines, and that each reason so far is typed.
 use Rattle.std.proofs.Common.{rules, arith}
 use Rattle.edn.proofs.Fronts.{within, further, fails}

@@ -1,4 +1,4 @@
--- `write_history`: the text of the history goes out, or a front of it if the sink fails. The lines are those of the
+-- `write_history`: the text of the history is sent, or a front of it if the sink fails. The lines are those of the
 -- journals and in the profile, and their text is made in whole before any of it is sent.
 use Rattle.std.proofs.Common.{rules, All, subst}
 use Rattle.edn.specs.Sent.{WritesPrefix}
