@@ -69,7 +69,8 @@ rank (NotPossible z) = 4
 rank (WrongReply z gives) = 5
 rank (Omitted n) = 6
 
--- a fault of the first faulty place, the first there
+-- the order is faulty at some place and at none before it, and of the faults there this is the
+-- first
 pub record IsFirstAtPlace (kind : Kind) (calls : List Call) (order : List ℤ) (fault : OrderFault) :
     Type 0 where
   pub place : ℕ

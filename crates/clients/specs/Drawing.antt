@@ -53,19 +53,19 @@ operation_drawn (Three a b c) place =
     if place % 3 == 0 then a else if place % 3 == 1 then b else c
 operation_drawn (Pair take free) place = if place % 2 == 0 then take else free
 
--- the operation that the numbers make on an object of this kind
+-- the operation of an object of this kind that these numbers choose
 abbrev pub op_for : Kind → Draws → AnyOp
 op_for kind d = operation_drawn (operations_with kind (pos d.first) (pos d.second)) d.choice
 
--- this many calls
+-- this many calls on objects of these kinds, each made of numbers that are drawn from the stream
 abbrev pub drawn_calls : Kinds → ℕ → ℕ → Stream → List WorkCall
 drawn_calls kinds objects zero s = []
 drawn_calls kinds objects (suc n) s =
     let d = draws_from objects s in
     (d.0.object, op_for (kind_in kinds d.0.object) d.0) ∷ drawn_calls kinds objects n d.1
 
--- this many pairs of calls on objects of one kind: each takes one that was drawn, and frees it; the
--- second draws its numbers too
+-- This many pairs of calls: the first call of a pair takes an object, and the second frees it. The
+-- object is drawn; the second call draws numbers too.
 abbrev pub pairs_from : (take free : AnyOp) → ℕ → ℕ → Stream → List WorkCall
 pairs_from take free objects zero s = []
 pairs_from take free objects (suc n) s =
@@ -73,11 +73,11 @@ pairs_from take free objects (suc n) s =
     let e = draws_from objects d.1 in
     (d.0.object, take) ∷ (d.0.object, free) ∷ pairs_from take free objects n e.1
 
--- the generator of a client
+-- the stream of numbers that a client draws, by the seed and the client's number
 abbrev pub stream_for : ℕ → ℕ → Stream
 stream_for seed client = stream_at (started 64 multiplier_64 seed (increment_of 64 client))
 
--- the operations in pairs, if these are a pair
+-- the operations that take and free an object, if these are such a pair
 abbrev pub pair_in : Operations → Option (AnyOp × AnyOp)
 pair_in (Pair take free) = Some (take, free)
 pair_in operations = None
@@ -92,7 +92,8 @@ abbrev pub calls_or_pairs : Option (AnyOp × AnyOp) → Kinds → ℕ → ℕ �
 calls_or_pairs None kinds objects count s = drawn_calls kinds objects count s
 calls_or_pairs (Some pair) kinds objects count s = pairs_from pair.0 pair.1 objects (count / 2) s
 
--- the calls of a client
+-- the calls of one client of a run, by the seed: this many that are drawn; if the objects are of a
+-- kind that has pairs, half as many pairs
 abbrev pub client_calls : Kinds → ℕ → ℕ → ℕ → ℕ → List WorkCall
 client_calls kinds objects count seed client =
     calls_or_pairs (pair_for kinds client) kinds objects count (stream_for seed client)

@@ -40,7 +40,7 @@ pub record IsStopped (cs : List WorkCall) (es : List AnyEvent) : Type 0 where
   pub ticket : ℕ
   pub last : es ≡ events ++ Invoked ticket call.0 call.1 ∷ []
 
--- of all calls, or up to one that did not return
+-- the events are those of all these calls, or of the calls up to one that did not return
 abbrev pub MadeOrStopped : List WorkCall → List AnyEvent → Type 0
 MadeOrStopped cs es = AreCallsMade cs es ⊎ IsStopped cs es
 
@@ -78,7 +78,7 @@ pub record HasMadeNoCall (d : DeskId) (c : ℕ) (k : Known) : Type 0 where
 abbrev pub AreNew : DeskId → List Known → Type 0
 AreNew d cs = (c : ℕ) (k : Known) → get_elem? cs c ≡ some k → HasMadeNoCall d c k
 
--- a client of the desk of this workload that has made no call
+-- the client is of a desk made for this workload, and has made no call
 pub record IsNew (d : DeskSeen) (w : Work) (k : Known) : Type 0 where
   pub desk : IsDeskFor d w
   pub low : k.knows.number < length w.calls
@@ -95,7 +95,7 @@ pub record Keeps (v w : DeskView) : Type 0 where
   pub calls : KeepsCalls v w
   pub left : (l : Leaving) → Contains v.left l → Contains w.left l
 
--- both have seen the same of each of the first n objects
+-- both clients have seen the same of each of the first n objects
 abbrev pub HaveSeenAlike : ℕ → DeskView → DeskView → Type 0
 HaveSeenAlike n v w = (x : ℕ) → x < n → seen_of v x ≡ seen_of w x
 
@@ -121,11 +121,11 @@ pub record HasMetClient (w : Work) (v : DeskView) (c : ℕ) : Type 0 where
 abbrev pub WasTold : DeskView → ℕ → Type 0
 WasTold v c = (l : Leaving) × Contains v.left l × (l.client ≡ c)
 
--- it was told that each other client of the desk has
+-- the last client was told that each other client of the desk has retired
 abbrev pub HaveTold : DeskSeen → Known → Type 0
 HaveTold d last = (c : ℕ) → c < d.clients → c ≢ last.knows.number → WasTold last.knows c
 
--- the client has met each of the others below n
+-- client 0 has met each other client below n
 abbrev pub HasMetBelow : Work → Known → ℕ → Type 0
 HasMetBelow w k n = (c : ℕ) → 0 < c → c < n → HasMetClient w k.knows c
 

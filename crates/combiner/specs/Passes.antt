@@ -12,7 +12,8 @@ use Rattle.combiner.specs.declared.passes.Combined.TheVariants as combined
 use Rattle.combiner.specs.declared.passes.Tried.{Tried}
 use Rattle.combiner.specs.declared.passes.Tried.TheVariants as tried
 
--- the client and its own calls stay, and what it has seen goes on
+-- the client's number and its own calls are the same, and what it has seen of each log begins with
+-- what it had seen
 pub record KeepsCalls (v w : DeskView) : Type 0 where
   pub number : w.number ≡ v.number
   pub kinds : w.kinds ≡ v.kinds
@@ -37,7 +38,7 @@ IsSettled x v = IsSettledBy x (seen_of v x) v
 abbrev pub IsSettledNow : Holding → Type 0
 IsSettledNow p = IsSettledBy p.object p.log p.knows
 
--- nothing of the pass has changed but its list and ages
+-- nothing of what the holder has is changed, except its list and the ages of the rows
 abbrev pub IsSameBut : Holding → Holding → Type 0
 IsSameBut p q =
     (l : WalkerSeen) × (ages : List ℕ)
@@ -53,8 +54,8 @@ pub record Goes (p q : Holding) : Type 0 where
   pub calls : KeepsCalls p.knows q.knows
   pub ready : p.knows.ready ≡ true → q.knows.ready ≡ true
 
--- Its own row was tried: its request for the object, if there is one, is known to be answered, or
--- it was put back, since the object cannot do it now.
+-- The client's own row was tried: its request for the object, if there is one, is known to be
+-- answered, or it was put back, since the object cannot do it now.
 abbrev pub IsTried : Holding → Tried → Type 0
 IsTried p tried.PutBack =
     (q : AnyRequest) → p.knows.own ≡ own.Waiting q

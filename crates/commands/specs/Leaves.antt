@@ -22,7 +22,7 @@ pub record Leaves (IsOutput : Status → List ℕ → Type 0) (sent_before : Opt
   pub front : number ≡ status_number Failed → (status : Status) × (out : List ℕ)
       × IsOutput status out × WritesPrefix sent_before sent out
 
--- what was made, or one line says that an allocation failed
+-- the output that was made, or one line that says that an allocation failed
 abbrev pub IsMade : Result Output AllocError → Status → List ℕ → Type 0
 IsMade (Ok o) status out = IsExactly o.status o.text.items status out
 IsMade (Err e) status out = IsOutOfMemory status out

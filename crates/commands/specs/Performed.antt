@@ -43,7 +43,7 @@ IsPerformed (OnFolder line) first second status out = IsExactly Usage [] status 
 
 -- ---- what the exit status says of the history in the first file
 
--- whether 0 says that it is linearizable
+-- whether the exit status 0 of the command says that the history is linearizable
 abbrev pub says_yes : Line → Bool
 says_yes (Check history certificates workers) = true
 says_yes (Search history steps try_first) = true
@@ -53,7 +53,7 @@ says_yes (Run options) = false
 says_yes (Simulate schedule) = false
 says_yes (OnFolder line) = false
 
--- whether 1 says that it is not
+-- whether the exit status 1 of the command says that the history is not linearizable
 abbrev pub says_no : Line → Bool
 says_no (Check history certificates workers) = false
 says_no (Search history steps try_first) = true

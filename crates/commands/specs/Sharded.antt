@@ -26,7 +26,7 @@ abbrev pub fault_of : TextFault → Fault
 fault_of (Text e) = HistoryText e
 fault_of (Maps f) = HistoryMaps f
 
--- the line that says so
+-- the line that says that the text of a history has this fault
 abbrev pub split_fault_line : TextFault → List ℕ
 split_fault_line f = verdict_text false (verdict.Malformed (fault_of f))
 
@@ -68,7 +68,7 @@ IsReadAs holds count limit number s =
     (s.number ≡ number) × (s.count ≡ count) × (s.limit ≡ limit)
     × holds number s.text s.table s.evidence
 
--- these were read as the shards, in the order of their numbers
+-- these shards were read, in the order of their numbers
 abbrev pub AreShardsRead : FolderContents → ℕ → ℕ → List Shard → Type 0
 AreShardsRead holds count limit shards =
     (k : ℕ) (d : Shard) → k < length shards → IsReadAs holds count limit k (get_or shards k d)

@@ -21,7 +21,8 @@ use Rattle.commands.specs.declared.trusting.Trusted.{Trusted}
 abbrev pub HoldingStatus : Type 1
 HoldingStatus = ℕ → Option (List ℕ) → Type 0
 
--- these were read of the files of the shards, in the order of their numbers
+-- these texts of statuses were read, in the order of the shards' numbers; `None` where there is
+-- none
 abbrev pub AreStatusesRead : HoldingStatus → List (Option (List ℕ)) → Type 0
 AreStatusesRead holds read =
     (k : ℕ) (d : Option (List ℕ)) → k < length read → holds k (get_or read k d)
@@ -68,20 +69,20 @@ abbrev pub lines_from : ℕ → List (Option (List ℕ)) → List ℕ
 lines_from shard [] = []
 lines_from shard (r ∷ read) = said_line shard (said_of r) ++ lines_from (shard + 1) read
 
--- the line that says what is not checked
+-- the line that says that the exit statuses of this many shards are believed, and not checked
 abbrev pub first_line : ℕ → List ℕ
 first_line count =
     codes "; not checked: the exit statuses of "
     ++ (decimal count ++ codes " shards are believed\n")
 
--- the line of a yes
+-- the line of a yes by the statuses of this many shards
 abbrev pub last_line : ℕ → Finding → List ℕ
 last_line count Certified = codes "yes by statuses: " ++ (decimal count ++ codes " shards\n")
 last_line count Undecided = []
 last_line count Refuted = []
 last_line count Malformed = []
 
--- what is printed if these were read of this many shards
+-- the lines of a merge of this many shards that believes the statuses that were read
 abbrev pub trusted_text : ℕ → List (Option (List ℕ)) → List ℕ
 trusted_text count read =
     first_line count ++ (lines_from 0 read ++ last_line count (finding_by read))
@@ -92,7 +93,7 @@ trusted_text count read =
 abbrev pub bytes_read : Option (Vec ℕ) → Option (List ℕ)
 bytes_read read = option_map (λ v. v.items) read
 
--- these were taken, and no others, and what is kept is what they say
+-- these statuses were taken, and what is kept is their finding and their lines
 pub record AreTrusted (b : Trusted) (read : List (Option (List ℕ))) : Type 0 where
   pub finding_is : b.finding ≡ finding_by read
   pub lines_are : b.lines.items ≡ lines_from 0 read

@@ -18,12 +18,12 @@ pub mod Keeping
 pub mod Starts
 pub mod Counting
 
--- whether a part keeps "no value" of the cell
+-- whether a part keeps "no value" of the cell: of a register it does, of a key of a map it does not
 abbrev pub keeps_none : Place → Bool
 keeps_none OfRegister = true
 keeps_none (OfKey key) = false
 
--- the kind of an object that has such a cell
+-- the kind of an object that has a cell at this place
 abbrev pub kind_of_place : Place → Kind
 kind_of_place OfRegister = kind.Register
 kind_of_place (OfKey key) = kind.Map
@@ -33,7 +33,7 @@ abbrev pub kind_of_part : Place → Kind → Kind
 kind_of_part OfRegister k = k
 kind_of_part (OfKey key) k = kind.Register
 
--- the call itself, if it is a call of a register
+-- the call itself, if the cell is a register; none if it is a key of a map
 abbrev pub own_call : Place → AnyOp → AnyReply → Option (AnyOp × AnyReply)
 own_call OfRegister op reply = Some (op, reply)
 own_call (OfKey key) op reply = None

@@ -61,7 +61,7 @@ first_picked = 17
 abbrev pub answered_word : ℕ
 answered_word = 33
 
--- a client that has not come yet
+-- the view of a client that has not come yet
 abbrev pub new_client : List Kind → List TableId → ℕ → DeskView
 new_client kinds lists c =
     record {
@@ -224,18 +224,18 @@ after_end_seen d v = record v { retired = v.retired ++ d ∷ [] }
 abbrev pub after_end_unset : ℕ → DeskView → DeskView
 after_end_unset d v = record v { still_there = v.still_there ++ d ∷ [] }
 
--- a view that only carries what v has seen
+-- the view of a message that carries only what v has seen
 abbrev pub seen_message : DeskView → DeskView
 seen_message v = record (new_client [] [] 0) { role = role.Message; seen = v.seen }
 
--- the message t has come
+-- the client's view after a message came whose view is t
 abbrev pub after_message : DeskView → DeskView → DeskView
 after_message v t = record v { received = t.seen }
 
--- a message that says nothing, as each is after it has come
+-- the view of a message that says nothing, as each does after it has come
 abbrev pub empty_message : DeskView
 empty_message = record (new_client [] [] 0) { role = role.Message }
 
--- a view that only carries the end of v
+-- the view of a message that carries only the end of v
 abbrev pub end_message : DeskView → DeskView
 end_message v = record empty_message { left = end_notice v ∷ [] }

@@ -84,7 +84,7 @@ initial_world =
       ended = λ _. false;
     }
 
--- the kind of an object
+-- the kind of an object, by its number
 abbrev pub kind_at : List Kind → ℕ → Kind
 kind_at kinds x = slice_index_or kinds x some_kind
 

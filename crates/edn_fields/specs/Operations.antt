@@ -14,20 +14,20 @@ pub record HasValues (v : OperationValues) (es : Entries) : Type 0 where
   pub object : IsValue v.object.now (value_at (codes "object") es)
   pub value : IsValue v.value.now (value_at (codes "value") es)
 
--- it is a map that has these values
+-- the form is a map that has these values for its keys
 abbrev pub IsMapWith : OperationValues → Datum → Type 0
 IsMapWith v d = (es : Entries) × (d ≡ dictionary es) × HasValues v es
 
--- pairs before others
+-- the entries with these pairs in front
 abbrev pub onto : List (List ℕ × Datum) → Entries → Entries
 onto [] es = es
 onto (p ∷ ps) es = entry p.0 p.1 (onto ps es)
 
--- no pair comes first
+-- the tokens do not begin with a key
 abbrev pub NoPair : List Token → Type 0
 NoPair ts = (k : List ℕ) (us : List Token) → ts ≡ leaf (atom (keyword k)) ∷ us → ⊥
 
--- no map comes first
+-- the tokens do not begin with a map
 abbrev pub NoMap : List Token → Type 0
 NoMap ts = (us : List Token) → ts ≡ open_map ∷ us → ⊥
 

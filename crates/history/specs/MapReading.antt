@@ -6,7 +6,7 @@ use Rattle.history.specs.declared.client_map.OperationMap.{OperationMap}
 use Rattle.history.specs.declared.map_reader.MapReader.{MapReader}
 use Rattle.history.specs.UsualForms.{ReadsForm}
 
--- the rest of the text
+-- the rest of the text, after the maps that were read
 abbrev pub left_in : MapReader → List ℕ
 left_in r = text_left r.elements
 

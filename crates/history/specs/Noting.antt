@@ -41,7 +41,7 @@ abbrev pub shift_event : ℕ → Event → Event
 shift_event n e =
     record { number = n + e.number; process = e.process; object = e.object; action = e.action }
 
--- if two kinds are kept of an object they are one
+-- if two kinds are kept of an object, they are the same
 abbrev pub IsOneKind : Option Kind → Option Kind → Type 0
 IsOneKind before own = (kind : Kind) → own ≡ Some kind → IsNoOther before kind
 

@@ -11,7 +11,7 @@ use Rattle.history_commands.specs.declared.status.Status.TheVariants.{Yes, No, M
 use Rattle.history_commands.specs.declared.status.Status.TheVariants.{Undecided, OutOfMemory}
 use Rattle.history_commands.specs.declared.status.Status.TheVariants.{NoThread, Failed, Usage}
 
--- the exit status
+-- the number of the exit status
 abbrev pub status_number : Status → ℕ
 status_number Yes = 0
 status_number No = 1
@@ -43,7 +43,7 @@ abbrev pub status_on : {A : Type 0} → (A → Bool) → (A → Bool) → List (
 status_on is_impossible is_found answers =
     status_by (list_any (λ a. is_impossible a.1) answers) (list_all (λ a. is_found a.1) answers)
 
--- the lines on all objects
+-- the lines on all objects, in order
 abbrev pub lines_on : {A : Type 0} → (ℕ → A → List ℕ) → List (ℕ × A) → List ℕ
 lines_on line [] = []
 lines_on line (a ∷ rest) = line a.0 a.1 ++ lines_on line rest
@@ -56,7 +56,7 @@ IsExactly own lines status out = (status ≡ own) × (out ≡ lines)
 abbrev pub IsOutOfMemory : Status → List ℕ → Type 0
 IsOutOfMemory status out = IsExactly OutOfMemory (codes "out of memory\n") status out
 
--- the lines of a verdict of which this holds, with its status
+-- the output is the lines of a verdict of which this holds, with its status
 abbrev pub IsVerdictOutput : (Verdict → Type 0) → Status → List ℕ → Type 0
 IsVerdictOutput IsSaid status out =
     (v : Verdict) × IsSaid v × (status ≡ status_of v) × (out ≡ verdict_text false v)

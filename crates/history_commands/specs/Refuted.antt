@@ -106,7 +106,7 @@ refutations_text es limit (r ∷ rs) [] = []
 refutations_text es limit (r ∷ rs) (a ∷ answers) =
     refutation_lines es (call_count_on es r) limit r a ++ refutations_text es limit rs answers
 
--- no, if one reason shows it, else open
+-- no, if one of the answers is that no order is valid; otherwise undecided
 abbrev pub refute_status : List ReasonAnswer → Status
 refute_status answers = status_by (list_any shows_impossible answers) false
 

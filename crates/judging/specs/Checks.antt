@@ -9,8 +9,8 @@ use Rattle.report.specs.Lines.{verdict_text}
 use Rattle.report.specs.declared.verdict.Verdict.{Verdict}
 use Rattle.judging.specs.Reads.{read_limit}
 
--- Both texts were read, and the verdict holds of them. What the sources have left is given as it
--- was before and after.
+-- The texts of the history and of the certificates were read, and the verdict holds of them. What
+-- their sources have left is given as it was before and after.
 pub record IsVerdictOnRead (history history_left certificates certificates_left : Option (List ℕ))
     (v : Verdict) : Type 0 where
   pub first : List ℕ

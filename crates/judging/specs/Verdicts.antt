@@ -30,14 +30,14 @@ SaysOfTexts h c (No r) = IsFirstRefusalText h c r
 SaysOfTexts h c (Malformed f) = IsFirstFault h c f
 SaysOfTexts h c NoMemory = AreSoundSoFar h c
 
--- if it is Yes
+-- if the verdict is Yes, this holds
 abbrev pub OnYes : Verdict → Type 0 → Type 0
 OnYes (Yes s) P = P
 OnYes (No r) P = ⊤
 OnYes (Malformed f) P = ⊤
 OnYes NoMemory P = ⊤
 
--- it is Yes, or an allocation failed
+-- the verdict is Yes, or an allocation failed
 abbrev pub IsYesUnlessMemory : Verdict → Type 0
 IsYesUnlessMemory (Yes s) = ⊤
 IsYesUnlessMemory (No r) = ⊥

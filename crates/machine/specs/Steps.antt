@@ -17,7 +17,7 @@ use Rattle.machine.specs.declared.step.StepFault.TheVariants as fault
 use Rattle.machine.specs.Machines.{State, clients_of, world_of}
 use Rattle.machine.specs.Runs.{IsImpossible}
 
--- there is such a client, and it has not ended
+-- there is a client c, and it has not ended
 abbrev pub IsGoing : State → ℕ → Type 0
 IsGoing s c = (c < clients_of s) × ((world_of s).ended c ≡ false)
 
@@ -27,7 +27,7 @@ HasPicked s x r =
     (q : AnyRequest) × ((world_of s).stage r ≡ picked q) × (q.object ≡ x)
     × (kind_of q.op ≡ kind_at s.kinds x)
 
--- what the log of x leaves
+-- the log of x is possible from the empty content on, and leaves some content
 abbrev pub HasContent : State → ℕ → Type 0
 HasContent s x =
     (content : Content) × Replays (empty (kind_at s.kinds x)) ((world_of s).log x) content
@@ -54,17 +54,17 @@ CanDo s x op =
 abbrev pub IsPossible : State → ℕ → world.Step → Type 0
 IsPossible s c w = (after : World) × Transition s.kinds s.quota w (world_of s) c after
 
--- the client c has left
+-- the client c has ended
 abbrev pub HasEnded : State → ℕ → Type 0
 HasEnded s c = (world_of s).ended c ≡ true
 
--- objects, clients and quota are the same
+-- both machines have the same objects, clients and quota
 pub record IsLike (s s' : State) : Type 0 where
   pub kinds : s'.kinds ≡ s.kinds
   pub clients : clients_of s' ≡ clients_of s
   pub quota : s'.quota ≡ s.quota
 
--- the client c took the step, and objects, clients and quota are the same
+-- the client c took the step; objects, clients and quota are the same after it
 pub record IsStepTaken (s : State) (c : ℕ) (w : world.Step) (s' : State) : Type 0 where
   pub moves : Transition s.kinds s.quota w (world_of s) c (world_of s')
   pub kinds : s'.kinds ≡ s.kinds

@@ -15,7 +15,7 @@ pub record IsGatheredPart (es : List Event) (part parts : ℕ) (os : List Object
   pub operations : All (λ o. o.ops ≡ operations_on o.object es) os
   pub calls : All (λ o. calls_of o.ops ≡ calls_on o.object (denoted es)) os
 
--- the results of all parts, also those in which an allocation failed
+-- the result for each part has the objects of that part, unless an allocation failed for it
 abbrev pub AreGathered : {V E : Type 0} → (V → List ObjectCalls) → List Event → List (Result V E)
     → Type 0
 AreGathered {V} {E} items es rs =

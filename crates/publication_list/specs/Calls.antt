@@ -10,14 +10,14 @@ pub record RosterSeen : Type 0 where
   pub id : TableId
   pub rows : ℕ
 
--- the place of a row
+-- a place as contracts see it: its roster, its row, and its tries
 pub record PlaceSeen : Type 0 where
   pub roster : TableId
   pub row : ℕ
   -- the result of each try to enlist the row
   pub tries : List Enlist
 
--- the walker
+-- a walker as contracts see it: its roster, the rows of its list, and its walks
 pub record WalkerSeen : Type 0 where
   pub roster : TableId
   -- how many rows have a place

@@ -14,7 +14,7 @@ use Rattle.publication_list.specs.Limits.{max_rows, list_words, mark_place}
 use Rattle.publication_list.specs.PublicationList.{Stage, asleep, awake, listed, unlinked}
 use Rattle.publication_list.specs.PublicationList.{PublicationList, IsDistinct, word_at, mark_of}
 
--- what the owner of a row knows of it
+-- what the owner of a row knows of it agrees with the state of the row
 abbrev pub OwnRowAgrees : RowKnowledge → Stage → Type 0
 OwnRowAgrees own.Unknown t = (t ≡ asleep) ⊎ ((t ≡ listed) ⊎ (t ≡ unlinked))
 OwnRowAgrees own.Asleep t = t ≡ asleep
@@ -54,7 +54,8 @@ pub record Tied (l : PublicationList) (words : List ℕ) : Type 0 where
   pub links : (r n : ℕ) → r < max_rows → l.stage r ≡ awake n → slice_index words (1 + r) ≡ n
   pub marks : (r : ℕ) → r < max_rows → slice_index words (mark_place r) ≡ mark_of (l.stage r)
 
--- the rule
+-- The rule of a publication list's table: there is a sound list to which its words and views are
+-- tied.
 pub record Kept {S : Type 0} (s : State S ListView) : Type 0 where
   pub list : PublicationList
   pub sound : Sound list

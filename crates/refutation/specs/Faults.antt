@@ -12,7 +12,7 @@ abbrev pub reason_fault_number : ReasonFaultKind → ℕ
 reason_fault_number NotAReason = 1
 reason_fault_number NoMemory = 2
 
--- what is wrong with a form
+-- this is wrong with the form: it is not a reason
 abbrev pub IsReasonFault : List Datum → Datum → ReasonFaultKind → Type 0
 IsReasonFault earlier d NotAReason = reason_in d ≡ None
 IsReasonFault earlier d NoMemory = ⊥
@@ -21,7 +21,7 @@ IsReasonFault earlier d NoMemory = ⊥
 abbrev pub IsFirstFault : List Datum → ReasonFault → Type 0
 IsFirstFault ds fault = IsFirstFaultBy IsReasonFault reason_fault_number ds fault.form fault.kind
 
--- nothing is wrong with the forms before this place, and there is one at it
+-- there is a form at this place, and nothing is wrong with the forms before it
 pub record AreReasonsSoundBefore (ds : List Datum) (place : ℕ) : Type 0 where
   pub earlier : List Datum
   pub form : Datum

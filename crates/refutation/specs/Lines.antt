@@ -139,7 +139,7 @@ abbrev pub reason_lines : List Reason → List ℕ
 reason_lines [] = []
 reason_lines (r ∷ rs) = reason_line r ++ reason_lines rs
 
--- each object has a number that a text can have
+-- the object of each reason has a number that a text can have
 abbrev pub AreReasonsInRange : List Reason → Type 0
 AreReasonsInRange rs = All (λ r. r.object ≤ max_object) rs
 

@@ -41,7 +41,7 @@ IfShownImpossible (refutation.NotShown part why_not) P = ⊤
 IfShownImpossible refutation.NoPart P = ⊤
 IfShownImpossible refutation.OtherObject P = ⊤
 
--- if it is not shown, this holds of the part and of why
+-- if it is not shown that no order is valid, this holds of the part and of why not
 abbrev pub IfNotShown : ReasonAnswer → (ObjectCalls → WhyNotShown → Type 0) → Type 0
 IfNotShown (refutation.Impossible part) P = ⊤
 IfNotShown (refutation.NotShown part why_not) P = P part why_not
@@ -66,7 +66,7 @@ IsSearchBasis (Search trial) = ⊤
 IsSearchBasis (Counting count) = ⊥
 IsSearchBasis (Ahead number from) = ⊥
 
--- a count does not show that the part has no valid order
+-- the basis is a count, and what it counts is not exceeded in the part
 abbrev pub IsNotExceeded : Basis → ObjectCalls → Type 0
 IsNotExceeded (Search trial) part = ⊥
 IsNotExceeded (Counting count) part =

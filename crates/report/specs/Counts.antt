@@ -29,11 +29,11 @@ use_by x Info = None
 abbrev pub uses : List Event → List Use
 uses es = filter_map (λ e. use_by e.object e.action) es
 
--- the elements and this one, unless it is among them
+-- the elements that were met and this one, unless it is among them
 abbrev pub with_new : {X : Type 0} → (X → X → Bool) → List X → X → List X
 with_new same seen x = if list_any (same x) seen then seen else seen ++ x ∷ []
 
--- the elements, each once, in the order in which they are first seen
+-- the elements of a list, each once, in the order in which they are first met
 abbrev pub first_seen : {X : Type 0} → (X → X → Bool) → List X → List X
 first_seen same xs = fold (with_new same) [] xs
 

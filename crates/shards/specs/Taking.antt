@@ -77,11 +77,11 @@ pub record AddsMap (count : ℕ) (d : Datum) (object place : ℕ) (old new : Lis
 abbrev pub forms_of : List SpelledMap → List Datum
 forms_of maps = map (λ m. m.form) maps
 
--- no files have anything
+-- files in which no shard has anything
 abbrev pub no_lines : Files
 no_lines = record { texts = λ s. []; tables = λ s. [] }
 
--- the files with these added
+-- the files with these lines added at the end of each
 abbrev pub with_more : Files → Files → Files
 with_more files more = record {
   texts = λ s. files.texts s ++ more.texts s;
@@ -110,14 +110,14 @@ abbrev pub AreTakenWith : Datum → ℕ → Divider → List SpelledMap → File
 AreTakenWith d count new maps written =
     (m : SpelledMap) × (m.form ≡ d) × AreMapsTaken count new (maps ++ m ∷ []) written
 
--- A piece spells more maps, and these were taken too.
+-- A piece spells more maps after those that were taken, and these were taken too.
 pub record AreTakenOf (piece : List ℕ) (count : ℕ) (d : Divider) (maps : List SpelledMap)
     (written : Files) : Type 0 where
   pub more : List SpelledMap
   pub spells : Spells (forms_of more) piece
   pub taken : AreMapsTaken count d (maps ++ more) written
 
--- Lines that waited were added to the files.
+-- Maps were taken, and lines of theirs that waited were added to the files.
 pub record AreTakenAfter (count : ℕ) (d : Divider) (maps : List SpelledMap) (written : Files)
     (files files_after : Option Files) : Type 0 where
   pub more : Files

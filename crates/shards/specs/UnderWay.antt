@@ -26,13 +26,13 @@ pub record ReadsOn (old new : Pieces) (left left_after : Option (List ℕ)) : Ty
   pub start : new.start ≡ old.start
   pub ended : new.is_ended ≡ true → IsAtEnd left_after
 
--- The piece at the front is gone, and the line feed after it.
+-- The piece at the front of the pieces is gone, and the line feed after it.
 pub record PassesPiece (old new : Pieces) (piece : List ℕ) : Type 0 where
   pub text : old.text.items ≡ piece ++ 10 ∷ new.text.items
   pub start : new.start ≡ old.start + (length piece + 1)
   pub ended : new.is_ended ≡ old.is_ended
 
--- The pieces stay as they were: nothing more was read, and nothing is gone.
+-- The pieces are unchanged: nothing more was read, and none is gone.
 pub record StaysAs (old new : Pieces) : Type 0 where
   pub text : new.text.items ≡ old.text.items
   pub start : new.start ≡ old.start

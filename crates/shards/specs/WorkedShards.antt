@@ -8,11 +8,11 @@ use Rattle.events.specs.declared.event.Action.TheVariants.{Invoke, Ok}
 use Rattle.events.specs.declared.event.Event.{Event}
 use Rattle.shards.specs.Shards.{events_on}
 
--- each object in the shard that has its number
+-- the shard of an object, if each object is in the shard that has its number
 abbrev pub own_shard : ℕ → ℕ
 own_shard x = x
 
--- with this number, this process does this on this object
+-- the event with this number in which this process does this on this object
 abbrev pub does : ℕ → ℕ → ℕ → Action → Event
 does n p x a = record { number = n; object = x; process = p; action = a }
 
@@ -47,6 +47,6 @@ two_at_once =
     ∷ does 3 3 2 (Ok (Value (Some (pos 8))))
     ∷ []
 
--- its shards, with the numbers that their events have in the whole
+-- the shards of `two_at_once`, with the numbers that their events have in the whole
 abbrev pub shards_of_two_at_once : ℕ → List Event
 shards_of_two_at_once s = events_on (λ x. own_shard x == s) two_at_once

@@ -16,7 +16,7 @@ use Rattle.seq_objects.specs.declared.kinds.Kinds.{Kinds}
 use Rattle.seq_objects.specs.Kinds.{kinds_named}
 use Rattle.desk_model.specs.Limits.{max_objects, max_clients, max_calls}
 
--- a number from low to high
+-- the number, if there is one and it is from low to high
 abbrev pub number_within : ℕ → ℕ → Option ℕ → Option ℕ
 number_within low high None = None
 number_within low high (Some n) = if nat_le low n && nat_le n high then Some n else None

@@ -29,7 +29,8 @@ WrittenDenotes = (objects : ℕ) (journals : ℕ → List AnyEvent) (logs : ℕ 
     → (text : List ℕ) (es : List Event) → IsHistoryText journals text → AreEventsOf journals es
     → DenotesEvents text es
 
--- So is that of a sound record's history, if there are no more objects than a text can have.
+-- The text of a sound record's history is read back as its events, if there are no more objects
+-- than a text can name.
 abbrev pub SoundWrittenDenotes : Type 0
 SoundWrittenDenotes =
     (kinds : List Kind) (quota : ℕ) (journals : ℕ → List AnyEvent) (logs : ℕ → List AnyEntry)

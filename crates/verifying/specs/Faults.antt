@@ -8,13 +8,13 @@ use Rattle.verifying.specs.declared.fault.ClaimFaultKind.TheVariants.{NotACertif
 use Rattle.verifying.specs.declared.fault.ClaimFaultKind.TheVariants.{NoMemory}
 use Rattle.verifying.specs.declared.fault.ClaimFault.{ClaimFault}
 
--- no two kinds of fault are of one form; this is an order of them
+-- an order of the kinds of faults; no two kinds are of one form
 abbrev pub fault_rank : ClaimFaultKind → ℕ
 fault_rank NotACertificate = 1
 fault_rank NotAReason = 2
 fault_rank NoMemory = 3
 
--- what is wrong with a form
+-- this is wrong with the form: it is not a certificate, or not a reason
 abbrev pub IsClaimFault : List Datum → Datum → ClaimFaultKind → Type 0
 IsClaimFault earlier d NotACertificate = (names_order d ≡ true) × (claim_in d ≡ None)
 IsClaimFault earlier d NotAReason = (names_order d ≡ false) × (claim_in d ≡ None)
@@ -24,7 +24,7 @@ IsClaimFault earlier d NoMemory = ⊥
 abbrev pub IsFirstFault : List Datum → ClaimFault → Type 0
 IsFirstFault ds fault = IsFirstFaultBy IsClaimFault fault_rank ds fault.form fault.kind
 
--- nothing is wrong with the forms before this place, and there is one at it
+-- there is a form at this place, and nothing is wrong with the forms before it
 pub record AreClaimsSoundBefore (ds : List Datum) (place : ℕ) : Type 0 where
   pub earlier : List Datum
   pub form : Datum

@@ -11,7 +11,8 @@ abbrev pub contains_value : Option ℤ → ℤ → Bool
 contains_value None a = false
 contains_value (Some v) a = int_eq v a
 
--- A value is created if there is none.
+-- What an operation leaves in a register, and what it replies. `Create` leaves its value only if
+-- there is none.
 abbrev pub next_register : Option ℤ → AnyOp → Option (Option ℤ × AnyReply)
 next_register c (Write v) = Some (Some v, Value (Some v))
 next_register c Read = Some (c, Value c)
