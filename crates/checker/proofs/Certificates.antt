@@ -285,6 +285,7 @@ no_refusal es certificates d x h (BadOrder y f) s =
     h.faultless f (rw (same_orders certificates d x s.1 h.certificate) at s.2)
 no_refusal es certificates d x h r s = s
 
+-- if each object has a valid certificate, and each certificate is for one of them, the certificates are valid
 pub all_valid : (es : List Event) (certificates : List Certificate) (os : List ObjectCalls) → AreObjects es os
     → AreFine es certificates os
     → AreForThese (map (λ o. o.object) os) certificates → AreValid es certificates
@@ -295,6 +296,7 @@ all_valid es certificates os objects h besides = record {
       (all_at (λ (c : Certificate). Contains (map (λ o. o.object) os) c.object) certificates besides c i));
 }
 
+-- if each named object has a valid certificate, the least object of the other certificates is the one to be refused
 pub least_strange : (es : List Event) (certificates : List Certificate) (os : List ObjectCalls) (x : ℕ)
     → AllPairs (λ a b. a.object ≢ b.object) certificates → AreObjects es os → AreFine es certificates os
     → IsLeastBesides (map (λ o. o.object) os) certificates x → IsLeastStrange es certificates x
@@ -368,6 +370,7 @@ refused_are_not_valid es certificates all os o later r d objects split h refused
         absurd (s.3 (rw (same_orders certificates d o.object each.0 s.1) at each.1))
     go NoMemory f s = refl
 
+-- certificates are not valid if one is for an object that is not in the history
 pub strange_is_not_valid : (es : List Event) (certificates : List Certificate) (x : ℕ)
     → IsLeastStrange es certificates x → AreValid es certificates → ⊥
 strange_is_not_valid es certificates x h valid =
@@ -377,6 +380,7 @@ strange_is_not_valid es certificates x h valid =
 
 -- ---- the list of objects
 
+-- objects in rising order, with their kinds and calls, are those of the history
 pub are_objects : (es : List Event) (fs os : List ObjectCalls) → fs ≡ os → AllPairs (λ a b. a.object < b.object) os
     → ((x : ℕ) → Contains (map (λ o. o.object) os) x ↔ IsNamed es x)
     → All (λ o. o.kind ≡ kind_of_object es o.object) os → All (λ o. calls_of o.ops ≡ calls_on o.object (denoted es)) os
@@ -407,6 +411,7 @@ next_is es fs i o P h l is p =
     subst (P (kind_of_object es o.object))
     (all_at (λ (o : ObjectCalls). calls_of o.ops ≡ calls_on o.object (denoted es)) fs h.calls o j) its_kind
 
+-- one more object of the list has a valid certificate
 pub next_fine : (es : List Event) (certificates : List Certificate) (fs : List ObjectCalls) (i : ℕ) (o : ObjectCalls)
     → AreObjects es fs
     → i < length fs → o ≡ get_or fs i o → IsFine o.kind (calls_of o.ops) certificates o.object

@@ -115,6 +115,7 @@ pub record AreOnAll {A : Type 0} (es : List Event) (Is : ℕ → Kind → List C
   pub named : (x : ℕ) → Contains (map (λ a. a.0) answers) x ↔ IsNamed es x
   pub each : All (λ a. Is a.0 (kind_of_object es a.0) (calls_on a.0 (denoted es)) a.1) answers
 
+-- answers on all objects of the list are answers on all objects of the history
 pub on_all : {A : Type 0} (es : List Event) (Is : ℕ → Kind → List Call → A → Type 0) (objects : List ObjectCalls)
     (k : ℕ) (answers : List (ℕ × A))
     → length objects ≤ k → AreAnswers es Is objects k answers → AreOnAll es Is answers
@@ -145,6 +146,7 @@ own {A} certificate_of es Is answers certifies h a c i e =
     certifies a.0 (kind_of_object es a.0) (calls_on a.0 (denoted es)) a.1 c
     (all_at (λ (a : ℕ × A). Is a.0 (kind_of_object es a.0) (calls_on a.0 (denoted es)) a.1) answers h.each a i) e
 
+-- the certificates among the answers are of different objects
 pub distinct : {A : Type 0} (certificate_of : A → Option Certificate) (es : List Event)
     (Is : ℕ → Kind → List Call → A → Type 0)
     (answers : List (ℕ × A)) → Certifies certificate_of Is → AreOnAll es Is answers
@@ -174,6 +176,7 @@ distinct {A} certificate_of es Is answers certifies h =
           rest,
         )
 
+-- if each answer has a certificate, the certificates are valid
 pub valid : {A : Type 0} (certificate_of : A → Option Certificate) (es : List Event)
     (Is : ℕ → Kind → List Call → A → Type 0) (answers : List (ℕ × A))
     → Certifies certificate_of Is → AreOnAll es Is answers → All (λ a. IsSome (certificate_of a.1)) answers

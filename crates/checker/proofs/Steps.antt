@@ -130,6 +130,7 @@ place_of_call (o ∷ ops) c i = go (call_of o) refl i (place_of_call ops c)
     go None q j f = behind (f j)
     go (Some e) q j f = elim j [ inl s ↦ (0, omega arith, λ d. q ∙ ap Some (sym s)) | inr t ↦ behind (f t) ]
 
+-- the call at a place of the operations is one of the calls
 pub call_at_place : (ops : List Invocation) (k : ℕ) (d : Invocation) (c : Call) → k < length ops
     → call_of (get_or ops k d) ≡ Some c → In c (calls_of ops)
 call_at_place [] k d c l e = absurd (omega arith)

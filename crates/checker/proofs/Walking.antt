@@ -80,6 +80,7 @@ found_number calls (negsuc n) c h = absurd (cc h)
 found_number [] (pos n) c h = absurd (cc h)
 found_number (d ∷ calls) (pos n) c h = let rest = found_number calls (pos n) c in grind (arith, nat_tests)
 
+-- a call that was found by its number is one of the calls
 pub found_known : (calls : List Call) (z : ℤ) (c : Call) → call_with_number calls z ≡ Some c → In c calls
 found_known calls (negsuc n) c h = absurd (cc h)
 found_known [] (pos n) c h = absurd (cc h)

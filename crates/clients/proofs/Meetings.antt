@@ -19,6 +19,7 @@ use Rattle.publication.specs.Calls.{HaveBothMet}
 use Rattle.clients.specs.Workloads.{Work, calls_at}
 use Rattle.clients.specs.Made.{HasMetClient, HasMetBelow, HasWorked, HaveSeenAlike, Keeps, MadeOrStopped}
 
+-- what is kept in two steps is kept in both together
 pub keeps_on : (v w u : DeskView) → Keeps v w → Keeps w u → Keeps v u
 keeps_on v w u a b = record {
   calls = record {

@@ -27,6 +27,7 @@ use Rattle.combiner.specs.Passes.{KeepsCalls, Goes, IsTried, IsSettled, IsSettle
 keeps_same : (v w u : DeskView) → w ≡ u → KeepsCalls v u → KeepsCalls v w
 keeps_same v w u e k = subst (KeepsCalls v) (sym e) k
 
+-- calls that are kept in two steps are kept in both together
 pub keeps_on : (v w u : DeskView) → KeepsCalls v w → KeepsCalls w u → KeepsCalls v u
 keeps_on v w u a b = record {
   number = b.number ∙ a.number;
@@ -57,6 +58,7 @@ goes_nowhere p = record {
   ready = λ e. e;
 }
 
+-- two stretches of a pass in which rows were tried are one
 pub goes_on : (p q r : Holding) → Goes p q → Goes q r → Goes p r
 goes_on p q r a b = record {
   desk = b.desk ∙ a.desk;
@@ -94,6 +96,7 @@ goes_room p q n is = subst (Goes p)
       ready = λ e. e;
     }
 
+-- what changed only the list and the ages twice changed only these
 pub same_on : (p q r : Holding) → IsSameBut p q → IsSameBut q r → IsSameBut p r
 same_on p q r a b = (
   b.0,
@@ -104,6 +107,7 @@ same_on p q r a b = (
 pub same_settled : (p q : Holding) → IsSameBut p q → IsSettledNow p → IsSettledNow q
 same_settled p q s k = subst IsSettledNow (sym s.2) (λ r waiting on. k r waiting on)
 
+-- what was told of the own row stays true if only the list and the ages change
 pub same_tried : (p q : Holding) (t : Tried) → IsSameBut p q → IsTried p t → IsTried q t
 same_tried p q t s k = subst (λ z. IsTried z t) (sym s.2) (also t k)
   where
@@ -241,6 +245,7 @@ keeps_learnt c x p q v opened on begins g is =
       seen = seen_on q.knows.seen q.object q.log longer;
     })
 
+-- a miss keeps the client's calls
 pub keeps_missed : (x : ℕ) (v w : DeskView) → w ≡ after_miss x v → KeepsCalls v w
 keeps_missed x v w is = keeps_same v w _ is (keeps_held v)
 

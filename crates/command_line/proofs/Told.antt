@@ -17,6 +17,7 @@ or_false : (b : Bool) → (b || false) ≡ b
 or_false true = refl
 or_false false = refl
 
+-- an argument that clap was told of is one more rule of the command
 pub adds_rule : (old : Command) (a : Arg) (new : Command) (r : Rule) → AddsArg old a new → a.global ≡ false
     → rule_of a ≡ r
     → (app_of new ≡ with_rule (app_of old) r) × ((fields_of new).has_globals ≡ (fields_of old).has_globals)
@@ -35,6 +36,7 @@ not_first : {Y : Type 0} (is : Y → Bool) (y : Y) (ys : List Y) → is y ≡ fa
 not_first is y ys not = subst (λ b. cond b (Some y) (find is ys) ≡ find is ys) (sym not) refl
 
 module _ {X : Type 0} (xs : List X) (i : ℕ) (d : X) (h : i < length xs) where
+  -- the rules that are left to be added, after one was
   pub more_rules : {Y : Type 0} (rule : Y → Rule) (of : X → Y) (old new : App)
       → new ≡ with_rule old (rule (of (get_or xs i d)))
       → with_rules new (map rule (map of (drop (i + 1) xs))) ≡ with_rules old (map rule (map of (drop i xs)))

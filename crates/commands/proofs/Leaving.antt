@@ -82,12 +82,14 @@ verdict_is_written v e = absurd cc
 -- the lines of this verdict, of which it holds
 module _ (IsSaid : Verdict → Type 0) (v : Verdict) (said : IsSaid v) {before after : Option (List ℕ)} {broken : Bool}
   where
+    -- a command that wrote the lines of its verdict leaves them with the verdict's status
     pub wrote_verdict : Appends before after (verdict_text false v) → broken ≡ false
         → Leaves (IsVerdictOutput IsSaid) before (status_number (status_of v)) after broken
     wrote_verdict sent usable = leaves_as
         (wrote_all (status_of v) (verdict_text false v) (verdict_is_written v) sent usable)
         (λ status out k. (v, said, k.0, k.1))
 
+    -- a command whose output failed leaves a beginning of its lines, with the status for that
     pub wrote_front_of : WritesPrefix before after (verdict_text false v) → broken ≡ true
         → Leaves (IsVerdictOutput IsSaid) before (status_number Failed) after broken
     wrote_front_of sent failed =

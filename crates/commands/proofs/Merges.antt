@@ -36,9 +36,11 @@ no_shard = record { number = 0; count = 0; text = []; table = []; evidence = [];
 
 -- what was read is in the order of its numbers: nothing so far, and one more
 module _ {X : Type 0} (IsAt : ℕ → X → Type 0) where
+  -- before the first shard nothing was read
   pub none_read : (k : ℕ) (d : X) → k < 0 → IsAt k (get_or [] k d)
   none_read k d below = absurd (omega (arith, below))
 
+  -- one more shard was read, in the order of the numbers
   pub read_more : (xs : List X) (x : X) → ((k : ℕ) (d : X) → k < length xs → IsAt k (get_or xs k d))
       → IsAt (length xs) x → (k : ℕ) (d : X) → k < length (xs ++ x ∷ []) → IsAt k (get_or (xs ++ x ∷ []) k d)
   read_more xs x read own k d below = elim (cases_lt k (length xs)) [

@@ -14,15 +14,19 @@ use Rattle.history_commands.proofs.Numbers.{no_by_number, yes_by_number}
 use Rattle.commands.specs.Leaves.{Leaves}
 use Rattle.commands.specs.Performed.{IsPerformedOn, says_no, says_yes}
 
+-- an allocation failure is no yes
 pub memory_not_yes : (status : Status) → status ≡ OutOfMemory → status ≢ Yes
 memory_not_yes status e y = absurd cc
 
+-- an allocation failure is not a no
 pub memory_not_no : (status : Status) → status ≡ OutOfMemory → status ≢ No
 memory_not_no status e n = absurd cc
 
+-- the number of a yes is not that of output that failed
 pub yes_not_failed : (number : ℕ) → number ≡ status_number Yes → number ≢ status_number Failed
 yes_not_failed number y f = absurd cc
 
+-- the number of a no is not that of output that failed
 pub no_not_failed : (number : ℕ) → number ≡ status_number No → number ≢ status_number Failed
 no_not_failed number n f = absurd cc
 

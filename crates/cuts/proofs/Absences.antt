@@ -321,6 +321,7 @@ without_early v number (e ∷ es) c d s h p spent =
 
 -- ---- the law
 
+-- if the calls have a valid order, the calls without those of an absent value have one
 pub without_valid : (kind : Kind) (calls : List Call) (v : ℤ) (number : ℕ) (order : List ℤ)
     → AllPairs (λ a b. a.number < b.number) calls
     → IsAbsent v number calls → IsValidOrder kind calls order

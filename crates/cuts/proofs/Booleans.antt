@@ -10,13 +10,16 @@ use Rattle.std.specs.Ordering.{int_eq}
 use Rattle.std.proofs.lemmas.Int.{ints}
 use Rattle.std.proofs.lemmas.Bool.Decides.{nat_tests}
 
+-- false is not true
 pub false_is_not_true : false ≡ true → ⊥
 false_is_not_true e = absurd (cc e)
 
+-- a test holds or not
 pub true_or_false : (b : Bool) → (b ≡ true) ⊎ (b ≡ false)
 true_or_false true = inl refl
 true_or_false false = inr refl
 
+-- of a conjunction that holds both hold
 pub both_true : (a b : Bool) → (a && b) ≡ true → (a ≡ true) × (b ≡ true)
 both_true true b e = (refl, e)
 both_true false b e = absurd (false_is_not_true e)
@@ -24,6 +27,7 @@ both_true false b e = absurd (false_is_not_true e)
 pub less_by_test : (a b : ℕ) → nat_lt a b ≡ true → a < b
 less_by_test a b e = grind (arith, nat_tests)
 
+-- integers that the test finds equal are equal
 pub same_by_test : (v a : ℤ) → int_eq v a ≡ true → v ≡ a
 same_by_test v a e = grind (arith, ints)
 
@@ -32,6 +36,7 @@ pub some_at : {T : Type 0} (P : T → Type 0) (o : Option T) → ((p : T) → o 
 some_at P None f = tt
 some_at P (Some p) f = f p refl
 
+-- what all elements pass each of them passes
 pub passes_all : {X : Type 0} (p : X → Bool) (xs : List X) → list_all p xs ≡ true → (x : X) → In x xs → p x ≡ true
 passes_all p [] h x i = absurd i
 passes_all p (y ∷ ys) h x i = grind (arith, passes_all p ys)

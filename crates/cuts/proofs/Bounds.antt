@@ -230,6 +230,7 @@ along kind what from most es before ends in_time h = go (from == 0) refl before
         omega arith
     go false q e = later (is_single kind) refl e
 
+-- if the calls have a valid order, a content was taken away no more often than it was there before and was set
 pub count_bounded : (kind : Kind) (calls : List Call) (what : Counted) (from most : ℕ) (order : List ℤ)
     → AllPairs (λ a b. a.number < b.number) calls
     → All (λ e. (r : Return) → e.returned ≡ Some r → e.number < r.at) calls → most_before kind what from ≡ Some most

@@ -55,6 +55,7 @@ first_turn kind calls keeps order rising v =
         → size + put + 0 + all_took ≤ all_put + took
     sums size put all_put took all_took a b d = omega arith
 
+-- if the calls have a valid order, a closed projection has one
 pub projection_valid : (kind : Kind) (calls : List Call) (all : Bool) (keeps : ℤ → Bool) (kept : ℕ → Bool)
     (order : List ℤ)
     → All (λ e. kind_of e.op ≡ kind) calls → AllPairs (λ a b. a.number < b.number) calls → IsClosed all keeps kept calls

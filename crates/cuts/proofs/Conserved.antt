@@ -18,6 +18,7 @@ use Rattle.cuts.specs.Kinds.Containers.{puts_in, is_removal}
 use Rattle.cuts.proofs.Ordered.{calls_apart, in_calls, in_entries, entries_apart}
 use Rattle.cuts.proofs.Booleans.{false_is_not_true, true_or_false}
 
+-- 1 for true, 0 for false
 abbrev pub one : Bool → ℕ
 one b = cond b 1 0
 
@@ -26,6 +27,7 @@ abbrev pub tally : {X : Type 0} → (X → Bool) → List X → ℕ
 tally p [] = 0
 tally p (x ∷ xs) = one (p x) + tally p xs
 
+-- the count by recursion is the count
 pub count_tally : {X : Type 0} (p : X → Bool) (xs : List X) → tally p xs ≡ count_by p xs
 count_tally p xs = is_count_by (tally p) p refl (λ x xs. go (p x) (tally p xs)) xs
   where
@@ -54,6 +56,7 @@ taken keeps es = tally (λ e. takes_out keeps e.op (reply_of e.returned)) es
 
 -- ---- how many kept values an object contains
 
+-- how many kept values a queue, a stack or a heap contains; 0 for other contents
 abbrev pub kept_size : (ℤ → Bool) → Content → ℕ
 kept_size keeps (queue vs) = length (filter keeps vs)
 kept_size keeps (stack vs) = length (filter keeps vs)
@@ -95,6 +98,7 @@ pub and_false : (b : Bool) → (b && false) ≡ false
 and_false true = refl
 and_false false = refl
 
+-- one call of an order changes the number of kept values by what it puts in and takes out
 pub turn : (keeps : ℤ → Bool) (e : Call) (c after : Content) (reply : AnyReply) → next c e.op ≡ Some (after, reply)
     → IfSome e.returned (λ r. r.reply ≡ reply) → Turn keeps e c after reply
 turn keeps e c after reply does agrees = record {
@@ -162,5 +166,6 @@ counted_entries kind calls keeps order rising v =
     returned t None e = absurd (false_is_not_true (sym (and_false t) ∙ e))
     returned t (Some r) e = refl
 
+-- an empty object contains no kept values
 pub size_empty : (keeps : ℤ → Bool) (k : Kind) → kept_size keeps (empty k) ≡ 0
 size_empty keeps k = search rules

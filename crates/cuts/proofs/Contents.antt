@@ -36,6 +36,7 @@ abbrev pub IsCellShadow : (ℤ → Bool) → Option ℤ → Option ℤ → Type 
 IsCellShadow keeps None y = y ≡ None
 IsCellShadow keeps (Some v) y = keeps v ≡ true → y ≡ Some v
 
+-- no value is less than an earlier one
 abbrev pub IsRising : List ℤ → Type 0
 IsRising vs = Pairs (λ v w. v ≤ℤ w) vs
 
@@ -57,6 +58,7 @@ empty_shadow keeps k = search rules
 
 -- ---- how a choice is made
 
+-- the reply, if it is shown
 abbrev pub shown : Bool → AnyReply → Option AnyReply
 shown true r = Some r
 shown false r = None
@@ -171,6 +173,7 @@ in_with_value : (v : ℤ) (ws : List ℤ) (x : ℤ) → In x (with_value v ws) �
 in_with_value v [] x i = i
 in_with_value v (w ∷ ws) x i = grind (arith, with_value-more, with_value-front, in_with_value v ws x)
 
+-- a rising list with one more value in its place rises
 pub rising_with_value : (v : ℤ) (ws : List ℤ) → IsRising ws → IsRising (with_value v ws)
 rising_with_value v [] h = (λ y i. absurd i, tt)
 rising_with_value v (w ∷ ws) h = elim (true_or_false (int_lt w v)) [
@@ -486,6 +489,7 @@ lock_step all keeps x op kept b = tt
 
 -- ---- any content
 
+-- a step of the whole, and what the part does then, whatever the object contains
 pub step_at : (all : Bool) (keeps : ℤ → Bool) → (all ≡ true → (v : ℤ) → keeps v ≡ true) → (c d : Content) (op : AnyOp)
     → IsShadow keeps c d → StepAt all keeps op c d
 step_at all keeps every (queue vs) (queue ws) op s =

@@ -20,6 +20,7 @@ use Rattle.cuts.proofs.Bounds.{set_from, taken_from, none_taken, count_bounded}
 use Rattle.cuts.proofs.Conserved.{one, tally, count_tally}
 use Rattle.cuts.proofs.CutOperations.{rising_calls, calls_end}
 
+-- whether an operation is a call, and the call passes the test
 abbrev pub passes : (Call → Bool) → Option Call → Bool
 passes q None = false
 passes q (Some c) = q c
@@ -34,6 +35,7 @@ tally_calls p q same (o ∷ ops) = ap (λ b. one b + tally p ops) (same o) ∙ g
     go None h = omega arith
     go (Some c) h = ap (λ (n : ℕ). one (q c) + n) h
 
+-- as many operations pass a test as calls do
 pub count_calls : (p : Invocation → Bool) (q : Call → Bool) → ((o : Invocation) → p o ≡ passes q (call_of o))
     → (ops : List Invocation) → count_by p ops ≡ count_by q (calls_of ops)
 count_calls p q same ops = sym (count_tally p ops) ∙ tally_calls p q same ops ∙ count_tally q (calls_of ops)

@@ -21,6 +21,7 @@ use Rattle.cuts.proofs.Sequences.{in_filter_map, pairs_filter_map}
 
 -- ---- lists
 
+-- the result of a function on what is there, or nothing if nothing is there
 abbrev pub bind : {X Y : Type 0} → Option X → (X → Option Y) → Option Y
 bind None f = None
 bind (Some x) f = f x
@@ -30,17 +31,20 @@ filter_map-cons : {X Y : Type 0} (f : X → Option Y) (o : Option X) (xs : List 
 filter_map-cons f None xs = refl
 filter_map-cons f (Some x) xs = refl
 
+-- a function on those that pass a test, as a filter and then a map
 pub filter_map-filter : {X Y : Type 0} (p : X → Bool) (f : X → Y) (xs : List X)
     → filter_map (λ x. cond (p x) (Some (f x)) None) xs ≡ map f (filter p xs)
 filter_map-filter p f [] = refl
 filter_map-filter p f (x ∷ xs) = grind (arith, filter_map-filter p f xs)
 
+-- a map that changes nothing
 pub map-same : {X : Type 0} (xs : List X) → map (λ x. x) xs ≡ xs
 map-same [] = refl
 map-same (x ∷ xs) = ap (λ ys. x ∷ ys) (map-same xs)
 
 -- ---- cut_operations
 
+-- an operation of a part with the number and the kind of the whole's, which returned at the same number if it returned
 pub record IsCutOperation (o p : Invocation) : Type 0 where
   pub number : p.number ≡ o.number
   pub kind : kind_of p.op ≡ kind_of o.op
@@ -90,6 +94,7 @@ cut_into object kind into ops cut_operation is h = record {
     go number Pending f = tt
     go number Failed f = tt
 
+-- what becomes of an object's operations one by one, with their numbers and their kind, is an object's history
 pub cut_history : (object : ℕ) (kind : Kind) (ops : List Invocation) (cut_operation : Invocation → Option Invocation)
     → ((o p : Invocation) → In o ops → cut_operation o ≡ Some p → IsCutOperation o p)
     → IsObjectHistory (record { object = object; kind = kind; ops = ops })
@@ -103,6 +108,7 @@ cut_history object kind ops cut_operation is h =
       returned = q.returned;
     }) h
 
+-- what becomes of operations one by one is, as calls, what becomes of their calls
 pub cut_calls : (cut_operation : Invocation → Option Invocation) (part : Call → Option Call) (ops : List Invocation)
     → ((o : Invocation) → bind (cut_operation o) call_of ≡ bind (call_of o) part)
     → calls_of (filter_map cut_operation ops) ≡ filter_map part (calls_of ops)
@@ -115,10 +121,12 @@ cut_calls cut_operation part (o ∷ ops) f =
 
 -- ---- the calls of an object's history
 
+-- an operation's call has the operation's number, what it invokes, and its response
 pub call_cases : (o : Invocation) (c : Call) → call_of o ≡ Some c
     → (c.number ≡ o.number) × (c.op ≡ o.op) × (c.returned ≡ return_of o.«end»)
 call_cases o c e = grind arith
 
+-- the numbers of calls rise, as those of the operations do
 pub rising_calls : (ops : List Invocation) → AllPairs (λ a b. a.number < b.number) ops
     → AllPairs (λ a b. a.number < b.number) (calls_of ops)
 rising_calls ops h = all_from_pairs (λ a b. a.number < b.number) (calls_of ops)
@@ -129,6 +137,7 @@ rising_calls ops h = all_from_pairs (λ a b. a.number < b.number) (calls_of ops)
     less : (a b c d : ℕ) → a < b → c ≡ a → d ≡ b → c < d
     less a b c d l e f = omega arith
 
+-- in an object's history each call that returned did so after it was invoked
 pub calls_end : (object : ℕ) (kind : Kind) (ops : List Invocation)
     → IsObjectHistory (record { object = object; kind = kind; ops = ops })
     → All (λ e. (r : Return) → e.returned ≡ Some r → e.number < r.at) (calls_of ops)
@@ -155,6 +164,7 @@ all_calls P ops f = all_from_in (λ e. P e.number e.op e.returned) (calls_of ops
     subst (λ n. P n c.op c.returned) (sym k.0)
     (subst (λ op. P o.0.number op c.returned) (sym k.1) (subst (P o.0.number o.0.op) (sym k.2) (f o.0 o.1 c o.2))))
 
+-- two objects' histories are equal if their objects, kinds and operations are
 pub same_history : {a b : ℕ} {k l : Kind} {xs ys : List Invocation} → a ≡ b → k ≡ l → xs ≡ ys
     → ◌≡◌ {A = ObjectCalls} (record { object = a; kind = k; ops = xs }) (record { object = b; kind = l; ops = ys })
 same_history e f g = λ i. record { object = e i; kind = f i; ops = g i }
@@ -166,11 +176,13 @@ part_of_part a b c h k =
 
 -- ---- failed operations
 
+-- a part has no failed operation if none becomes one
 pub cut_lives : (cut_operation : Invocation → Option Invocation) (ops : List Invocation)
     → ((o p : Invocation) → cut_operation o ≡ Some p → p.«end» ≢ Failed) → NoneFailed (filter_map cut_operation ops)
 cut_lives cut_operation ops f =
     all_from_in (λ o. o.«end» ≢ Failed) (filter_map cut_operation ops)
     (λ p i. let o = in_filter_map cut_operation p ops i in f o.0 p o.2)
 
+-- an end that does not count as failed is not `Failed`
 pub did_not_fail : (e : End) → has_failed e ≡ false → e ≢ Failed
 did_not_fail e h = grind arith

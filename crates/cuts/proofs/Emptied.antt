@@ -41,9 +41,11 @@ pairs_beyond R (z ∷ zs) n ys h y i = pairs_beyond R zs n ys h.1 y i
 
 -- ---- a step
 
+-- whether a call puts in a kept value
 abbrev pub put_by : (ℤ → Bool) → Call → Bool
 put_by keeps e = puts_in keeps e.op
 
+-- whether a call took out a kept value, or may have
 abbrev pub may_by : (ℤ → Bool) → Call → Bool
 may_by keeps e = may_take keeps e.op (reply_of e.returned)
 

@@ -33,12 +33,15 @@ use Rattle.cuts.proofs.CutOperations.{cut_calls, cut_lives, did_not_fail, rising
 use Rattle.cuts.proofs.Booleans.{false_is_not_true, both_true, passes_all, all_passes}
 use Rattle.cuts.proofs.CountedCalls.{passes, tally_calls, count_calls}
 
+-- the element itself, if it passes the test
 abbrev pub own : {X : Type 0} → (X → Bool) → X → Option X
 own p x = cond (p x) (Some x) None
 
+-- those that pass a test, as a map that leaves out the others
 pub as_filter : {X : Type 0} (p : X → Bool) (xs : List X) → filter_map (own p) xs ≡ filter p xs
 as_filter p xs = filter_map-filter p (λ x. x) xs ∙ map-same (filter p xs)
 
+-- an operation that is kept as it is becomes one with its number, kind and end
 pub own_is : (p : Invocation → Bool) (o q : Invocation) → own p o ≡ Some q → IsCutOperation o q
 own_is p o q e = subst (IsCutOperation o) (same (p o) e)
     (record { number = refl; kind = refl; returned = λ at reply e. (reply, e) })

@@ -114,6 +114,8 @@ timed_at place keeps other kept calls part h = record {
   timed = λ y x i e. recast_timed (done_at place keeps other (kept y.number)) (opened_at place keeps other) y x e;
 }
 
+-- each call of the part that a cut names has the number of a call of the whole, and returned where that call did, if it
+-- returned
 pub timed_named : (cut : Cut) (calls part : List Call) → AreRising calls → Names cut calls part → AreTimed calls part
 timed_named (From number) calls part rising h = record {
   becomes = call_from number h.at h.first;

@@ -218,6 +218,7 @@ into_part place keeps other = record {
 
 -- ---- calls and operations
 
+-- if the calls have a valid order, the part at one cell has one
 pub part_valid : (place : Place) (own : Kind) (calls : List Call) (keeps : ℤ → Bool) (other : ℤ) (kept : ℕ → Bool)
     (order : List ℤ) → IsValidOrder own calls order
     → (part : List ℤ) × IsValidOrder (kind_of_part place own) (calls_at place keeps other kept calls) part

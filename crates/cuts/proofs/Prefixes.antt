@@ -109,6 +109,7 @@ replies_up_to until p (e ∷ es) c h = go (some_passes p (e ∷ es)) (replies_up
     go true f = (h.0, h.1, h.2, reply_kept until e.returned (λ r. r.reply ≡ h.1) h.3, f)
     go false f = tt
 
+-- if the calls have a valid order, a prefix has one
 pub prefix_valid : (kind : Kind) (calls : List Call) (until : ℕ) (order : List ℤ)
     → All (λ e. (r : Return) → e.returned ≡ Some r → e.number < r.at) calls → IsValidOrder kind calls order
     → (part : List ℤ) × IsValidOrder kind (calls_before until calls) part

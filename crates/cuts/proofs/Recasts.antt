@@ -49,6 +49,7 @@ pub record Steps (R : Content → Content → Type 0) (done : Done) (pending : O
 pub record IsRecast (R : Content → Content → Type 0) (done : Done) (pending : Open) : Type 0 where
   pub step : (c d : Content) (op : AnyOp) → R c d → IfSome (next c op) (λ p. Steps R done pending op d p.0 p.1)
 
+-- what a call becomes by `recast` has the call's number, and returned where the call did, if it returned
 pub recast_timed : (done : AnyOp → AnyReply → Option (AnyOp × AnyReply)) (pending : Open) (y x : Call)
     → recast done pending y.number y.op y.returned ≡ Some x → IsTimed x y
 recast_timed done pending y x e = go y.returned refl e

@@ -15,12 +15,14 @@ pick [] xs = []
 pick (b ∷ bs) [] = []
 pick (b ∷ bs) (x ∷ xs) = cond b (x ∷ pick bs xs) (pick bs xs)
 
+-- each element that was picked is one of the list
 pub in_pick : {X : Type 0} (bs : List Bool) (xs : List X) (x : X) → In x (pick bs xs) → In x xs
 in_pick [] xs x i = absurd i
 in_pick (b ∷ bs) [] x i = absurd i
 in_pick (true ∷ bs) (y ∷ ys) x i = elim i [ inl e ↦ inl e | inr j ↦ inr (in_pick bs ys x j) ]
 in_pick (false ∷ bs) (y ∷ ys) x i = inr (in_pick bs ys x i)
 
+-- what holds of each two elements in order holds of each two that were picked
 pub pairs_pick : {X : Type 0} (R : X → X → Type 0) (bs : List Bool) (xs : List X) → Pairs R xs → Pairs R (pick bs xs)
 pairs_pick R [] xs h = tt
 pairs_pick R (b ∷ bs) [] h = tt

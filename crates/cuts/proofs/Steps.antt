@@ -6,6 +6,7 @@ use Rattle.model.specs.declared.AnyReply.{AnyReply}
 use Rattle.model.specs.declared.AnyReply.TheVariants.{Value}
 use Rattle.model.specs.Objects.{Content, count, owner, stepped, is_i64, next}
 
+-- what an addition to a counter does, for a fact about its result
 pub adds : (P : Content × AnyReply → Type 0) (c n : ℤ)
     → (next (count c) (FetchAdd n) ≡ Some (count (c +ℤ n), Value (Some c)) → P (count (c +ℤ n), Value (Some c)))
     → IfSome (next (count c) (FetchAdd n)) P
@@ -15,6 +16,7 @@ adds P c n f = go (is_i64 (c +ℤ n)) refl
     go true e = f (ap (λ (t : Bool). stepped count (cond t (Some (c +ℤ n, Value (Some c))) None)) e)
     go false e = tt
 
+-- what an unlock of a lock does, for a fact about its result
 pub frees : (P : Content × AnyReply → Type 0) (p o : ℤ)
     → (next (owner (Some p)) (UnlockBy o) ≡ Some (owner None, Value None) → P (owner None, Value None))
     → IfSome (next (owner (Some p)) (UnlockBy o)) P

@@ -45,6 +45,7 @@ OwnLeaves (Some f) Any (leave.Content c) x = (y : Option ℤ) → next (register
 OwnLeaves (Some f) (Is b) (leave.Content c) x = next (register x) f.0 ≡ Some (register c, f.1)
 OwnLeaves own need l x = Unit {0}
 
+-- the call itself, if the part may keep it as it is, does to a register what its touch does to the cell
 abbrev pub OwnDid : Option (AnyOp × AnyReply) → Option Touch → Option ℤ → Type 0
 OwnDid own None x = Unit {0}
 OwnDid own (Some t) x = OwnLeaves own t.need t.leave x

@@ -37,6 +37,7 @@ use Rattle.desk_invariant.proofs.Ties.{tied_coming}
 use Rattle.desk_invariant.proofs.Calls.{later_gone, seat_unanswered, covers_own}
 use Rattle.publication_list.proofs.RosterMaking.{at_end}
 
+-- each place of a list of copies has the copy, also past the end
 pub get_or-replicate_same : {A : Type 0} (a : A) (n i : ℕ) → get_or (replicate n a) i a ≡ a
 get_or-replicate_same a zero i = refl
 get_or-replicate_same a (suc n) zero = refl

@@ -52,6 +52,7 @@ later_held w x d h other away = let logs : (y : ℕ) → StartsWith (w.log y) (w
     in
     assumption
 
+-- the object that a client holds; 0 if it holds none
 abbrev pub held_object : Held → ℕ
 held_object (held.Pass x l) = x
 held_object (held.Hand x l r q) = x

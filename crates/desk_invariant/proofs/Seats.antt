@@ -229,6 +229,7 @@ module _ {S O R : Type 0} (content : S → Content) (op_in : O → AnyOp) (reply
   abbrev pub St : Type 0
   St = State (Slot S O R) DeskView
 
+  -- the rule of a desk's table, for these kinds, clients and quota
   abbrev pub Rule : St → Type 0
   Rule = Kept content op_in reply_in kinds clients quota
 

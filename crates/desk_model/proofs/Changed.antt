@@ -5,10 +5,12 @@ use native.Mathlib.Decide.{ℕ_discrete}
 use Rattle.desk_model.specs.Transitions.{changed}
 
 module _ {A : Type 0} where
+  -- a function that was changed at i has the new value there
   pub changed_here : (f : ℕ → A) (i : ℕ) (v : A) → changed f i v i ≡ v
   unfolding changed
   changed_here f i v = ap (λ b. cond b v (f i)) (eq-eqb i i refl)
 
+  -- a function that was changed at i has its old values elsewhere
   pub changed_else : (f : ℕ → A) (i : ℕ) (v : A) (j : ℕ) → j ≢ i → changed f i v j ≡ f j
   unfolding changed
   changed_else f i v j other = ap (λ b. cond b v (f j)) (ne_eqb j i other)

@@ -29,6 +29,7 @@ abbrev pub ended : ℕ → AnyRequest → ℕ → AnyAnswer → List ProcessCall
 ended c q u (Reply r) os = first c q.ticket q.object q.op u r ∷ os
 ended c q u Refused os = os
 
+-- the calls that a client made: those that are over, and the one that is not
 abbrev pub made : ℕ → List AnyDone → Option AnyRequest → List ProcessCall
 made c [] None = []
 made c [] (Some q) = record {

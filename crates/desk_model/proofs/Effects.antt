@@ -27,6 +27,7 @@ module _ (kinds : List Kind) (quota : ℕ) where
 
   -- ---- who holds an object, and who has ended
 
+  -- the world stays sound when an object gets another holder, or none while nothing is in its hand
   pub sound_held : (w : World) (x : ℕ) (h : Option ℕ) → (h ≡ None → w.hand x ≡ None) → S w → S (held_by w x h)
   sound_held w x h free k =
       let empty_hand : (y : ℕ) → changed w.holder x h y ≡ None → w.hand y ≡ None =
@@ -35,6 +36,7 @@ module _ (kinds : List Kind) (quota : ℕ) where
       (λ y. starts_same (w.log y)) k.journals in
       assumption
 
+  -- the world stays sound when a client ends
   pub sound_ended : (w : World) (c : ℕ) → S w → S (ended_by w c)
   sound_ended w c k =
       let journals = journals_kept kinds w (ended_by w c) refl (λ c. refl) (λ c. refl) (λ c e. e)
@@ -224,6 +226,7 @@ module _ (kinds : List Kind) (quota : ℕ) where
       (λ j other e. changed_else w.hand x None p.object
       (λ same. other (same_Some j r (sym (k.picked_up j p e) ∙ (ap w.hand same ∙ held)))) ∙ k.picked_up j p e) j
 
+  -- the world stays sound when the request in hand goes back into its row
   pub sound_put_back : (w : World) (x r c : ℕ) (q : AnyRequest) → w.stage r ≡ picked q → q.object ≡ x
       → w.holder x ≡ Some c → w.hand x ≡ Some r → S w → S (handed w x None r (posted q))
   sound_put_back w x r c q is on holds held k = record {
@@ -286,6 +289,7 @@ module _ (kinds : List Kind) (quota : ℕ) where
       (λ other. ap (entries_of_client d) (changed_else w.log x l y other) ∙ k.counted d y))
       d
 
+  -- the world stays sound when the request in hand is answered, if the log is legal then
   pub sound_served : (w : World) (x r c : ℕ) (q : AnyRequest) (a : AnyAnswer) → w.stage r ≡ picked q → q.object ≡ x
       → w.holder x ≡ Some c → w.hand x ≡ Some r
       → IsLegalLog (kind_at kinds x) (w.log x ++ logged r q a) → S w → S (served_by w x r q a)

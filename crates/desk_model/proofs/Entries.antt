@@ -11,12 +11,15 @@ use Rattle.desk_model.specs.World.{AnyEntry, AnyEvent, AnyRequest, AnyAnswer, An
 use Rattle.desk_model.specs.World.{entries_of_client}
 use Rattle.desk_model.specs.World.{served, Replays, IsLegalLog, StartsWith, Serves}
 
+-- a beginning of a beginning of a log is a beginning of the log
 pub starts_longer : (xs ys zs : List AnyEntry) → StartsWith xs ys → StartsWith ys zs → StartsWith xs zs
 starts_longer xs ys zs a b = (b.0 ++ a.0, a.1 ∙ (ap (λ l. l ++ a.0) b.1 ∙ append_assoc zs b.0 a.0))
 
+-- a log begins with itself
 pub starts_same : (xs : List AnyEntry) → StartsWith xs xs
 starts_same xs = ([], sym (append-nil xs))
 
+-- the entries of a client in two logs, one after the other
 pub entries-append : (c : ℕ) (xs ys : List AnyEntry) → entries_of_client c (xs ++ ys) ≡ entries_of_client c xs
     ++ entries_of_client c ys
 entries-append c [] ys = refl
@@ -30,9 +33,11 @@ pub others_entries : (c r : ℕ) (q : AnyRequest) (a : AnyAnswer) → c ≢ r �
 others_entries c r q (Reply p) other = ap (λ b. cond b (logged r q (Reply p)) []) (ne_eqb r c (λ e. other (sym e)))
 others_entries c r q Refused other = refl
 
+-- what an answer puts into the log of the request's own object
 pub logged_here : (x c : ℕ) (q : AnyRequest) (a : AnyAnswer) → q.object ≡ x → logged_on x c q a ≡ logged c q a
 logged_here x c q a on = ap (λ b. cond b (logged c q a) []) (eq-eqb q.object x on)
 
+-- an answer puts nothing into the log of another object
 pub logged_else : (x c : ℕ) (q : AnyRequest) (a : AnyAnswer) → q.object ≢ x → logged_on x c q a ≡ []
 logged_else x c q a other = ap (λ b. cond b (logged c q a) []) (ne_eqb q.object x other)
 
@@ -72,10 +77,12 @@ legal_front kind log seen begins legal =
 event_as_it_is : (e : AnyEvent) → event_in (λ (op : AnyOp). op) (λ (r : AnyReply). r) e ≡ e
 event_as_it_is e = grind arith
 
+-- events of journals whose operations and replies are of all kinds stand for themselves
 pub events_as_they_are : (es : List AnyEvent) → map (event_in (λ (op : AnyOp). op) (λ (r : AnyReply). r)) es ≡ es
 events_as_they_are [] = refl
 events_as_they_are (e ∷ es) = λ i. event_as_it_is e i ∷ events_as_they_are es i
 
+-- entries of logs whose operations and replies are of all kinds stand for themselves
 pub entries_as_they_are : (es : List AnyEntry) → map (entry_in (λ (op : AnyOp). op) (λ (r : AnyReply). r)) es ≡ es
 entries_as_they_are [] = refl
 entries_as_they_are (e ∷ es) = λ i. e ∷ entries_as_they_are es i

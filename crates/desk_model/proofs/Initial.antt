@@ -8,6 +8,7 @@ use Rattle.desk_model.specs.Transitions.{staged}
 use Rattle.desk_model.specs.Sound.{Sound, IsAmong, IsInTime}
 use Rattle.desk_model.proofs.Effects.{sound_staged}
 
+-- the world is sound at the start
 pub sound_initial : (kinds : List Kind) (quota : ℕ) → Sound kinds quota initial_world
 sound_initial kinds quota = record {
   legal = λ x. (empty (kind_at kinds x), refl);
@@ -32,6 +33,7 @@ sound_initial kinds quota = record {
   };
 }
 
+-- the world stays sound when a client comes
 pub sound_coming : (kinds : List Kind) (quota : ℕ) (w : World) (c : ℕ) → w.stage c ≡ absent → Sound kinds quota w
     → Sound kinds quota (staged w c idle)
 sound_coming kinds quota w c was =

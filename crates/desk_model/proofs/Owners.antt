@@ -11,9 +11,11 @@ module _ {count : ℕ} {lists : ℕ → List ℕ} (share : ShareOut count lists)
   pub has_owner : (t : ℕ) → (c : ℕ) × (t < count → Contains (lists c) t)
   has_owner t = dite (dec_lt t count) (λ l. let e = share.each t l in (e.0, λ _. e.1)) (λ n. (0, λ l. absurd (n l)))
 
+  -- the client that drew this ticket
   abbrev pub owner : ℕ → ℕ
   owner t = (has_owner t).0
 
+  -- a ticket in the list of a client was drawn, and by this client
   pub drawn_by : (c t : ℕ) → In t (lists c) → (t < count) × (owner t ≡ c)
   drawn_by c t i =
       let below : t < count = all_at (λ t. t < count) (lists c) (share.below c) t i in

@@ -170,6 +170,7 @@ module _ (kinds : List Kind) (quota : ℕ) (w : World) (k : Sound kinds quota w)
           replies_beside Beside (λ e c b. b.says) (empty (kind_at kinds x)) legal.0 log entries legal.1 pick.1;
     }
 
+-- the journals and logs of a sound world are a sound record
 pub sound_record : (kinds : List Kind) (quota : ℕ) (w : World) → Sound kinds quota w
     → IsSoundRecord kinds quota (journal_in w) w.log
 sound_record kinds quota w k = record {

@@ -42,11 +42,13 @@ pub record Shares {X : Type 0} (number process : X → ℕ) (count : ℕ) (owner
 abbrev of_number : {X : Type 0} → (X → ℕ) → ℕ → List X → List X
 of_number number t ms = filter (λ m. number m == t) ms
 
+-- the elements of all lists in the order of their numbers, if `owner` says of each number whose it is
 abbrev pub merged : {X : Type 0} → (X → ℕ) → ℕ → (ℕ → ℕ) → (ℕ → List X) → List X
 merged number count owner lists = flat_map (λ t. of_number number t (lists (owner t))) (upto count)
 
 module _ {X : Type 0} (number process : X → ℕ) (count : ℕ) (owner : ℕ → ℕ) (lists : ℕ → List X)
     (s : Shares number process count owner lists) where
+  -- the numbers of the merged elements rise
   pub merged_rises : Pairs (λ a b. number a < number b) (merged number count owner lists)
   merged_rises = pairs_flat_map (λ a b. number a < number b) (λ a b. a < b)
       (λ t. of_number number t (lists (owner t))) (upto count) (upto_rises count)
@@ -68,6 +70,7 @@ module _ {X : Type 0} (number process : X → ℕ) (count : ℕ) (owner : ℕ �
       ∙ sym (filter_none (λ m. number m == t) (lists c)
       (λ m i. ne_eqb (number m) t (λ e. other (ap owner (sym e) ∙ s.owned c m i)))))
 
+  -- the merged elements of one process are its list
   pub merged_part : (c : ℕ) → filter (λ m. process m == c) (merged number count owner lists) ≡ lists c
   merged_part c =
       filter-flat_map (λ m. process m == c) (λ t. of_number number t (lists (owner t))) (upto count)

@@ -23,6 +23,7 @@ use Rattle.desk_model.proofs.Changed.{changed_here, changed_else, changed_all}
 
 -- ---- journals that grow
 
+-- the journal with a call that is not over is the journal without it, and the invocation
 pub journal_begun : (ds : List AnyDone) (q : AnyRequest) → journal_of ds (Some q) ≡ journal_of ds None ++ invoked q ∷ []
 journal_begun [] q = refl
 journal_begun (d ∷ ds) q = ap (λ z. invoked d.request ∷ Returned d.returned d.answer ∷ z) (journal_begun ds q)

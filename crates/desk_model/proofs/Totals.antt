@@ -17,6 +17,7 @@ total_one f g (suc n) c l e h = dite (ℕ_discrete n c)
     let here : g n ≡ f n + 1 = ap g same ∙ (e ∙ ap (λ z. f z + 1) (sym same)) in omega arith)
     (λ other. let before = total_one f g n c (omega arith) e h in let there = h n other in omega arith)
 
+-- a total of n numbers, each at most q, is at most n times q
 pub total_le : (f : ℕ → ℕ) (n q : ℕ) → ((c : ℕ) → c < n → f c ≤ q) → total f n ≤ n * q
 total_le f zero q h = omega arith
 total_le f (suc n) q h =

@@ -52,5 +52,6 @@ module _ (kinds : List Kind) (quota : ℕ) where
   takes_sound release w w' c low t k = subst S (sym t.after) (sound_held kinds quota w t.object None (λ _. t.free) k)
   takes_sound end w w' c low t k = subst S (sym t.after) (sound_ended kinds quota w c k)
 
+  -- each step keeps the world sound
   pub transition_keeps_soundness : (s : Step) (w w' : World) (c : ℕ) → Transition kinds quota s w c w' → S w → S w'
   transition_keeps_soundness s w w' c m k = takes_sound s w w' c m.0 m.3 k

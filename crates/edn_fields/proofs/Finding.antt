@@ -11,6 +11,7 @@ use Rattle.edn_reader.specs.declared.form.Form.{Form}
 use Rattle.edn_reader.specs.declared.form.Name.{Name}
 use Rattle.edn_fields.specs.Fields.{same_bytes, value_at}
 
+-- the test of the code for equal bytes is that of the definitions
 pub same_bytes_is : (xs ys : List ℕ) → pointwise nat_eq xs ys ≡ same_bytes xs ys
 same_bytes_is [] [] = refl
 same_bytes_is [] (y ∷ ys) = refl

@@ -3,6 +3,7 @@ use Rattle.std.proofs.Common.{ℕ, List, [], ◌∷◌, ◌++◌, ap, ◌∙◌,
 use Rattle.edn_reader.specs.Datum.{Datum}
 use Rattle.edn_fields.specs.FirstFaults.{IsFirstFaultBy}
 
+-- the first fault of forms is the first also with one more form at the end
 pub first_more : {Kind : Type 0} {IsFault : List Datum → Datum → Kind → Type 0} {number_of : Kind → ℕ}
     (ds : List Datum) (d : Datum) (at : ℕ)
     (kind : Kind) → IsFirstFaultBy IsFault number_of ds at kind

@@ -16,6 +16,7 @@ keyword_by : (d : Datum) (ts : List Token) → keyword_first (tokens_of d ++ ts)
 keyword_by (atom nil) ts = refl
 keyword_by d ts = refl
 
+-- the number whose token comes first is that of the value
 pub natural_is : (ps : List Piece) (o : Option Datum) → IsValue ps o
     → natural_first (token_buffer_tokens ps) ≡ natural_in o
 natural_is ps None h = ap (λ (x : List Piece). natural_first (token_buffer_tokens x)) h

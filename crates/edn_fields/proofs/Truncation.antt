@@ -6,6 +6,7 @@ use Rattle.edn_reader.specs.Datum.{Datum, atom, vector, dictionary, Entries, no_
 use Rattle.edn_fields.specs.Fields.{same_bytes, value_at, natural_in, keyword_in}
 use Rattle.edn_fields.proofs.Finding.{same_bytes_is}
 
+-- the value of a key in entries of which only the beginning of each value was kept
 pub value_of_truncated : (k : List ℕ) (es : Entries)
     → value_at k (truncated_entries es) ≡ option_map truncated_value (value_at k es)
 value_of_truncated k no_entries = refl
@@ -17,6 +18,7 @@ value_of_truncated k (entry l d es) = by_key (same_bytes k l) (value_of_truncate
     by_key true e = refl
     by_key false e = e
 
+-- a value of which only the beginning was kept is the same natural number, or still none
 pub natural_of_truncated : (o : Option Datum) → natural_in (option_map truncated_value o) ≡ natural_in o
 natural_of_truncated None = refl
 natural_of_truncated (Some (atom a)) = refl

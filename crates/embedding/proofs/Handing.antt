@@ -13,6 +13,8 @@ use Rattle.std.specs.Prelude.{Result, Ok, Err, IfOk, IfErr}
 use Rattle.std.specs.declared.alloc.AllocError.{AllocError}
 use Rattle.embedding.specs.Handed.{IsAnswered, IsHandedOut}
 
+-- a function of the library that handed out the output that was made, or the line of an allocation failure, has
+-- answered
 pub answered : (IsMade : Status → List ℕ → Type 0) (made : Result Output AllocError) (result : ℕ)
     (before after : List ℕ) (told : ℕ) → IfOk made (λ o. IsMade o.status o.text.items)
     → IfOk made (λ o. (result ≡ status_number o.status) × IsHandedOut o.text.items before after told)
@@ -31,9 +33,11 @@ shows IsMade Q own result before after told by_number other show (inl a) e =
 shows IsMade Q own result before after told by_number other show (inr m) e =
     absurd (other (sym (by_number OutOfMemory (sym m.0 ∙ e))))
 
+-- a yes is not an allocation failure
 pub yes_is_other : Yes ≢ OutOfMemory
 yes_is_other e = absurd cc
 
+-- a no is not an allocation failure
 pub no_is_other : No ≢ OutOfMemory
 no_is_other e = absurd cc
 

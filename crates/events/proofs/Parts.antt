@@ -241,6 +241,7 @@ kind_here x (e ∷ es) o h i =
 abbrev pub object_calls : List Event → ℕ → ObjectCalls
 object_calls es x = record { object = x; kind = kind_of_object es x; ops = operations_on x es }
 
+-- the operations on one object among proper events are an object's history
 pub is_object_history : (es : List Event) → IsProper es → (x : ℕ) → IsObjectHistory (object_calls es x)
 is_object_history es h x =
     let up : RisingEvents es = pairs_from_all (λ a b. a.number < b.number) es h.rising in

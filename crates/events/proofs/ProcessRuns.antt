@@ -15,6 +15,7 @@ pub data State : Type 0 where
   busy : ℕ → AnyOp → State
   closed : State
 
+-- what a process is doing after an event with this action on object x
 abbrev pub state_by : ℕ → Action → State
 state_by x (Invoke op) = busy x op
 state_by x (Ok r) = idle

@@ -183,6 +183,7 @@ denoted_rising (e ∷ es) h = go e.action (fails (next_event e.process es)) (den
     go Fail b rest = rest
     go Info b rest = rest
 
+-- what proper events denote is a history
 pub denoted_is_history : (es : List Event) → IsProper es → IsHistory (denoted es)
 denoted_is_history es h = record {
   rising = all_from_pairs (λ a b. a.number < b.number) (denoted es)

@@ -61,6 +61,7 @@ first_within ds d k small h = record {
   ];
 }
 
+-- a form that is faultless apart from the limits of one text is faultless if it keeps them
 pub none_within : (ds : List Datum) (d : Datum) → IsSmall d → HasNoFault IsMapFault ds d → length ds < max_maps
     → HasNoFault IsHistoryFormFault ds d
 none_within ds d small none few k f = elim (fault_or_limit ds d k small f) [
@@ -81,6 +82,7 @@ too_many_first ds d small none many = record {
 
 -- ---- of all forms
 
+-- forms that are faultless in one text are so at any length
 pub at_any_length : (ds : List Datum) → HasNoHistoryFault ds → IsFaultlessAtAnyLength ds
 at_any_length ds h earlier later d k q f = h earlier later d k q (fault_within earlier d k f)
 
@@ -89,6 +91,7 @@ pub small_objects : (ds : List Datum) → HasNoHistoryFault ds → All IsSmall d
 small_objects ds h = all_from_in IsSmall ds
     (λ d i great. let r = in_split d ds i in h r.0 r.1 d NotAnOperation r.2 (inr great))
 
+-- forms that are faultless at any length are so in one text if they keep its limits
 pub faultless_within : (ds : List Datum) → IsFaultlessAtAnyLength ds → length ds ≤ max_maps → All IsSmall ds
     → HasNoHistoryFault ds
 faultless_within ds h few small earlier later d k q f =

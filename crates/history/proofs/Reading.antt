@@ -19,6 +19,7 @@ use Rattle.history.specs.Texts.{AreEventsRead}
 use Rattle.history.proofs.MapLimit.{IsSmall, none_within}
 use Rattle.history.proofs.PartEvents.{events_join}
 
+-- the events of forms with one more form at the end
 pub events_push : (n : ℕ) (ds : List Datum) (d : Datum)
     → events_of_forms n (ds ++ d ∷ []) ≡ events_of_forms n ds ++ event_of (n + length ds) (client_of d)
 events_push n ds d = rw (events_join n ds (d ∷ []), append-nil) refl
@@ -42,6 +43,7 @@ split_push (y ∷ ds) d (x ∷ earlier) later e q =
       | inr h ↦ inr (h.0, ap (λ z. z ∷ ds) head ∙ ap (λ t. x ∷ t) h.1)
     ]
 
+-- forms without a fault, and one more without a fault after them
 pub faultless_push : (IsFault : List Datum → Datum → HistoryFaultKind → Type 0) (ds : List Datum) (d : Datum)
     → AreFaultless IsFault ds
     → HasNoFault IsFault ds d → AreFaultless IsFault (ds ++ d ∷ [])
@@ -60,6 +62,7 @@ nothing_faulty IsFault earlier later d k e f = no_split earlier e
 
 -- ---- what is read
 
+-- before the first form nothing was read
 pub nothing_read : (seen : Seen) (es : List Event) → IsSeen seen [] → es ≡ [] → AreEventsRead seen 0 [] es
 nothing_read seen es h e = record { kept = h; faultless = nothing_faulty IsHistoryFormFault; events = e; count = refl }
 

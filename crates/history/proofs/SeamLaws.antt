@@ -34,6 +34,7 @@ use Rattle.history.proofs.PartEvents.{events_after}
 abbrev pub IsTakenOver : {V : Type 0} → (ℕ → Option V) → (ℕ → Option V) → (ℕ → Option V) → List ℕ → ℕ → Type 0
 IsTakenOver old own now left k = (now k ≡ kept_after old own k) ⊎ ((now k ≡ old k) × In k left)
 
+-- before any key is taken over, those of the list are still to be
 pub taken_first : {V : Type 0} (old own : ℕ → Option V) (keys : List ℕ) (k : ℕ) → IsListed (own k) keys k
     → IsTakenOver old own old keys k
 taken_first {V} old own keys k h = elim h [
@@ -47,6 +48,7 @@ twice : {V : Type 0} (own old now : Option V) → (now ≡ option_or own old) �
 twice None old now h = elim h [ inl q ↦ q | inr q ↦ q ]
 twice (Some v) old now h = refl
 
+-- one more key of the list is taken over
 pub taken_more : {V : Type 0} (old own now new : ℕ → Option V) (key : ℕ) (later : List ℕ) (k : ℕ)
     → TakesOver now own new key
     → IsTakenOver old own now (key ∷ later) k → IsTakenOver old own new later k
@@ -111,11 +113,13 @@ joined_more old new read ds es h p allowed one few processes kinds events maps =
 
 -- ---- along a list
 
+-- what holds of the first i elements and of the next holds of the first i + 1
 pub all_more : {X : Type 0} (P : X → Type 0) (xs : List X) (i : ℕ) (d : X) → i < length xs → All P (take i xs)
     → P (get_or xs i d) → All P (take (i + 1) xs)
 all_more P xs i d l h p = rw (take_more xs i d l) (All-append P (take i xs) (get_or xs i d ∷ []) h
     (all_from_in P (get_or xs i d ∷ []) (λ x j. elim j [ inl e ↦ rw e p | inr k ↦ absurd k ])))
 
+-- what holds of as many elements as there are holds of all
 pub all_done : {X : Type 0} (P : X → Type 0) (xs : List X) (i : ℕ) → length xs ≤ i → All P (take i xs) → All P xs
 all_done P xs i l h = rw (take_all i xs l) at h
 

@@ -12,9 +12,11 @@ use Rattle.history_commands.specs.declared.status.Status.TheVariants as status_i
 
 -- ---- by the status
 
+-- a status is a yes only if each object has an order
 pub yes_of : (b c : Bool) → status_by b c ≡ status_is.Yes → c ≡ true
 yes_of b c e = grind arith
 
+-- a status is a no only if an object is impossible
 pub no_of : (b c : Bool) → status_by b c ≡ status_is.No → b ≡ true
 no_of b c e = grind arith
 

@@ -18,6 +18,7 @@ yes_shows P (Yes s) p e = p
 yes_shows P (No r) p e = absurd (refusal_is_no_yes r e)
 yes_shows P v p e = absurd cc
 
+-- the output of a verdict that holds is that of a check
 pub is_check : (h c : List ℕ) (status : Status) (out : List ℕ) → IsVerdictOutput (IsJudgement h c) status out
     → IsCheck h c status out
 is_check h c status out k =

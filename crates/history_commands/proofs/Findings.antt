@@ -30,6 +30,7 @@ module _ {X : Type 0} (of : X → Finding) where
       let two = both_certified f (of y) later.0 in
       (two.0, λ x i. elim i [ inl q ↦ ap of q ∙ two.1 | inr j ↦ later.1 x j ])
 
+  -- if the worst finding is certified, each one is
   pub all_certified : (xs : List X) → worst (map of xs) ≡ Certified → (x : X) → In x xs → of x ≡ Certified
   all_certified xs e = (each_certified Certified xs e).1
 
@@ -45,9 +46,11 @@ module _ {X : Type 0} (of : X → Finding) where
     | inr r ↦ inr (r.0, inr r.1, r.2)
   ]
 
+  -- if the worst finding is refuted, one is
   pub some_refuted : (xs : List X) → worst (map of xs) ≡ Refuted → (x : X) × In x xs × (of x ≡ Refuted)
   some_refuted xs e = elim (found_of_one Certified Refuted xs e) [ inl q ↦ absurd cc | inr r ↦ r ]
 
+  -- the worst finding with one more at the end
   pub worst_push : (xs : List X) (x : X) → worst (map of (xs ++ x ∷ [])) ≡ worse (worst (map of xs)) (of x)
   worst_push xs x = ap worst (map_push of xs x) ∙ fold_push Certified (of x) (map of xs)
 
@@ -57,8 +60,10 @@ own_finding a = a.finding
 
 -- ---- how a merge ends
 
+-- the status is a yes only if the worst finding is certified
 pub yes_certified : (f : Finding) → status_with f ≡ ends.Yes → f ≡ Certified
 yes_certified f e = grind arith
 
+-- the status is a no only if the worst finding is refuted
 pub no_refuted : (f : Finding) → status_with f ≡ ends.No → f ≡ Refuted
 no_refuted f e = grind arith

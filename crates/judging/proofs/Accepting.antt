@@ -14,6 +14,7 @@ use Rattle.model.specs.Lists.{In}
 use Rattle.model.proofs.Lists.{all_at, all_from_in, in_from_contains, contains_from_in}
 use Rattle.judging.specs.Texts.{DenotesHistory, DenotesCertificates}
 
+-- a text that spells one list of forms denotes one list of events
 pub one_history : (text : List ℕ) (ds : List Datum) (es fs : List Event)
     → ((d : List Datum) → Spells d text → d ≡ ds) → history_meaning.Denotes ds es → DenotesHistory text fs → fs ≡ es
 one_history text ds es fs only d h = h.denoted.events ∙ ap (history_meaning.events_of_forms 0) (only h.forms h.spelled)
@@ -33,6 +34,7 @@ same_readings (x ∷ xs) (y ∷ ys) e = let rest = same_readings xs ys (tails e)
     tails : {x y : Option Reading} {xs ys : List (Option Reading)} → x ∷ xs ≡ y ∷ ys → xs ≡ ys
     tails e = cc
 
+-- a text that spells one list of forms denotes certificates of one meaning
 pub one_meaning : (text : List ℕ) (ds : List Datum) (cs bs : List Certificate)
     → ((d : List Datum) → Spells d text → d ≡ ds) → certificate_meaning.Denotes ds cs → DenotesCertificates text bs
     → map reading_of bs ≡ map reading_of cs

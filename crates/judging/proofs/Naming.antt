@@ -39,6 +39,7 @@ call_named [] c i = absurd i
 call_named (e ∷ later) c i = one_named e later c (call_named later c) e.action refl
     (fails (next_event e.process later)) i
 
+-- if certificates are valid, the calls of each named object have a valid order
 pub orders : (es : List Event) (certificates : List Certificate) → AreValid es certificates
     → All (λ call. HasValidOrder (kind_of_object es) (denoted es) call.object) (calls_in (denoted es))
 orders es certificates v = all_from_in (λ (c : ProcessCall). HasValidOrder (kind_of_object es) (denoted es) c.object)

@@ -24,6 +24,7 @@ module _ (es : List Event) where
   on_yes P (Err e) (Malformed f) k p = tt
   on_yes P (Err e) NoMemory k p = tt
 
+  -- the verdict on a check says what the check says of the certificates
   pub judges_by : (cs : List Certificate) (r : Result (Unit {0}) Refusal) (v : Verdict) → IsVerdictOnCheck es r v
       → OnOk r (AreValid es cs) → IfErr r (IsFirstRefusal es cs) → SaysOfCertificates es cs v
   judges_by cs (Ok u) (Yes s) k valid first = (valid, k)
@@ -35,6 +36,7 @@ module _ (es : List Event) where
   judges_by cs (Err e) (Malformed f) k valid first = absurd k
   judges_by cs (Err e) NoMemory k valid first = tt
 
+  -- the verdict is Yes if the check refused nothing, except for an allocation failure
   pub yes_unless_memory : (r : Result (Unit {0}) Refusal) (v : Verdict) → IsVerdictOnCheck es r v
       → IfErr r (λ e. e ≡ refusal.NoMemory) → IsYesUnlessMemory v
   yes_unless_memory (Ok u) (Yes s) k e = tt

@@ -42,6 +42,7 @@ pub record Completed (h : List Numbered) (c : List Event) : Type 0 where
 
 -- ---- what one process completed
 
+-- all these events are responses
 abbrev pub Responses : List Event → Type 0
 Responses es = AllByRecursion (λ e. is_invocation e ≡ false) es
 

@@ -114,6 +114,7 @@ cut_numbered (m ∷ h) (e ∷ a) b q =
     let rest = cut_numbered h a b (cc q) in
     (m ∷ rest.0, rest.1, cc (rest.2), cc (q, rest.3), rest.4)
 
+-- as many events pass a test with their numbers as without
 pub length_filter_events : (q : Event → Bool) (h : List Numbered)
     → length (filter q (events h)) ≡ length (filter (λ m. q m.event) h)
 length_filter_events q [] = refl
@@ -148,6 +149,7 @@ invokes_of_process p h = filter-filter (invokes p) (λ e. process_of e == p) h
     ∙ filter_same (λ e. (process_of e == p) && invokes p e) (invokes p) h
     (λ e i. absorbs (process_of e == p) (is_invocation e))
 
+-- the responses to a process before a number are among the events of the process
 pub responds_in_part : (p t : ℕ) (h : List Numbered)
     → filter (λ m. responds p m.event && nat_lt m.number t) (part p h)
     ≡ filter (λ m. responds p m.event && nat_lt m.number t) h

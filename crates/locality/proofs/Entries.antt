@@ -20,6 +20,7 @@ use Rattle.model.proofs.Orders.{max_either}
 not_below : (a b : ℕ) → (b < a → ⊥) → a ≤ b
 not_below a b h = omega arith
 
+-- the number of a call
 abbrev pub number_of : ProcessCall → ℕ
 number_of e = e.call.number
 

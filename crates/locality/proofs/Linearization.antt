@@ -397,6 +397,7 @@ module _ (objects : ℕ → Specification) (h : List Numbered) (hist : IsHistory
     order = order_kept;
   }
 
+-- a history is linearizable if each object has a valid order, for any specifications
 pub locality_lem : (objects : ℕ → Specification) (h : List Numbered) → IsHistory h
     → ((x : ℕ) → HasValidOrderOf objects h x) → IsLinearizableFor objects (events h)
 locality_lem objects h hist valid =

@@ -6,6 +6,7 @@ use Rattle.std.proofs.lemmas.List.{append_assoc, length-append}
 use Rattle.std.proofs.lemmas.List.Elements.{filter-append}
 use Rattle.model.specs.Histories.{Event, invokes, responds, Operation, IsTurn, Precedes}
 
+-- a place in H after the response of the first operation and before the invocation of the second
 pub record Moment (h : List Event) (e f : Operation) : Type 0 where
   pub front : List Event
   pub rest : List Event
@@ -14,9 +15,11 @@ pub record Moment (h : List Event) (e f : Operation) : Type 0 where
   pub waiting : length (filter (invokes f.process) front) ≤ f.turn
   pub begun : f.turn < length (filter (invokes f.process) h)
 
+-- how many events pass a test
 abbrev pub count : (Event → Bool) → List Event → ℕ
 count q h = length (filter q h)
 
+-- how many events pass a test in two lists, one after the other
 pub count-append : (q : Event → Bool) (a b : List Event) → count q (a ++ b) ≡ count q a + count q b
 count-append q a b = ap length (filter-append q a b) ∙ length-append (filter q a) (filter q b)
 
@@ -47,6 +50,7 @@ turn_at q k (x ∷ h) l = go k (q x) refl l (turn_at q k h) (λ j. turn_at q j h
           (r.4.0, ap (λ (t : Bool). length (cond t (x ∷ filter q r.0) (filter q r.0))) e ∙ r.4.1),
         )
 
+-- if one operation precedes another, there is a moment between them
 pub moment_from : (h : List Event) (e f : Operation) → Precedes h e f → Moment h e f
 moment_from h e f p =
     let front : List Event = p.before ++ p.response ∷ p.between in
@@ -71,6 +75,7 @@ moment_from h e f p =
       begun = omega arith;
     }
 
+-- if there is a moment between two operations, the first precedes the second
 pub precedes_from : (h : List Event) (e f : Operation) → Moment h e f → Precedes h e f
 precedes_from h e f m =
     let r = turn_at (responds e.process) e.turn m.front m.returned in

@@ -111,11 +111,13 @@ order_alone : (kinds : ℕ → Kind) (h : List Numbered) (x : ℕ) → HasValidO
     → HasValidOrderOf (λ y. specification (kinds y)) h x
 order_alone kinds h x v = (v.0, valid_alone (kinds x) (calls_on x h) v.0 v.1)
 
+-- a history is linearizable if the calls of each object have a valid order
 pub locality_of_kinds : (kinds : ℕ → Kind) (h : List Numbered) → IsHistory h → ((x : ℕ) → HasValidOrder kinds h x)
     → IsLinearizable kinds (events h)
 locality_of_kinds kinds h hist valid =
     locality_lem (λ x. specification (kinds x)) h hist (λ x. order_alone kinds h x (valid x))
 
+-- a history is linearizable if the calls of each object that it names have a valid order
 pub named_kinds : (kinds : ℕ → Kind) (h : List Numbered) → IsHistory h
     → All (λ e. HasValidOrder kinds h e.object) (calls_in h) → IsLinearizable kinds (events h)
 named_kinds kinds h hist valid = named_objects_lem (λ x. specification (kinds x)) h hist
@@ -123,6 +125,7 @@ named_kinds kinds h hist valid = named_objects_lem (λ x. specification (kinds x
     (λ e i. order_alone kinds h e.object
     (all_at (λ (f : ProcessCall). HasValidOrder kinds h f.object) (calls_in h) valid e i)))
 
+-- if a history is linearizable, the calls of each object have a valid order
 pub orders_of_kinds : (kinds : ℕ → Kind) (h : List Numbered) → IsHistory h → IsLinearizable kinds (events h) → (x : ℕ)
     → HasValidOrder kinds h x
 orders_of_kinds kinds h hist lin x =

@@ -16,6 +16,7 @@ use Rattle.locality.proofs.Entries.{number_of, done}
 
 -- ---- the events of one process, in turns
 
+-- an event with this number
 abbrev pub at : ℕ → Event → Numbered
 at n e = record { number = n; event = e }
 
@@ -53,6 +54,7 @@ turns p (m ∷ n ∷ rest) s a =
 abbrev pub part : ℕ → List Numbered → List Numbered
 part p h = filter (λ m. process_of m.event == p) h
 
+-- the events of one process without their numbers are those of the process among all events without theirs
 pub events-part : (p : ℕ) (h : List Numbered) → events (part p h) ≡ by_process p (events h)
 events-part p [] = refl
 events-part p (m ∷ h) = let rest = events-part p h in grind arith
@@ -94,9 +96,11 @@ late e (Some r) g = []
 late e None None = []
 late e None (Some r) = Res e.process e.object r ∷ []
 
+-- the responses that a completion adds: those of calls that have none and to which `give` gives one
 abbrev pub added : (ProcessCall → Option AnyReply) → List ProcessCall → List Event
 added give os = flat_map (λ e. late e e.call.returned (give e)) os
 
+-- the calls with the replies that they have in a completion, as events
 abbrev pub dones : (ProcessCall → Option AnyReply) → List ProcessCall → List Event
 dones give os = flat_map (λ e. done e (give e)) os
 
@@ -108,6 +112,7 @@ first p n x op m r = record {
   call = record { number = n; op = op; returned = Some (record { at = m; reply = r }) };
 }
 
+-- a call that returned at once, in front of other events, is the first of the calls
 pub calls_in-call : (p n x : ℕ) (op : AnyOp) (m : ℕ) (r : AnyReply) (rest : List Numbered)
     → calls_in (at n (Inv p x op) ∷ at m (Res p x r) ∷ rest) ≡ first p n x op m r ∷ calls_in rest
 calls_in-call p n x op m r rest =
@@ -123,6 +128,7 @@ calls_in-call p n x op m r rest =
           };
     } ∷ calls_in rest) e
 
+-- complete(H) keeps an invocation with the response that follows it at once
 pub complete-call : (p x : ℕ) (op : AnyOp) (r : AnyReply) (es : List Event)
     → complete (Inv p x op ∷ Res p x r ∷ es) ≡ Inv p x op ∷ Res p x r ∷ complete es
 complete-call p x op r es =
@@ -234,6 +240,7 @@ returns_after p h e r (call n x op m r' rest t) u i q =
 abbrev pub Before : ProcessCall → ProcessCall → Type 0
 Before a b = (r : Return) × (a.call.returned ≡ Some r) × (r.at < number_of b)
 
+-- the calls of one process are one after another: each returned before the next was invoked
 pub one_after_another : (p : ℕ) (h : List Numbered) → Turns p h → Pairs (λ a b. a.number < b.number) h
     → Pairs Before (calls_in h)
 one_after_another p h none u = tt
@@ -296,16 +303,20 @@ invocations_before p t (m ∷ h) = here m.event refl (invocations_before p t h)
 
 -- in a history: numbers rise, also those of a process and those of operations, and each process has its turns
 module _ (h : List Numbered) (hist : IsHistory h) where
+  -- the numbers of events rise
   pub up : Pairs (λ (a b : Numbered). a.number < b.number) h
   up = pairs_from_all (λ (a b : Numbered). a.number < b.number) h hist.rising
 
+  -- the numbers of the events of one process rise
   pub part_up : (p : ℕ) → Pairs (λ (a b : Numbered). a.number < b.number) (part p h)
   part_up p = pairs_filter (λ (a b : Numbered). a.number < b.number) (λ m. process_of m.event == p) h up
 
+  -- the events of one process are its turns
   pub turn_view : (p : ℕ) → Turns p (part p h)
   turn_view p = turns p (part p h) (rw (events-part p h) (hist.well_formed p))
       (λ m i. eqb-true (process_of m.event) p (in_filter_passes (λ m. process_of m.event == p) m h i))
 
+  -- the numbers of calls rise
   pub rise : Pairs (λ a b. number_of a < number_of b) (calls_in h)
   rise = calls_rise h up
 

@@ -369,6 +369,7 @@ module _ (objects : ℕ → Specification) (h : List Numbered) (hist : IsHistory
 
   -- ---- the order of an object
 
+  -- each object of a linearizable history has a valid order
   pub linearizable_has_orders_lem : (x : ℕ) → HasValidOrderOf objects h x
   linearizable_has_orders_lem x =
       let own : Ended → Bool = λ e. e.made.object == x in

@@ -15,6 +15,7 @@ use Rattle.locality.specs.WorkedHistories.{mutex_passed_on, found_empty_while_pe
 use Rattle.locality.proofs.OneKind.{named_kinds}
 use Rattle.locality.proofs.WrittenOut.{history, valid_order, linearizable}
 
+-- a call that returned, by its numbers and its reply
 abbrev pub returned : ℕ → AnyOp → ℕ → Option ℤ → Call
 returned n op at v = record { number = n; op = op; returned = Some (record { at = at; reply = Value v }) }
 

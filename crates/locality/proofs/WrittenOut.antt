@@ -93,6 +93,7 @@ abbrev is_history_of : ℕ → List Numbered → Bool
 is_history_of n h = rises_from 0 h
     && (list_all (λ e. nat_lt (process_of e) n) (events h) && are_sequential n (events h))
 
+-- a list that the test finds to be a history is one
 pub history : (n : ℕ) (h : List Numbered) → is_history_of n h ≡ true → IsHistory h
 history n h e =
     let a = and_parts (rises_from 0 h)
@@ -130,6 +131,7 @@ ordered (a ∷ es) e =
       ordered es both.1,
     )
 
+-- an order that is written out is valid: its calls are the object's, in time order, and each reply is right
 pub valid_order : (kind : Kind) (calls entries : List Call) → in_order entries ≡ true
     → AllByRecursion (Contains calls) entries
     → AllByRecursion (λ (e : Call). IsSome e.returned → Contains entries e) calls → RepliesAlong (empty kind) entries

@@ -38,10 +38,12 @@ leads_more kinds quota w (n ∷ ns) m between after l h = (l.0, l.1, leads_more 
 pub taken_of : (s t s' : State) (c : ℕ) (w : Step) → s ≡ t → IsStepTaken s c w s' → IsStepTaken t c w s'
 taken_of s t s' c w e h = subst (λ (z : State). IsStepTaken z c w s') e h
 
+-- a step that is not possible in a state is not possible in an equal one
 pub not_of : (s t : State) (c : ℕ) (w : Step) → s ≡ t → IsImpossible s.kinds s.quota (world_of s) (c, w)
     → IsImpossible t.kinds t.quota (world_of t) (c, w)
 not_of s t c w e h = subst (λ (z : State). IsImpossible z.kinds z.quota (world_of z) (c, w)) e h
 
+-- a client that has not ended in a state has not in an equal one
 pub going_of : (s t : State) (c : ℕ) → s ≡ t → IsGoing t c → IsGoing s c
 going_of s t c e h = subst (λ (z : State). IsGoing z c) (sym e) h
 

@@ -24,6 +24,7 @@ get_or-set_by {A} {B} f xs i v d low j =
     ∙ sym (ap (changed g i (f v)) same ∙ changed_here g i (f v)))
     (λ other. ap f (get_or-set_other xs i j v d other) ∙ sym (changed_else g i (f v) j other))
 
+-- a list with another element at one place, as a changed function
 pub get_or-set : {A : Type 0} (xs : List A) (i : ℕ) (v d : A) → i < length xs → (j : ℕ)
     → get_or (set xs i v) j d ≡ changed (λ k. get_or xs k d) i v j
 get_or-set xs i v d low j = get_or-set_by (λ x. x) xs i v d low j

@@ -74,6 +74,7 @@ module _ (contents : List Content) (s : State) (m : IsMachine contents s) where
   has_content x c at kind =
       (c, subst (λ (k : Kind). Replays (empty k) (get_or s.logs x []) c) (sym kind) (m.fits x c at))
 
+  -- the object itself can do the operation if one of its kind can after its log
   pub can_do_only : (x : ℕ) (c : Content) (op : AnyOp) → slice_get contents x ≡ Some c
       → kind_at s.kinds x ≡ kind_with c → CanDo s x op → IsSome (next c op)
   can_do_only x c op at kind h = subst (λ (z : Content). IsSome (next z op))

@@ -28,6 +28,7 @@ get_or-copies zero v i = refl
 get_or-copies (suc n) v zero = refl
 get_or-copies (suc n) v (suc i) = get_or-copies n v i
 
+-- one more copy at the end
 pub copies_more : {A : Type 0} (n : ℕ) (v : A) → replicate n v ++ v ∷ [] ≡ replicate (n + 1) v
 copies_more n v = replicate-append-replicate n 1 v
 

@@ -59,6 +59,7 @@ leads_sound kinds quota w [] after l k = subst (Sound kinds quota) (sym l) k
 leads_sound kinds quota w (m ∷ ms) after l k =
     leads_sound kinds quota l.0 ms after l.2 (transition_keeps_soundness kinds quota m.1 w l.0 m.0 l.1 k)
 
+-- the world after a run is sound
 pub run_sound : (kinds : List Kind) (n quota : ℕ) (w : World) → IsWorldOfRun kinds n quota w → Sound kinds quota w
 run_sound kinds n quota w r = leads_sound kinds quota (start_world n) r.0 w r.1 (start_sound kinds quota n)
 

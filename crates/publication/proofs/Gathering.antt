@@ -10,11 +10,13 @@ use Rattle.std.proofs.lemmas.List.{map-append}
 use Rattle.recorder.specs.Records.{items_of_each}
 use Rattle.publication.specs.Closing.{IsSameBelow}
 
+-- the elements of each vector, with one more vector at the end
 pub grown : {A Z : Type 0} (old new : List (Vec A Z)) (v : Vec A Z) → new ≡ old ++ v ∷ []
     → items_of_each new ≡ items_of_each old ++ v.items ∷ []
 grown old new v e = ap items_of_each e ∙ map-append (λ v. v.items) old (v ∷ [])
 
 module _ {X : Type 0} where
+  -- with one more row there is one row more
   pub one_longer : (rows rows' : List (List X)) (row : List X) (n : ℕ) → rows' ≡ rows ++ row ∷ [] → length rows ≡ n
       → length rows' ≡ n + 1
   one_longer rows rows' row n e long =
@@ -28,6 +30,7 @@ module _ {X : Type 0} where
       → get_or rows' k [] ≡ get_or rows k []
   row_there rows rows' row k e low = ap (λ z. get_or z k []) e ∙ get_or-append rows (row ∷ []) [] k low
 
+  -- what holds of the rows up to n, and of one more, holds of the rows up to n + 1
   pub rows_more : (P : ℕ → List X → Type 0) (from n : ℕ) (rows rows' : List (List X)) (row : List X)
       → rows' ≡ rows ++ row ∷ [] → length rows ≡ n
       → ((k : ℕ) → from ≤ k → k < n → P k (get_or rows k [])) → P n row

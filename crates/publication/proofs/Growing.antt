@@ -21,6 +21,7 @@ module _ {A : Type 0} where
   all_of l a (x ∷ xs) e n =
       let f = length-append a (x ∷ xs) in let g : length l ≡ length (a ++ x ∷ xs) = ap length e in absurd (omega arith)
 
+  -- a place below the length has an element
   pub there : (l : List A) (i : ℕ) → i < length l → (a : A) × (get_elem? l i ≡ some a)
   there [] i h = absurd (omega arith)
   there (x ∷ xs) zero h = (x, refl)

@@ -136,6 +136,7 @@ module _ {S O R : Type 0} (content : S → Content) (op_in : O → AnyOp) (reply
 
   -- ---- a miss, a win and a release
 
+  -- after a miss the client's fields still agree with what it knows
   pub missed_ok : (i : ℕ) (m d : M) → TheClient m → d ≡ (after_miss i m.0, m.1) → TheClient d
   missed_ok i m d k e = rw e record { agrees = agrees_light k.agrees; free = k.free; in_hand = k.in_hand }
 

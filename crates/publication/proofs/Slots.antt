@@ -18,6 +18,7 @@ module _ {S O R : Type 0} where
       → cs ≡ (i, r) ∷ rest cs → r ≡ x
   came_out i x r cs tl a b = ap (head_or x) (sym b ∙ a)
 
+  -- the first slot in a client's hands can be exchanged
   pub can_exchange : (i : ℕ) (x : Slot S O R) (cs tl : List (ℕ × Slot S O R)) → cs ≡ (i, x) ∷ tl
       → (old : Slot S O R) × (cs ≡ (i, old) ∷ rest cs)
   can_exchange i x cs tl e = (x, e ∙ ap (λ z. (i, x) ∷ rest z) (sym e))

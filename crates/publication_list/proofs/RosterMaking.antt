@@ -25,6 +25,7 @@ Holds = Kept
 abbrev Hands : Type 0
 Hands = Me ℕ ListView
 
+-- an element of a list with one more is one of the list, or the last
 pub at_end : {A : Type 0} (l : List A) (a b : A) (j : ℕ) → get_elem? (l ++ a ∷ []) j ≡ some b
     → (get_elem? l j ≡ some b) ⊎ ((j ≡ length l) × (a ≡ b))
 at_end [] a b zero e = inr (refl, some-injective a b e)

@@ -14,11 +14,13 @@ module _ {A : Type 0} where
       → P j (update ℕ_discrete f i v j)
   updated_all P f i v here others = (forall_update_iff ℕ_discrete f P).1 (here, others)
 
+-- the word that leads to a place in the list
 pub word_at_in : (l : List ℕ) (k : ℕ) → k < length l → word_at l k ≡ 1 + get_or l k 0
 word_at_in [] k h = absurd (omega arith)
 word_at_in (x ∷ xs) zero h = refl
 word_at_in (x ∷ xs) (suc k) h = word_at_in xs k (omega arith)
 
+-- the word past the end of the list is 0
 pub word_at_past : (l : List ℕ) (k : ℕ) → length l ≤ k → word_at l k ≡ 0
 word_at_past [] k h = refl
 word_at_past (x ∷ xs) zero h = absurd (omega arith)

@@ -231,6 +231,7 @@ unlink_keeps_tied w p n words inside word s k =
 
 -- ---- the rule, after a step of one seat
 
+-- a state of a publication list's table
 abbrev pub St : Type 0
 St = State ℕ ListView
 
@@ -255,6 +256,7 @@ pub record After (s : St) (k : Kept s) (id : ℕ) (v' : ListView) (words : List 
   pub others : (j : ℕ) (u : ListView) → j ≢ id → ListViewAgrees k.list j u → ListViewAgrees list j u
   pub own : ListViewAgrees list id v'
 
+-- the rule holds after a step of one seat, if words and views are as the list then says
 pub kept_after : {words : List ℕ} (s : St) (k : Kept s) (id : ℕ) (v' : ListView) → After s k id v' words
     → Kept {S = ℕ} record { words = words; homes = s.homes; views = set s.views id v' }
 kept_after s k id v' a = record {

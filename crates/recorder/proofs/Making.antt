@@ -107,6 +107,7 @@ module _ (kinds : List Kind) (quota : ℕ) (journals : ℕ → List AnyEvent) (l
         (in_map_from ticket_of (Invoked e.ticket x e.op) (journals e.client)
         (in_from_contains (journals e.client) (Invoked e.ticket x e.op) there))
 
+    -- the journals and logs are a record
     pub is_record : IsRecord (length kinds) journals logs
     is_record = record {
       events = events_in;

@@ -424,6 +424,7 @@ part_apart cuts x h part hist named = named_apart cuts (calls_on x h) part (hist
 
 -- ---- orders
 
+-- the history of calls alone is not linearizable if they have no valid order
 pub alone_refuted : (kind : Kind) (x : ℕ) (calls : List Call) → AreApart calls
     → ((kinds : ℕ → Kind) (h : List Numbered) → IsHistory h → IsLinearizable kinds (events h) → (y : ℕ)
     → HasValidOrder kinds h y)

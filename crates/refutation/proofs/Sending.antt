@@ -38,6 +38,7 @@ all_with : {X : Type 0} (P : X → Type 0) (xs : List X) (x : X) → AllByRecurs
 all_with P [] x h p = (p, h)
 all_with P (y ∷ ys) x h p = (h.0, all_with P ys x h.1 p)
 
+-- what holds of the first i elements and of the next holds of the first i + 1
 pub all_taken_item : {X : Type 0} (P : X → Type 0) (xs : List X) (i : ℕ) (x : X) → i < length xs → x
     ≡ get_or xs i x
     → AllByRecursion P (take i xs) → P x → AllByRecursion P (take (i + 1) xs)

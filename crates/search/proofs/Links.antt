@@ -103,6 +103,7 @@ module _ {n : ℕ} {done nx pv : List ℕ} (h : Linked n done nx pv) where
           before_in = omega arith;
         }
 
+    -- the two lists link the places that are left without k
     pub linked_without : Linked n (k ∷ done) (next_without nx pv k) (before_without nx pv k)
     linked_without =
         let a = around in
@@ -167,6 +168,7 @@ module _ {n : ℕ} {done nx pv : List ℕ} (h : Linked n done nx pv) where
         let lb = h.long_before in
         record { here_next = omega arith; here_before = omega arith; next_in = a.next_in; before_in = a.before_in }
 
+    -- after k is taken out, k and its neighbours are still within the lists
     pub within_after : AreWithin (next_without nx pv k) (before_without nx pv k) k
     within_after =
         let w = within_before in
@@ -181,6 +183,7 @@ module _ {n : ℕ} {done nx pv : List ℕ} (h : Linked n done nx pv) where
     pub next_again : next_with (next_without nx pv k) (before_without nx pv k) k ≡ nx
     next_again = rw kept_before (set_back nx (get_or pv k 0) (get_or nx (suc k) 0) k around.first)
 
+    -- the previous slots are as before if k is taken out and put back
     pub before_again : before_with (next_without nx pv k) (before_without nx pv k) k ≡ pv
     before_again = rw kept_next (set_back pv (get_or nx (suc k) 0) (get_or pv k 0) (suc k) around.last)
 

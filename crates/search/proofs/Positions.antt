@@ -4,8 +4,10 @@ use Rattle.model.specs.Objects.{Content}
 use Rattle.search.specs.declared.level.Window.{Window}
 use Rattle.search.specs.Searching.{Position, Turn}
 
+-- where a search is, by its parts
 abbrev pub position : Content → List ℕ → List ℕ → ℕ → Position
 position content next back high = record { content = content; next = next; back = back; high = high }
 
+-- how a search goes on, by its parts
 abbrev pub turn : ℕ → Window → ℕ → Turn
 turn at window left = record { at = at; window = window; left = left }

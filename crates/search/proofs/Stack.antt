@@ -97,12 +97,14 @@ module _ {n : ℕ} {call : ℕ → Call} where
 
   module _ {start : Content} {ls : List Level} {bs : List Content} {here : Position} {t : Turn}
       (w : IsWalk n call start ls bs here t) where
+    -- the lists of a search link the places that are left
     pub walk_linked : Linked n (places ls) here.next here.back
     walk_linked = (stack_holds n call start ls bs here w.stack).0
 
     pub walk_bound : IsBound (places ls) here.high
     walk_bound = (stack_holds n call start ls bs here w.stack).1
 
+    -- the place that a search tries next is left, unless it is the end
     pub walk_left : t.at < n → IsLeft n (places ls) t.at
     walk_left l = (l, w.stop.left l)
 

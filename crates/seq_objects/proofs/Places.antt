@@ -9,6 +9,7 @@ use Rattle.seq_objects.specs.declared.function.Function.TheVariants.{Dissoc, Add
 use Rattle.seq_objects.specs.declared.function.Function.TheVariants.{LockBy, UnlockBy}
 use Rattle.seq_objects.specs.Functions.{all_functions}
 
+-- the place of a function in the list of all
 abbrev pub place : Function → ℕ
 place Enqueue = 0
 place Dequeue = 1
@@ -70,6 +71,7 @@ place-below f =
       | UnlockBy ↦ lit< tt
     ]
 
+-- the function at the place of a function is this function
 pub get_or-place : (f d : Function) → get_or all_functions (place f) d ≡ f
 get_or-place f d =
     elim f as (λ f. get_or all_functions (place f) d ≡ f) [

@@ -15,6 +15,7 @@ pub same_views : {A C : Type 0} (view : A → C) → ((a b : A) → view a ≡ v
 same_views view apart a b c d r ac bd decides =
     (λ t. sym ac ∙ ap view (decides.0 t) ∙ bd, λ e. decides.1 (apart a b (ac ∙ e ∙ sym bd)))
 
+-- the test of the code decides whether two lists of integers are equal
 pub decides_items : (xs ys : List ℤ) (r : Bool) → r ≡ pointwise int_eq xs ys → Decides r (xs ≡ ys)
 decides_items xs ys r is = subst (λ b. Decides b (xs ≡ ys)) (sym is) (signed_items xs ys)
 

@@ -149,6 +149,7 @@ judged : (text : List ℕ) → (text ≡ []) ⊎ IsLinearizableText text → IsL
 judged text (inl e) = subst IsLinearizableAtAnyLength (sym e) nothing_linearizable
 judged text (inr l) = at_length text l
 
+-- a divided history is linearizable if each shard that has text is
 pub linearizable_where_judged : (shard_of name : ℕ → ℕ) (whole : List ℕ) (shards : ℕ → List ℕ)
     → IsSplit shard_of name whole shards
     → ((s : ℕ) → (shards s ≡ []) ⊎ IsLinearizableText (shards s)) → IsLinearizableAtAnyLength whole
@@ -162,6 +163,7 @@ refuted text n l =
     n.not_linearizable (subst DenoteLinearizable
     (l.denoted.denoted.events ∙ (ap (events_of_forms 0) same ∙ sym n.history_text.denoted.events)) l.linearizable)
 
+-- a divided history is not linearizable if one shard is not
 pub refuted_by_shard : (shard_of name : ℕ → ℕ) (whole : List ℕ) (shards : ℕ → List ℕ)
     → IsSplit shard_of name whole shards
     → (s : ℕ) → IsNotLinearizableText (shards s) → IsLinearizableAtAnyLength whole → ⊥

@@ -105,6 +105,7 @@ tally_same t counts more h same = record {
 
 -- ---- the list
 
+-- an object that has too many maps, with how many it has
 abbrev pub large_with : NumberMap ℕ → ℕ → LargeObject
 large_with counts x = record { object = x; maps = count_of counts x }
 

@@ -30,6 +30,7 @@ module _ (count : ℕ) (some : 0 < count) (s : ℕ) (past : count ≤ s) where
       (λ b. cond b (m ∷ filter (λ x. is_on own x.form) ms) (filter (λ x. is_on own x.form) ms) ≡ [])
       (sym (none_by (client_of m.form))) (none_of ms)
 
+  -- a shard past the last has no text
   pub empty_past : (whole : List ℕ) (files : Files)
       → IsDivided (shard_among count) name_in_shard whole files → files.texts s ≡ []
   empty_past whole files h = h.split.texts s ∙ ap map_lines (none_of h.split.maps)

@@ -35,6 +35,7 @@ kind_there (d ∷ earlier) later e op q same =
     let own = λ (o : AnyOp). same d o (inl refl) in
     grind (arith, nat_tests)
 
+-- in a proper list of events each object is used by operations of its kind alone
 pub proper_of_kinds : (es : List Event) → IsProper es → AreOfKinds (kind_of_object es) es
 proper_of_kinds es proper e op i q =
     let parts = in_split e es i in
@@ -88,6 +89,7 @@ reaches p done (d ∷ earlier) later e runs q =
     go true r = (runs.0 r).1
     go false r = runs.1 r
 
+-- events are proper if numbers rise, each process takes its turns, and each object is used by one kind
 pub proper_from : (kinds : ℕ → Kind) (es : List Event) → AllPairs (λ a b. a.number < b.number) es
     → ((p : ℕ) → Runs p idle es) → AreOfKinds kinds es → IsProper es
 proper_from kinds es rising runs of_kinds = record { rising = rising; each = each }
@@ -170,6 +172,7 @@ runs_on has p s (e ∷ es) runs = go (has e.object) refl (λ t. runs_on has p t 
             (later (state_by e.object e.action) (runs.0 q).1)
         own false q = later s (runs.1 q)
 
+-- the events on some of the objects are proper
 pub proper_on : (has : ℕ → Bool) (es : List Event) → IsProper es → IsProper (events_on has es)
 proper_on has es proper = proper_from (kind_of_object es) (events_on has es)
     (all_from_pairs (λ a b. a.number < b.number) (events_on has es) (pairs_filter (λ a b. a.number < b.number)

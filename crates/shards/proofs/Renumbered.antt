@@ -25,6 +25,7 @@ AreSame [] (f ∷ fs) = ⊥
 AreSame (e ∷ es) [] = ⊥
 AreSame (e ∷ es) (f ∷ fs) = (said e ≡ said f) × AreSame es fs
 
+-- events that say the same, one by one, are the same apart from their numbers
 pub same_from : (es fs : List Event) → map said es ≡ map said fs → AreSame es fs
 same_from [] [] q = tt
 same_from (e ∷ es) (f ∷ fs) q =
@@ -50,6 +51,7 @@ runs_same p (e ∷ es) (f ∷ fs) same s runs =
     same.0 (λ q. ((runs.0 q).0, later (state_by e.object e.action) (runs.0 q).1), λ q. later s (runs.1 q))
 runs_same p es fs same s h = absurd same
 
+-- proper events with other rising numbers are proper
 pub proper_renumbered : (es others : List Event) → IsProper es → AreRenumbered es others → IsProper others
 proper_renumbered es others proper renumbered =
     let same = same_from es others (sym renumbered.same) in
@@ -121,6 +123,7 @@ with_kinds kinds others h same l = record {
   order = l.order;
 }
 
+-- events that are the same apart from their numbers denote a linearizable history if the others do
 pub linearizable_same : (es fs : List Event) → AreSame es fs → DenoteLinearizable es → DenoteLinearizable fs
 linearizable_same es fs same l = subst (IsLinearizable (kind_of_object fs)) (history_same es fs same)
     (with_kinds (kind_of_object es) (kind_of_object fs) (events (denoted es)) (λ x. kinds_same x es fs same) l)

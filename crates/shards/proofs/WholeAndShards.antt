@@ -111,6 +111,7 @@ proper_shards shard_of name es shards proper apart are s =
     proper_renumbered (renamed name part) (shards s)
     (renamed_proper name part (proper_on (λ x. shard_of x == s) es proper) (own_names shard_of name es apart s)) (are s)
 
+-- a history is linearizable exactly if the history of each shard is
 pub decided_by_shards : (shard_of name : ℕ → ℕ) (es : List Event) (shards : ℕ → List Event) → IsProper es
     → AreApart shard_of name es → AreShards shard_of name es shards
     → (DenoteLinearizable es ↔ ((s : ℕ) → DenoteLinearizable (shards s)))

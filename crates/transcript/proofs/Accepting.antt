@@ -86,6 +86,7 @@ module _ (kinds : List Kind) (quota : ℕ) (journals : ℕ → List AnyEvent) (l
       (subst (λ (h : List Numbered). IsValidOrder (world.kind_at kinds x) (calls_on x h) (order_of (logs x)))
       (sym history_is) (s.valid x))
 
+  -- the certificates of a record are valid for its history
   pub are_valid : (cs : List Certificate) → AreCertificatesOf journals logs cs → AreValid es cs
   are_valid cs h = record {
     each = λ x n.

@@ -27,6 +27,7 @@ MayFollow prior x op (Ok r) = Pending prior x op × HasShape op r
 MayFollow prior x op Fail = Pending prior x op
 MayFollow prior x op Info = ⊥
 
+-- a line may follow the one before it of the same process
 abbrev pub Follows : Option Line → Line → Type 0
 Follows prior l = MayFollow prior l.event.object l.op l.event.action
 

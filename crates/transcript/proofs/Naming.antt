@@ -31,6 +31,7 @@ module _ (journals : ℕ → List AnyEvent) (es : List Event) (are : AreEventsOf
   own_event e i = subst (In e) (are.each e.process)
       (in_filter_from (λ (f : Event). f.process == e.process) e es i (eq-eqb e.process e.process refl))
 
+  -- an object that the events name is named in the journals
   pub named_in : (x : ℕ) → IsNamed es x → IsNamedIn journals x
   named_in x n =
       let e = n.event in
@@ -45,6 +46,7 @@ module _ (journals : ℕ → List AnyEvent) (es : List Event) (are : AreEventsOf
             (contains_from_in (journals e.process) (Invoked e.number e.object n.op) here);
       }
 
+  -- an object that is named in the journals is named by the events
   pub named_by : (x : ℕ) → IsNamedIn journals x → IsNamed es x
   named_by x n =
       let e : Event = record { number = n.ticket; process = n.client; object = x; action = Invoke n.op } in
