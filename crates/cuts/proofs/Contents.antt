@@ -53,6 +53,7 @@ IsShadow keeps (count a) (count b) = b ≡ a
 IsShadow keeps (owner x) (owner y) = y ≡ x
 IsShadow keeps c d = ⊥
 
+-- the part of an empty object is empty
 pub empty_shadow : (keeps : ℤ → Bool) (k : Kind) → IsShadow keeps (empty k) (empty k)
 empty_shadow keeps k = search rules
 
@@ -118,16 +119,20 @@ StepAt all keeps op c d =
 
 -- ---- queues, stacks and heaps
 
+-- a kept value in front of others, in the part
 pub filter_in : (keeps : ℤ → Bool) (v : ℤ) (vs : List ℤ) → keeps v ≡ true → filter keeps (v ∷ vs) ≡ v ∷ filter keeps vs
 filter_in keeps v vs e = grind arith
 
+-- a value that is not kept in front of others, in the part
 pub filter_out : (keeps : ℤ → Bool) (v : ℤ) (vs : List ℤ) → keeps v ≡ false → filter keeps (v ∷ vs) ≡ filter keeps vs
 filter_out keeps v vs e = ap (λ b. cond b (v ∷ filter keeps vs) (filter keeps vs)) e
 
+-- a kept value after others, in the part
 pub after_in : (keeps : ℤ → Bool) (v : ℤ) (vs : List ℤ) → keeps v ≡ true
     → filter keeps vs ++ v ∷ [] ≡ filter keeps (vs ++ v ∷ [])
 after_in keeps v vs e = let split = filter-append keeps vs (v ∷ []) in grind arith
 
+-- a value that is not kept after others, in the part
 pub after_out : (keeps : ℤ → Bool) (v : ℤ) (vs : List ℤ) → keeps v ≡ false
     → filter keeps vs ≡ filter keeps (vs ++ v ∷ [])
 after_out keeps v vs e =
@@ -183,6 +188,7 @@ rising_with_value v (w ∷ ws) h = elim (true_or_false (int_lt w v)) [
       (λ y i. let later = h.0 y in grind (arith, ints), h)
 ]
 
+-- a kept value that is put among rising ones, in the part
 pub with_value_in : (keeps : ℤ → Bool) (v : ℤ) (ws : List ℤ) → IsRising ws → keeps v ≡ true
     → with_value v (filter keeps ws) ≡ filter keeps (with_value v ws)
 with_value_in keeps v [] h k = sym (filter_in keeps v [] k)
@@ -200,6 +206,7 @@ with_value_in keeps v (w ∷ ws) h k = elim (true_or_false (int_lt w v)) [
       ∙ ap (filter keeps) (sym (with_value-front v w ws high))
 ]
 
+-- a value that is not kept and is put among others, in the part
 pub with_value_out : (keeps : ℤ → Bool) (v : ℤ) (ws : List ℤ) → keeps v ≡ false
     → filter keeps ws ≡ filter keeps (with_value v ws)
 with_value_out keeps v [] k = grind arith

@@ -143,6 +143,7 @@ fits_open all keeps kept op h = search rules
 
 -- ---- along calls
 
+-- what is assumed of the whole: calls of one kind in rising numbers, and a closed projection of them
 pub record IsSetting (calls : List Call) (kind : Kind) (all : Bool) (keeps : ℤ → Bool) (kept : ℕ → Bool) : Type 0 where
   pub of_kind : (e : Call) → In e calls → kind_of e.op ≡ kind
   pub rising : Pairs (λ a b. a.number < b.number) calls
@@ -292,6 +293,8 @@ keep_other calls kept i d behind e x es reply p rising pending k le time does m 
     more : (a b : ℕ) → b ≡ a → b ≡ i → i + 1 ≤ a → ⊥
     more a b q r l = absurd (omega arith)
 
+-- if calls of the whole have their replies from a content on, calls of the part have theirs from its part of this
+-- content on, with pending removals exchanged
 pub walk : (calls : List Call) (kind : Kind) (all : Bool) (keeps : ℤ → Bool) (kept : ℕ → Bool)
     → IsSetting calls kind all keeps kept
     → (es : List Call) (i : ℕ) (xs : List Call) (c d : Content) → IsShadow keeps c d → RepliesAlong c es

@@ -132,18 +132,22 @@ overtaken h b d v r hist is b_op b_later d_op d_later d_back two lin =
     (rw is at order.1) in
     two_not_one (sym two ∙ one)
 
+-- the history in which the second value is dequeued first is a history
 pub dequeued_out_of_turn-history : IsHistory dequeued_out_of_turn
 dequeued_out_of_turn-history = history 2 dequeued_out_of_turn refl
 
+-- the history in which the second value is dequeued first is not linearizable
 pub dequeued_out_of_turn-refuted : ¬ IsLinearizable (λ x. Queue) (events dequeued_out_of_turn)
 dequeued_out_of_turn-refuted =
     overtaken dequeued_out_of_turn (returned 2 (Enqueue (pos 2)) 3 (Some (pos 2))) (returned 4 Dequeue 5 (Some (pos 2)))
     (pos 2) (record { at = 5; reply = Value (Some (pos 2)) }) dequeued_out_of_turn-history refl refl (lit< tt) refl
     (lit< tt) refl refl
 
+-- the history in which a pending enqueue overtakes one that returned is a history
 pub pending_overtakes_returned-history : IsHistory pending_overtakes_returned
 pending_overtakes_returned-history = history 3 pending_overtakes_returned refl
 
+-- the history in which a pending enqueue overtakes one that returned is not linearizable
 pub pending_overtakes_returned-refuted : ¬ IsLinearizable (λ x. Queue) (events pending_overtakes_returned)
 pending_overtakes_returned-refuted =
     overtaken pending_overtakes_returned (pending 2 (Enqueue (pos 2))) (returned 3 Dequeue 4 (Some (pos 2))) (pos 2)
@@ -152,15 +156,18 @@ pending_overtakes_returned-refuted =
 
 -- ---- orders that are not valid by their numbers
 
+-- no order is valid if the second value is dequeued first
 pub dequeued_out_of_turn-no_order : (order : List ℤ) → ¬ IsValidOrder Queue (calls_on 0 dequeued_out_of_turn) order
 dequeued_out_of_turn-no_order order v =
     dequeued_out_of_turn-refuted
     (linearizable (λ x. Queue) dequeued_out_of_turn dequeued_out_of_turn-history refl (order, v))
 
+-- an order is not valid if it has a call twice
 pub enqueued_then_dequeued-repeated : ¬ IsValidOrder Queue (calls_on 0 enqueued_then_dequeued)
     (pos 0 ∷ pos 0 ∷ pos 2 ∷ [])
 enqueued_then_dequeued-repeated v = v.once 0 1 (pos 0) (lit< tt) (lit< tt) refl
 
+-- an order is not valid if it lacks a call that returned
 pub enqueued_then_dequeued-omitted : ¬ IsValidOrder Queue (calls_on 0 enqueued_then_dequeued) (pos 0 ∷ [])
 enqueued_then_dequeued-omitted v =
     let omitted : Call = returned 2 Dequeue 3 (Some (pos 1)) in
@@ -169,6 +176,7 @@ enqueued_then_dequeued-omitted v =
     subst (In (pos 2)) (sym v.numbers) (in_map_from (λ (e : Call). pos e.number) omitted v.entries stands) in
     elim listed [ inl q ↦ omega (arith, ints, q) | inr none ↦ absurd none ]
 
+-- an order is not valid if it has a number that is no call's
 pub enqueued_then_dequeued-unknown : ¬ IsValidOrder Queue (calls_on 0 enqueued_then_dequeued)
     (pos 0 ∷ pos 2 ∷ pos 3 ∷ [])
 enqueued_then_dequeued-unknown v =
@@ -258,12 +266,14 @@ not_replied kind calls cs apart these fails v =
     let holds = along_may_reply cs (empty kind) along in
     cc (fails, holds)
 
+-- an order is not valid if a reply is another one than the recorded one
 pub overlapping_enqueues-wrong_reply : ¬ IsValidOrder Queue (calls_on 0 overlapping_enqueues)
     (pos 0 ∷ pos 1 ∷ pos 4 ∷ [])
 overlapping_enqueues-wrong_reply =
     not_replied Queue (calls_on 0 overlapping_enqueues) (calls_on 0 overlapping_enqueues) refl
     (inl refl, (inr (inl refl), (inr (inr (inl refl)), tt))) refl
 
+-- an order is not valid if a mutex is acquired while it is held
 pub mutex_passed_on-acquire_of_held : ¬ IsValidOrder Mutex (calls_on 0 mutex_passed_on) (pos 0 ∷ pos 2 ∷ pos 3 ∷ [])
 mutex_passed_on-acquire_of_held =
     not_replied Mutex (calls_on 0 mutex_passed_on) (calls_on 0 mutex_passed_on) refl
@@ -271,14 +281,18 @@ mutex_passed_on-acquire_of_held =
 
 -- ---- event lists that are not histories
 
+-- it is no history if a process invokes while its operation is pending
 pub invoked_while_pending-refused : ¬ IsHistory invoked_while_pending
 invoked_while_pending-refused h = let s = h.well_formed 0 in let m = s.0 in cc m
 
+-- it is no history if a response answers nothing
 pub returned_unasked-refused : ¬ IsHistory returned_unasked
 returned_unasked-refused h = let s = h.well_formed 0 in cc s
 
+-- it is no history if a response comes from another object than the invocation's
 pub returned_elsewhere-refused : ¬ IsHistory returned_elsewhere
 returned_elsewhere-refused h = let s = h.well_formed 0 in let m = s.0 in cc m
 
+-- it is no history if numbers do not rise
 pub numbered_backwards-refused : ¬ IsHistory numbered_backwards
 numbered_backwards-refused h = let less : 1 < 0 = h.rising 0 1 (invoke 0 0 Dequeue) (lit< tt) (lit< tt) in omega arith

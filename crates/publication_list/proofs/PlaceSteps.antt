@@ -199,6 +199,7 @@ at_rest row t m p = p.1.1 ∙ ap (λ o. on row o t) p.1.2
 pub trying : (row : ℕ) (t : List Enlist) (m : Hands) → IsRowPlace row true t m → (n : ℕ) × (m ≡ on row (own.Awake n) t)
 trying row t m p = (p.1.2.0, p.1.1 ∙ ap (λ o. on row o t) p.1.2.1)
 
+-- the owner of a row may look at its mark, and learns whether it is asleep
 pub look_allowed : (slots id c : ℕ) (t : List Enlist) (m : Hands) → IsRowPlace c false t m
     → Allows Holds slots id m (33 + c) (λ f. f) (play.looks (step slots (33 + c) 0 0 maybe.none) m)
 look_allowed slots id c t m p = rw (at_rest c t m p) (look_keeps_rule slots id c t [])
@@ -210,34 +211,41 @@ look_found_asleep c found t m m' p h e =
     let is = at_rest c t m p in
     (h c own.Unknown t (ap (λ z. z.0) is) refl).0 e ∙ ap (λ z. (view.Place c own.Asleep t, z.1)) is
 
+-- the owner of a row that is asleep may set its mark
 pub wake_allowed : (slots id c : ℕ) (t : List Enlist) (m : Hands) → m ≡ on c own.Asleep t
     → Allows Holds slots id m (33 + c) (λ _. 1) (λ _. play.wakes (step slots (33 + c) 1 0 maybe.none) m 1)
 wake_allowed slots id c t m e = rw e (wake_keeps_rule slots id c t [])
 
+-- after its mark was set the row is awake
 pub wake_leaves_awake : (c : ℕ) (t : List Enlist) (m m' : Hands) → c < 32 → m ≡ on c own.Asleep t
     → play.wakes (step 0 (33 + c) 1 0 maybe.none) m 1 m' → IsRowPlace c true t m'
 wake_leaves_awake c t m m' low is h =
     let a = h c own.Asleep t (ap (λ z. z.0) is) refl in
     (low, (own.Awake a.0, a.1 ∙ ap (λ z. (view.Place c (own.Awake a.0) t, z.1)) is, (a.0, refl)))
 
+-- the owner of a row that is awake may look at the head
 pub see_allowed : (slots id c : ℕ) (t : List Enlist) (m : Hands) → IsRowPlace c true t m
     → Allows Holds slots id m 0 (λ f. f) (play.sees (step slots 0 0 0 maybe.none) m)
 see_allowed slots id c t m p = let a = trying c t m p in rw a.1 (see_keeps_rule slots id 0 c (own.Awake a.0) t [])
 
+-- the owner of a row that is awake may set its next word
 pub link_allowed : (slots id c n : ℕ) (t : List Enlist) (m : Hands) → IsRowPlace c true t m
     → Allows Holds slots id m (1 + c) (λ _. n) (λ _. play.links (step slots (1 + c) n 0 maybe.none) m n)
 link_allowed slots id c n t m p = let a = trying c t m p in rw a.1 (link_keeps_rule slots id c a.0 n t [])
 
+-- after its next word was set the row is awake with this next word
 pub link_leaves_linked : (c n : ℕ) (t : List Enlist) (m m' : Hands) → IsRowPlace c true t m
     → play.links (step 0 (1 + c) n 0 maybe.none) m n m' → m' ≡ on c (own.Awake n) t
 link_leaves_linked c n t m m' p h =
     let a = trying c t m p in
     h c (own.Awake a.0) t (ap (λ z. z.0) a.1) refl ∙ ap (λ z. (view.Place c (own.Awake n) t, z.1)) a.1
 
+-- the owner of a row that is awake may put it at the head, if the head is its next word
 pub enlist_allowed : (slots id c n : ℕ) (t : List Enlist) (m : Hands) → m ≡ on c (own.Awake n) t
     → Allows Holds slots id m 0 (λ f. either (eqb f n) (1 + c) f) (play.enlists (step slots 0 n (1 + c) maybe.none) m)
 enlist_allowed slots id c n t m e = rw e (enlist_keeps_rule slots id c n t [])
 
+-- after a try that missed the row is still awake
 pub enlist_leaves_missed : (c n found : ℕ) (t : List Enlist) (m m' : Hands) → c < 32 → m ≡ on c (own.Awake n) t
     → play.enlists (step 0 0 n (1 + c) maybe.none) m found m' → found ≢ n → IsRowPlace c true (t ++ Missed ∷ []) m'
 enlist_leaves_missed c n found t m m' low is h e = (

@@ -33,6 +33,7 @@ large_in : (object : ℕ) (o : OrderOutcome) → (outcome_for object o ≡ TooLa
 large_in object outcome.TooLarge = (λ e. refl, λ e. refl)
 large_in object outcome = (λ e. cc, λ e. cc)
 
+-- what a search for an order promises is what a search for a certificate answers
 pub answer_from : (object : ℕ) (kind : Kind) (calls : List Call) (limit : ℕ) (a : OrderSearch)
     → order.IfFound a.outcome (IsValidOrder kind calls)
     → (a.outcome ≡ outcome.Impossible → HasNoValidOrder kind calls) → a.steps ≤ limit

@@ -27,6 +27,7 @@ use Rattle.search.specs.Outcomes.{max_places}
 abbrev pub happens : Invocation → Bool
 happens o = is_some (call_of o)
 
+-- the calls are the operations that did not fail
 pub calls-filter : (ops : List Invocation) → calls_of ops ≡ map as_call (filter happens ops)
 calls-filter [] = refl
 calls-filter (o ∷ ops) = go o.«end» (calls-filter ops)
@@ -41,6 +42,7 @@ calls-filter (o ∷ ops) = go o.«end» (calls-filter ops)
 length-calls : (ops : List Invocation) → length (filter happens ops) ≡ length (calls_of ops)
 length-calls ops = sym (ap length (calls-filter ops) ∙ length-map (filter happens ops) as_call)
 
+-- there are as many calls as operations that did not fail
 pub count-calls : (ops : List Invocation) → count_by happens ops ≡ length (calls_of ops)
 count-calls ops = sym (length-filter happens ops) ∙ length-calls ops
 
@@ -57,10 +59,12 @@ all_items P ops items p h =
     All-permutation P (filter happens ops) items p
     (all_from_in P (filter happens ops) (λ x i. all_at P ops h x (in_filter happens x ops i)))
 
+-- a search has as many operations as there are calls
 pub items_few : (ops items : List Invocation) → IsPermutation (filter happens ops) items
     → length items ≡ length (calls_of ops)
 items_few ops items p = length_permutation (filter happens ops) items p ∙ length-calls ops
 
+-- the operations that did not fail, in any order and with their floors, are arranged for a search
 pub arranged : (h : ObjectCalls) (items : List Invocation) (floors return_floors : List ℕ) (pending : ℕ)
     → IsObjectHistory h → length (calls_of h.ops) ≤ max_places
     → IsPermutation (filter happens h.ops) items → AreFloors true items floors → AreFloors false items return_floors
@@ -79,6 +83,7 @@ arranged h items floors return_floors pending is few p f g within returned = rec
 
 -- ---- how many returned
 
+-- whether an operation returned
 abbrev pub returns : Invocation → Bool
 returns o = is_some (return_of o.«end»)
 
@@ -140,6 +145,7 @@ some_returned ops ne = go (filter returns ops) refl
     go [] e = absurd (ne (sym (length-filter returns ops) ∙ ap length e))
     go (o ∷ os) e = found o (rw e (inl refl))
 
+-- if no operation returned, no call did
 pub none_returned : (ops : List Invocation) → count_by returns ops ≡ 0 → (c : Call) (r : Return) → In c (calls_of ops)
     → c.returned ≡ Some r → ⊥
 none_returned ops e c r i q =

@@ -16,6 +16,7 @@ use Rattle.search.specs.Remembered.{HasPair, AreDeadKept, IsRemembered, IsRememb
 use Rattle.search.specs.Searching.{places, Position, Turn, IsPairDead, AreDead, AreAllDead, IsWalk}
 use Rattle.search.proofs.Steps.{hit}
 
+-- no remembered pairs, each of which is dead
 pub none_dead : (t : Trials) (pairs : List Pair) → pairs ≡ [] → AreDead t pairs
 none_dead t [] e = λ k d l. absurd (omega arith)
 none_dead t (p ∷ pairs) e = absurd (cc e)
@@ -42,6 +43,7 @@ remembered_dead t before pair after all dead r =
           (content_kept p.content)) r.kept.younger.pairs.items pair k.younger dead);
     }
 
+-- all remembered pairs are dead with one more that is
 pub remembered_some : (t : Trials) (before : Dead) (pair : Option Pair) (after : Dead) → AreAllDead t before
     → IfSome pair (IsPairDead t)
     → IsRememberedIfSome before pair after → AreAllDead t after

@@ -54,9 +54,11 @@ replied : Option (Content × AnyReply) → AnyReply
 replied None = Value None
 replied (Some p) = p.1
 
+-- the content and the reply of an operation that is possible
 abbrev pub answer : Content → AnyReply → Option (Content × AnyReply)
 answer c r = Some (c, r)
 
+-- equal answers have equal contents and replies
 pub same_answer : (c d : Content) (r t : AnyReply) → answer c r ≡ answer d t → (c ≡ d) × (r ≡ t)
 unfolding left replied
 same_answer c d r t e = (ap left e, ap replied e)
@@ -115,11 +117,13 @@ told_step m n p k o any op r is at gives e told =
       back = step.back;
     }
 
+-- the step of a put, and what undoes it
 pub put_step : (m n : Table) (k v : ℤ) (o : Option ℤ) (any : AnyOp) (r : AnyReply) → any ≡ map_op (Put k v)
     → Leaves m (Put k v) n r → o ≡ value_of_reply r
     → IsStep (table m) any (table n) record { reply = Value o; undo = SetKey k o }
 put_step m n k v o any r is e told = told_step m n (insert m k v) k o any (Put k v) r is refl refl e told
 
+-- the step of a removal of a key, and what undoes it
 pub del_step : (m n : Table) (k : ℤ) (o : Option ℤ) (any : AnyOp) (r : AnyReply) → any ≡ map_op (Del k)
     → Leaves m (Del k) n r → o ≡ value_of_reply r
     → IsStep (table m) any (table n) record { reply = Value o; undo = SetKey k o }
@@ -130,6 +134,7 @@ pub same_step : (before after : Content) (op : AnyOp) (step other : Step) → st
     → IsStep before op after other → IsStep before op after step
 same_step before after op step other is s = rw is s
 
+-- a step with the same reply, named otherwise
 pub reply_step : (m n : Table) (op : AnyOp) (undo : Undo) (r t : AnyReply) → t ≡ r
     → IsStep (table m) op (table n) record { reply = r; undo = undo }
     → IsStep (table m) op (table n) record { reply = t; undo = undo }

@@ -223,6 +223,7 @@ module _ {n : ℕ} {done nx pv : List ℕ} (h : Linked n done nx pv) where
         ]
       ]
 
+  -- the links list the places below the bound that are not done
   pub listed : {us : List ℕ} {high : ℕ} → IsBound done high → Lists nx 0 us high → Describes n high us done
   listed {us} {high} b w = record {
     bound = b;

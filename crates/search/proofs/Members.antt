@@ -45,6 +45,7 @@ alike_removed s v q ne = contains-remove int_cmp_total s v q ∙ ap (λ b. not b
 not_not : (a b : Bool) → a ≡ not b → not a ≡ b
 not_not a b e = grind (arith, e)
 
+-- the step of an addition to a set, and what undoes it
 pub add_step : (s t : Elements) (v : ℤ) (so : Bool) (op : AnyOp) → op ≡ Add v
     → next (elements s) (Add v) ≡ answer (elements t) (Flag so)
     → IsStep (elements s) op (elements t) record { reply = Flag so; undo = SetElement v (not so) }
@@ -56,6 +57,7 @@ add_step s t v so op is e =
           ∙ back s (insert s v) v (not so) (alike_added s v) (not_not so (contains s v) told);
     }
 
+-- the step of a removal from a set, and what undoes it
 pub remove_step : (s t : Elements) (v : ℤ) (so : Bool) (op : AnyOp) → op ≡ Remove v
     → next (elements s) (Remove v) ≡ answer (elements t) (Flag so)
     → IsStep (elements s) op (elements t) record { reply = Flag so; undo = SetElement v so }

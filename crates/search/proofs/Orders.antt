@@ -56,6 +56,7 @@ numbers_differ ops items up p j k l m e =
     flip : (a b : ℕ) → (a == b) ≡ (b == a)
     flip a b = grind (arith, nat_tests)
 
+-- the calls by place are the calls of the object, in another order
 pub listed_calls : (ops items : List Invocation) → AllPairs (λ a b. a.number < b.number) ops
     → IsPermutation (filter happens ops) items → AreListed (calls_of ops) (length items) (call_at items)
 listed_calls ops items up p = record {
@@ -139,6 +140,7 @@ valid_from kind calls n call rest order a h eo =
 
 -- ---- from a valid order to places
 
+-- no order is valid if none goes on from the beginning
 pub none_valid : (kind : Kind) (calls : List Call) (n : ℕ) (call : ℕ → Call) → AreListed calls n call
     → IsDead n call [] (empty kind) → (order : List ℤ) → IsValidOrder kind calls order → ⊥
 none_valid kind calls n call a dead order v =
@@ -173,6 +175,7 @@ nothing_valid kind calls pending = record {
 
 -- ---- the order that a search found
 
+-- the places of the levels are those of operations
 pub places_within : (t : Trials) (levels : List Level)
     → Continues (length t.items.items) (call_at t.items.items) [] (empty t.kind) (places levels)
     → All (λ l. l.place < length t.items.items) levels
@@ -180,6 +183,7 @@ places_within t levels h = all_from_in (λ l. l.place < length t.items.items) le
     (λ l i. ((ordered (length t.items.items) (call_at t.items.items) [] (empty t.kind) (places levels) h).left l.place
     (in_map_from (λ (l : Level). l.place) l levels i)).0)
 
+-- the levels that a search found make an order of its calls
 pub order_found : (t : Trials) (levels : List Level) (order : List ℤ)
     → Continues (length t.items.items) (call_at t.items.items) [] (empty t.kind) (places levels)
     → order ≡ map (λ l. pos (call_at t.items.items l.place).number) levels → IsOrderOfTrials t order
@@ -189,12 +193,14 @@ order_found t levels order h e = record {
   numbers = e ∙ sym (map-map (λ k. pos (call_at t.items.items k).number) (λ l. l.place) levels);
 }
 
+-- an order of a search's calls is valid for the object
 pub found_valid : (t : Trials) (calls : List Call) (order : List ℤ)
     → AreListed calls (length t.items.items) (call_at t.items.items) → IsOrderOfTrials t order
     → IsValidOrder t.kind calls order
 found_valid t calls order a h =
     valid_from t.kind calls (length t.items.items) (call_at t.items.items) h.rest order a h.goes_on h.numbers
 
+-- what holds of the order that was found, and what follows from it
 pub IfFound-weaker : (o : OrderOutcome) (P Q : List ℤ → Type 0) → ((order : List ℤ) → P order → Q order) → IfFound o P
     → IfFound o Q
 IfFound-weaker (Found order) P Q f h = f order.items h

@@ -19,6 +19,7 @@ count_zero f (suc n) k e l = go (f n) refl e (cases_eq k n) (count_zero f n k)
     go false q h (inl s) more = ap f s ∙ q
     go false q h (inr s) more = let s' : k ≢ n = s in more h (omega arith)
 
+-- if the count is not 0, a number below n passes the test
 pub count_some : (f : ℕ → Bool) (n : ℕ) → 0 < count_below f n → (k : ℕ) × (k < n) × (f k ≡ true)
 count_some f zero l = absurd (omega arith)
 count_some f (suc n) l = go (f n) refl l (count_some f n)
@@ -63,6 +64,7 @@ in_any k (j ∷ done) i = elim i [
   | inr r ↦ or_right (j == k) (list_any (λ i. i == k) done) (in_any k done r)
 ]
 
+-- a call that returned and is not done is left
 pub owes_left : (n : ℕ) (call : ℕ → Call) (done : List ℕ) (k : ℕ) → k < n → owes call done k ≡ true
     → IsLeft n done k × ((r : Return) × ((call k).returned ≡ Some r))
 owes_left n call done k l e = go (call k).returned (list_any (λ j. j == k) done) refl refl e
@@ -82,6 +84,7 @@ left_owes n call done k r l e = go (call k).returned (list_any (λ j. j == k) do
     go (Some s) true q p = absurd (l.1 (any_in k done p))
     go (Some s) false q p = refl
 
+-- if no call that returned is left, each that returned is done
 pub none_owed : (n : ℕ) (call : ℕ → Call) (done : List ℕ) → count_below (owes call done) n ≡ 0
     → NoneReturned n call done
 none_owed n call done e j r l q =

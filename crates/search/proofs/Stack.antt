@@ -101,6 +101,7 @@ module _ {n : ℕ} {call : ℕ → Call} where
     pub walk_linked : Linked n (places ls) here.next here.back
     walk_linked = (stack_holds n call start ls bs here w.stack).0
 
+    -- the places of the levels are below the bound of the search
     pub walk_bound : IsBound (places ls) here.high
     walk_bound = (stack_holds n call start ls bs here w.stack).1
 
@@ -108,6 +109,7 @@ module _ {n : ℕ} {call : ℕ → Call} where
     pub walk_left : t.at < n → IsLeft n (places ls) t.at
     walk_left l = (l, w.stop.left l)
 
+    -- the places of the levels, and the one that is tried, are below a bound that is greater
     pub bound_more : {high : ℕ} → here.high ≤ high → t.at < high → IsBound (t.at ∷ places ls) high
     bound_more hi hat k i = elim i [ inl e ↦ omega (arith, e) | inr m ↦ (let b = walk_bound k m in omega arith) ]
 
@@ -144,6 +146,7 @@ module _ {n : ℕ} {call : ℕ → Call} where
         → pv ≡ before_without here.next here.back t.at → Linked n (t.at ∷ places ls) nx pv
     taken_out l e f = rw (e, f) (linked_without walk_linked (walk_left l))
 
+    -- one more call is placed: the search has one more level
     pub stepped : (undo : Undo) (digest : Digest) {after : Content} {gives : AnyReply} {nx pv : List ℕ} {high : ℕ}
         → t.at < n → (call t.at).number ≤ t.window.least → next here.content (call t.at).op ≡ Some (after, gives)
         → Agrees (call t.at).returned gives → here.high ≤ high → t.at < high

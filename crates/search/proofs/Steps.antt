@@ -27,6 +27,7 @@ pub pushed : {X : Type 0} (olds : List X) {news : List X} {x : X}
     → news ≡ olds ++ x ∷ [] → reverse news ≡ x ∷ reverse olds
 pushed olds e = rw (e, reverse-append)
 
+-- no more numbers below n pass a test than there are
 pub count_le : (f : ℕ → Bool) (n : ℕ) → count_below f n ≤ n
 count_le f zero = omega arith
 count_le f (suc n) = go (f n) (count_le f n)
@@ -40,11 +41,13 @@ pub call_read : (items : List Invocation) (k : ℕ) (d : Invocation) → k < len
     → as_call (get_or items k d) ≡ call_at items k
 call_read items k d l = ap as_call (get_or_default items k d _ l)
 
+-- the links list these places from the start, if they do so up to the end or to a place that is not below `high`
 pub listed_end : (nx us : List ℕ) (slot high place : ℕ)
     → ((rest : List ℕ) → Lists nx slot rest high → Lists nx 0 (us ++ rest) high)
     → slot < length nx → get_or nx slot 0 ≡ place → ((high ≤ place) ⊎ (length nx ≤ suc place)) → Lists nx 0 us high
 listed_end nx us slot high place front l e end = rw append-nil at (front [] (l, rw e end))
 
+-- the loop over the links has listed all places below `high`
 pub below_end : (nx nx2 us : List ℕ) (i slot high place : ℕ) → nx2 ≡ nx
     → ((rest : List ℕ) → Lists nx slot rest high → Lists nx 0 (take i us ++ rest) high) → length us ≤ i
     → (slot < length nx2)
@@ -71,12 +74,14 @@ below_step n done nx pv us us2 slot place high link le sl front e inside eu =
 
 -- ---- the least return, while it is looked for
 
+-- the place after one that is left is linked to it, or is the end
 pub next_stop : {n : ℕ} {done nx pv : List ℕ} {at : ℕ} → Linked n done nx pv → IsStop n done at → at < n
     → IsForth n done (suc at) (get_or nx (suc at) 0) × (at + 1 < length nx)
 next_stop {at = at} link stop l =
     let long = link.long_next in (link.forth (suc at) (omega arith) (l, stop.left l), omega arith)
 
 module _ (items : List Invocation) where
+  -- the least return with one more place looked at, and the next place
   pub least_step : (o : Invocation) {done nx pv : List ℕ} {at at2 least next_least : ℕ}
       → Linked (length items) done nx pv
       → IsLeastBelow (length items) (call_at items) done at least × IsStop (length items) done at → at < length items
@@ -92,6 +97,7 @@ module _ (items : List Invocation) where
         f.stop,
       )
 
+  -- before the first place was looked at there is no least return
   pub least_first : {done nx pv : List ℕ} {at : ℕ} → Linked (length items) done nx pv → at ≡ get_or nx 0 0
       → IsLeastBelow (length items) (call_at items) done at 4294967295 × IsStop (length items) done at
   least_first link ea =
@@ -105,6 +111,7 @@ module _ (items : List Invocation) where
 
 module _ {kind : Kind} {items : List Invocation} {floors return_floors : List ℕ} {pending : ℕ}
     (t : IsArranged kind items floors return_floors pending) where
+  -- the least return so far is the least of all, if the returns of the places from here on are greater
   pub least_last : {done : List ℕ} {at least : ℕ} → IsLeastBelow (length items) (call_at items) done at least
       → ((length items ≤ at) ⊎ (least < get_or return_floors at 0)) → IsLeast (length items) (call_at items) done least
   least_last m o = least_of_all m (λ j r a b q. elim o [
@@ -171,6 +178,7 @@ module _ {n : ℕ} {call : ℕ → Call} where
         → IsDeadPair n call here.high not_done here.content
     dead_pair d h = record { done = places ls; describes = listed (walk_linked w) (walk_bound w) h; dead = d }
 
+    -- the next place is greater
     pub pass_rises : to.at < n → (to.at < get_or here.next (to.at + 1) 0) × (to.at + 1 < length here.next)
     pass_rises l =
         let s = next_stop (walk_linked w) w.stop l in
