@@ -77,4 +77,5 @@ pub record IsCheckAnswer (es : List Event) (certificates : List Certificate)
     (answer : Result Unit Refusal) : Type 0 where
   pub valid : OnOk answer (AreValid es certificates)
   pub refused : IfErr answer (IsFirstRefusal es certificates)
+  -- valid certificates are refused only because an allocation failed
   pub exact : AreValid es certificates → IfErr answer (λ e. e ≡ NoMemory)

@@ -16,6 +16,7 @@ pub record Leaves (IsOutput : Status → List ℕ → Type 0) (sent_before : Opt
   -- the lines were written, and the number is that of their status
   pub written : number ≢ status_number Failed → (status : Status) × (out : List ℕ)
       × IsOutput status out × (number ≡ status_number status) × Appends sent_before sent out
+  -- unless the exit status says that the output failed, the sink has not
   pub usable : number ≢ status_number Failed → broken ≡ false
   -- the sink failed, and a beginning of the lines was written
   pub failed : number ≡ status_number Failed → broken ≡ true

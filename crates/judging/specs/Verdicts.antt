@@ -47,7 +47,10 @@ IsYesUnlessMemory NoMemory = ⊤
 -- all that `judge` promises of its answer
 pub record IsJudgement (h c : List ℕ) (v : Verdict) : Type 0 where
   pub linearizable : OnYes v (IsLinearizableText h)
+  -- The verdict is true of the texts.
   pub judges : SaysOfTexts h c v
+  -- Texts of which the second has valid certificates for the first lead to Yes, unless an
+  -- allocation fails.
   pub accepts : AreValidTexts h c → IsYesUnlessMemory v
 
 -- What was read of both texts: the history and the certificates that they denote, or what

@@ -141,6 +141,7 @@ pub record HaveBothMet (x : ℕ) (one other one' other' : Known) : Type 0 where
   pub first : one'.knows ≡ after_meet x log (record one.knows { received = one'.knows.received })
   pub second : other'.knows
       ≡ after_meet x log (record other.knows { received = other'.knows.received })
+  -- neither has won an object in the meantime
   pub no_pass : (one'.knows.won ≡ one.knows.won) × (other'.knows.won ≡ other.knows.won)
   pub seen_first : seen_of one'.knows x ≡ log
   pub seen_second : seen_of other'.knows x ≡ log

@@ -77,6 +77,7 @@ pub record IsSearchAnswer (object : ℕ) (kind : Kind) (calls : List Call) (limi
     Type 0
   where
     pub sound : IsSoundAnswer object kind calls limit s
+    -- the answer is that there are too many calls exactly if there are
     pub too_large : (s.found ≡ TooLarge) ↔ (max_operations < length calls)
 
 -- an answer on the object with this number, in the history that the events denote

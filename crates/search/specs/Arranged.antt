@@ -40,8 +40,8 @@ pub record AreFloors (of_all : Bool) (items : List Invocation) (floors : List �
       → (of_all ≡ true) ⊎ IsSome (call_at items k).returned
       → get_or floors j 0 ≤ (call_at items k).number
 
--- The operations of a search are not too many, are of the kind, and each that returned did so after
--- it was invoked. All below the place `pending` returned.
+-- The operations of a search are not too many, their floors are right, they are of the kind, and
+-- each that returned did so after it was invoked. All below the place `pending` returned.
 pub record IsArranged (kind : Kind) (items : List Invocation) (floors return_floors : List ℕ)
     (pending : ℕ) : Type 0 where
   pub few : length items ≤ max_places
