@@ -59,6 +59,7 @@ one_placed certificates m n k d l is places some own others = (
   ],
 )
 
+-- each certificate has its object's place in the table, once all were put in
 pub all_placed : (certificates : List Certificate) (m : NumberMap ℕ) (k : ℕ) → length certificates ≤ k
     → ((c : Certificate) → In c (take k certificates) → IsSome (value_of m c.object))
     → All (λ c. IsSome (value_of m c.object)) certificates
@@ -98,6 +99,7 @@ has_here certificates x k d p is = record {
   for_object = ap (λ (c : Certificate). c.object) is ∙ p.for_object d;
 }
 
+-- an order that was found valid for the object has no fault
 pub fine_here : (kind : Kind) (calls : List Call) (certificates : List Certificate) (x k : ℕ) (d : Certificate)
     (r : Result (Unit {0}) Refusal) → IsCertificatePlace certificates x k → d ≡ get_or certificates k d
     → OnOk r (IsValidOrder kind calls d.order.items)
@@ -107,6 +109,7 @@ fine_here kind calls certificates x k d (Ok u) p is v h =
     record { certificate = has_here certificates x k d p is; valid = v; faultless = h }
 fine_here kind calls certificates x k d (Err e) p is v h = tt
 
+-- an object whose order was refused is refused, and its certificate is not valid
 pub refused_here : (kind : Kind) (calls : List Call) (certificates : List Certificate) (x k : ℕ) (d : Certificate)
     (r : Result (Unit {0}) Refusal)
     → IsCertificatePlace certificates x k → d ≡ get_or certificates k d
@@ -133,6 +136,7 @@ no_certificate certificates m x h none c =
 
 -- ---- one after the other
 
+-- one more object has a valid certificate
 pub one_more_fine : (es : List Event) (certificates : List Certificate) (os : List ObjectCalls) (o : ObjectCalls)
     → AreFine es certificates os
     → IsFineAt es certificates o.object → AreFine es certificates (os ++ o ∷ [])
@@ -144,6 +148,7 @@ one_more_fine es certificates os o h fine = λ p i. elim (in_append p os (o ∷ 
   ]
 ]
 
+-- at first the certificates of all objects are left in the table
 pub all_left : (certificates : List Certificate) (m : NumberMap ℕ) → AreAllPlaces m certificates
     → AreLeft certificates [] m
 all_left certificates m h = record {
@@ -153,6 +158,7 @@ all_left certificates m h = record {
       (all_at (λ c. IsSome (value_of m c.object)) certificates h.all c i));
 }
 
+-- the certificate of one more object was taken out of the table
 pub one_taken : (certificates : List Certificate) (os : List ObjectCalls) (o : ObjectCalls) (left new : NumberMap ℕ)
     → AreLeft certificates os left
     → value_of new o.object ≡ None → ((x : ℕ) → x ≢ o.object → value_of new x ≡ value_of left x)
@@ -228,6 +234,7 @@ least_besides certificates os left x h is = record {
         (rw q refl) in
         absurd (omega (arith, l, least))
 
+-- what is left in the table is the least object whose certificate is for no object, or there is none
 pub strange : (certificates : List Certificate) (os : List ObjectCalls) (left : NumberMap ℕ) (r : Option ℕ)
     → AreLeft certificates os left
     → IsLeastPlaced left certificates r
@@ -269,6 +276,7 @@ same_certificate (c ∷ cs) d a b i j q = elim i [
   ]
 ]
 
+-- an object has one certificate, if no two certificates are of one object
 pub same_orders : (certificates : List Certificate) → AllPairs (λ a b. a.object ≢ b.object) certificates
     → (x : ℕ) (a b : HasCertificate certificates x) → a.certificate ≡ b.certificate
 same_orders certificates d x a b =

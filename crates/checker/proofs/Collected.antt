@@ -79,6 +79,7 @@ pub record AreAnswers {A : Type 0} (es : List Event) (Is : ℕ → Kind → List
   pub numbers : map (λ a. a.0) answers ≡ map (λ o. o.object) (take k objects)
   pub each : All (λ a. Is a.0 (kind_of_object es a.0) (calls_on a.0 (denoted es)) a.1) answers
 
+-- before the first object there are no answers
 pub no_answers : {A : Type 0} (es : List Event) (Is : ℕ → Kind → List Call → A → Type 0) (objects : List ObjectCalls)
     (answers : List (ℕ × A))
     → AreObjects es objects → answers ≡ [] → AreAnswers es Is objects 0 answers

@@ -47,6 +47,7 @@ keeps_held v = record { number = refl; kinds = refl; own = refl; done = refl; se
 
 -- ---- a pass that goes on
 
+-- a pass that has tried no row is where it was
 pub goes_nowhere : (p : Holding) → Goes p p
 goes_nowhere p = record {
   desk = refl;
@@ -104,6 +105,7 @@ same_on p q r a b = (
   b.2 ∙ ap (λ (z : Holding). record z { state = record z.state { list = b.0; ages = b.1 } }) a.2,
 )
 
+-- what is known of the own call stays true if only the list and the ages change
 pub same_settled : (p q : Holding) → IsSameBut p q → IsSettledNow p → IsSettledNow q
 same_settled p q s k = subst IsSettledNow (sym s.2) (λ r waiting on. k r waiting on)
 
@@ -118,6 +120,7 @@ same_tried p q t s k = subst (λ z. IsTried z t) (sym s.2) (also t k)
 
 -- ---- the try of one row
 
+-- a row at which nothing was picked up was tried
 pub not_goes : (p q : Holding) (row : ℕ) → q.desk ≡ p.desk → q.state ≡ p.state → IsPickMiss p row q → Goes p q
 not_goes p q row d s n = let k = n.knows in record {
   desk = d;
@@ -132,6 +135,7 @@ not_goes p q row d s n = let k = n.knows in record {
 waits : (x : ℕ) (o : Own) (q : AnyRequest) → o ≡ own.Waiting q → q.object ≡ x → waits_on x o ≡ true
 waits x o q e on = ap (waits_on x) e ∙ eq-eqb q.object x on
 
+-- the own row was tried if nothing was picked up there
 pub not_tried : (p q : Holding) (row : ℕ) → IsPickMiss p row q → row ≡ p.knows.number → IsTried q tried.Nothing
 not_tried p q row n here r waiting on =
     let k = n.knows in let waiting' : p.knows.own ≡ own.Waiting r = sym (ap (λ z. z.own) k) ∙ waiting in
@@ -140,6 +144,7 @@ not_tried p q row n here r waiting on =
     || (eq-eqb (row_place row) (row_place p.knows.number) (ap row_place here) i
     && waits p.object p.knows.own r waiting' on' i)) ∙ or-true p.knows.ready)
 
+-- a row whose request was picked up and answered was tried
 pub answered_goes : (p : Holding) (h : Handling) (q : Holding) (row : ℕ) (a : AnyAnswer) → h.desk ≡ p.desk
     → q.desk ≡ h.desk → h.state ≡ p.state
     → q.state.places ≡ h.state.places → IsPicked p row h → IsAnsweredCall h a q → Goes p q
@@ -154,6 +159,7 @@ answered_goes p h q row a d d' s s' g k = record {
   ready = λ e. ap (λ z. z.ready) k.knows ∙ or_left _ _ (ap (λ z. z.ready) g.knows ∙ e);
 }
 
+-- the own row was tried if its request was answered
 pub answered_tried : (p : Holding) (h : Handling) (q : Holding) (row : ℕ) (a : AnyAnswer) → IsPicked p row h
     → IsAnsweredCall h a q → row ≡ p.knows.number → IsTried q tried.Answered
 answered_tried p h q row a g k here r waiting on =
@@ -161,6 +167,7 @@ answered_tried p h q row a g k here r waiting on =
     ∙ (ap (λ z. h.knows.ready || z)
     (eq-eqb h.row h.knows.number (g.row ∙ (here ∙ sym (ap (λ z. z.number) g.knows)))) ∙ or-true h.knows.ready)
 
+-- a row whose request was picked up and put back was tried
 pub back_goes : (p : Holding) (h : Handling) (q : Holding) (row : ℕ) → h.desk ≡ p.desk → q.desk ≡ h.desk
     → h.state ≡ p.state → q.state ≡ h.state → IsPicked p row h → IsPutBack h q → Goes p q
 back_goes p h q row d d' s s' g k = record {
@@ -174,6 +181,7 @@ back_goes p h q row d d' s s' g k = record {
   ready = λ e. ap (λ z. z.ready) k.knows ∙ (ap (λ z. z.ready) g.knows ∙ e);
 }
 
+-- the own row was tried if its request was put back, since the object cannot do it
 pub back_tried : (p : Holding) (h : Handling) (q : Holding) (row : ℕ) → IsPicked p row h → IsPutBack h q
     → (CanDoAfter (kind_held h) h.log h.request.op → ⊥) → row ≡ p.knows.number → IsTried q tried.PutBack
 back_tried p h q row g k cannot here r waiting can =
@@ -249,6 +257,7 @@ keeps_learnt c x p q v opened on begins g is =
 pub keeps_missed : (x : ℕ) (v w : DeskView) → w ≡ after_miss x v → KeepsCalls v w
 keeps_missed x v w is = keeps_same v w _ is (keeps_held v)
 
+-- a poll that found no answer keeps the client's calls
 pub keeps_unpolled : (v w : DeskView) → IsPollMiss v w → KeepsCalls v w
 keeps_unpolled v w n = ⊎_elim (λ (a : (is_waiting v.own ≡ false) × (w ≡ v)). keeps_same v w v a.1 (keeps_all v))
     (λ (b : (w ≡ after_miss (row_place v.number) v) × (v.ready ≡ false)). keeps_same v w _ b.0 (keeps_held v)) n

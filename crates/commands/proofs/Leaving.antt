@@ -33,6 +33,7 @@ own_number : (status : Status) → status ≢ Failed → status_number status �
 own_number status h e = grind arith
 
 module _ (status : Status) (lines : List ℕ) {before after : Option (List ℕ)} {broken : Bool} where
+  -- a command that wrote all its lines leaves them, with their status
   pub wrote_all : status ≢ Failed → Appends before after lines → broken ≡ false
       → Leaves (IsExactly status lines) before (status_number status) after broken
   wrote_all other sent usable = record {
@@ -42,6 +43,7 @@ module _ (status : Status) (lines : List ℕ) {before after : Option (List ℕ)}
     front = λ e. absurd (own_number status other e);
   }
 
+  -- a command whose output failed leaves a beginning of its lines, with the status for that
   pub wrote_front : WritesPrefix before after lines → broken ≡ true
       → Leaves (IsExactly status lines) before (status_number Failed) after broken
   wrote_front sent failed = record {

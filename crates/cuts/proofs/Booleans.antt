@@ -24,6 +24,7 @@ pub both_true : (a b : Bool) → (a && b) ≡ true → (a ≡ true) × (b ≡ tr
 both_true true b e = (refl, e)
 both_true false b e = absurd (false_is_not_true e)
 
+-- a number that the test finds less is less
 pub less_by_test : (a b : ℕ) → nat_lt a b ≡ true → a < b
 less_by_test a b e = grind (arith, nat_tests)
 
@@ -41,6 +42,7 @@ pub passes_all : {X : Type 0} (p : X → Bool) (xs : List X) → list_all p xs �
 passes_all p [] h x i = absurd i
 passes_all p (y ∷ ys) h x i = grind (arith, passes_all p ys)
 
+-- what each element passes all pass
 pub all_passes : {X : Type 0} (p : X → Bool) (xs : List X) → ((x : X) → In x xs → p x ≡ true) → list_all p xs ≡ true
 all_passes p [] f = refl
 all_passes p (x ∷ xs) f = ap (λ b. b && list_all p xs) (f x (inl refl)) ∙ all_passes p xs (λ y i. f y (inr i))

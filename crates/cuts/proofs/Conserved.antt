@@ -35,6 +35,7 @@ count_tally p xs = is_count_by (tally p) p refl (λ x xs. go (p x) (tally p xs))
     go true t = refl
     go false t = omega arith
 
+-- a test that passes only where another does counts no more
 pub one_le : (a b : Bool) → (a ≡ true → b ≡ true) → one a ≤ one b
 one_le true b f = let e = ap one (f refl) in omega arith
 one_le false b f = omega arith
@@ -48,9 +49,11 @@ tally_le p q (x ∷ xs) f =
     let rest = tally_le p q xs (λ y i. f y (inr i)) in
     omega arith
 
+-- how many calls put in a kept value
 abbrev pub puts : (ℤ → Bool) → List Call → ℕ
 puts keeps es = tally (λ e. puts_in keeps e.op) es
 
+-- how many calls returned a kept value that they took out
 abbrev pub taken : (ℤ → Bool) → List Call → ℕ
 taken keeps es = tally (λ e. takes_out keeps e.op (reply_of e.returned)) es
 
@@ -63,15 +66,18 @@ kept_size keeps (stack vs) = length (filter keeps vs)
 kept_size keeps (heap vs) = length (filter keeps vs)
 kept_size keeps c = 0
 
+-- how many kept values are in a list with one more in front
 pub size_cons : (keeps : ℤ → Bool) (v : ℤ) (vs : List ℤ)
     → length (filter keeps (v ∷ vs)) ≡ one (keeps v) + length (filter keeps vs)
 size_cons keeps v vs = grind arith
 
+-- how many kept values are in a list with one more at the end
 pub size_after : (keeps : ℤ → Bool) (v : ℤ) (vs : List ℤ)
     → length (filter keeps (vs ++ v ∷ [])) ≡ one (keeps v) + length (filter keeps vs)
 size_after keeps v [] = grind arith
 size_after keeps v (w ∷ ws) = let rest = size_after keeps v ws in grind arith
 
+-- how many kept values are in a bag with one more
 pub size_with_value : (keeps : ℤ → Bool) (v : ℤ) (vs : List ℤ)
     → length (filter keeps (with_value v vs)) ≡ one (keeps v) + length (filter keeps vs)
 size_with_value keeps v [] = grind arith
@@ -94,6 +100,7 @@ pub record Turn (keeps : ℤ → Bool) (e : Call) (c after : Content) (reply : A
   pub fewer : one (takes_out keeps e.op (reply_of e.returned)) ≤ one (takes_out keeps e.op (Some reply))
   pub open_call : is_some e.returned ≡ false → one (takes_out keeps e.op (reply_of e.returned)) ≡ 0
 
+-- nothing and false is false
 pub and_false : (b : Bool) → (b && false) ≡ false
 and_false true = refl
 and_false false = refl
@@ -107,6 +114,7 @@ turn keeps e c after reply does agrees = record {
   open_call = grind arith;
 }
 
+-- along an order no more kept values are taken out than are there at first and are put in
 pub conserved : (keeps : ℤ → Bool) (es : List Call) (c : Content) → RepliesAlong c es
     → taken keeps es ≤ kept_size keeps c + puts keeps es
 conserved keeps [] c h = omega arith
@@ -151,6 +159,7 @@ pub record Counted (keeps : ℤ → Bool) (calls entries : List Call) : Type 0 w
   pub put : puts keeps entries ≤ put_count keeps calls
   pub took : taken_count keeps calls ≤ taken keeps entries
 
+-- the calls of a valid order are counted as the calls are
 pub counted_entries : (kind : Kind) (calls : List Call) (keeps : ℤ → Bool) (order : List ℤ)
     → AllPairs (λ a b. a.number < b.number) calls
     → (v : IsValidOrder kind calls order) → Counted keeps calls v.entries

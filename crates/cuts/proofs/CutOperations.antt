@@ -58,6 +58,7 @@ pub record IsCutOperationOf (into : Kind) (o p : Invocation) : Type 0 where
   pub returned : (at : ℕ) (reply : AnyReply) → p.«end» ≡ Returned at reply
       → (own : AnyReply) × (o.«end» ≡ Returned at own)
 
+-- what becomes of an object's operations one by one, as operations of another kind, is an object's history
 pub cut_into : (object : ℕ) (kind into : Kind) (ops : List Invocation) (cut_operation : Invocation → Option Invocation)
     → ((o p : Invocation) → In o ops → cut_operation o ≡ Some p → IsCutOperationOf into o p)
     → IsObjectHistory (record { object = object; kind = kind; ops = ops })

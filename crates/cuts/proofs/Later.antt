@@ -31,6 +31,7 @@ use Rattle.cuts.proofs.CutOperations.{all_calls, call_cases}
 
 -- ---- cut_operations
 
+-- what a reply tells is left by an operation of the same kind
 pub leaves_kind : (op : AnyOp) (reply : AnyReply)
     → IfSome (leaves op reply) (λ f. IfSome f (λ p. kind_of p.0 ≡ kind_of op))
 leaves_kind op reply = search rules
@@ -66,6 +67,7 @@ on_key_each ops key h = all_from_in (IsOnKey key) ops (λ o i. go o i o.«end» 
     go o i Pending q = inr (at o i None (ap (call_with o.number o.op) q))
     go o i Failed q = inl (ap has_failed q)
 
+-- the call with which a suffix begins is one of the operations
 pub start_operation : (ops : List Invocation) (from at : ℕ) (first : Option (AnyOp × AnyReply))
     (s : IsStart (calls_of ops) from at first) → IsStartOperation ops from at first s.reply
 start_operation ops from at first s =
@@ -81,6 +83,7 @@ start_operation ops from at first s =
           (subst (λ (op : AnyOp). All (λ e. key_of e.op ≡ key_of op) (calls_of ops)) k.1 s.one_key);
     }
 
+-- a suffix may begin with an operation that returned, if its reply tells what it left
 pub start_from : (ops : List Invocation) (o : Invocation) (at : ℕ) (reply : AnyReply)
     (first : Option (AnyOp × AnyReply)) → Contains ops o
     → o.«end» ≡ Returned at reply → leaves o.op reply ≡ Some first → All (IsOnKey (key_of o.op)) ops
@@ -199,6 +202,7 @@ operation_call : (from at : ℕ) (first : Option (AnyOp × AnyReply)) (o : Invoc
     → bind (operation_from from at first o) call_of ≡ bind (call_of o) (call_from from at first)
 operation_call from at first o = grind arith
 
+-- a suffix of an object's operations is an object's history
 pub from_history : (h : ObjectCalls) (from at : ℕ) (first : Option (AnyOp × AnyReply)) → IsObjectHistory h
     → IsStart (calls_of h.ops) from at first
     → IsObjectHistory (record {
@@ -210,11 +214,13 @@ from_history h from at first is s =
     cut_history h.object h.kind h.ops (operation_from from at first)
     (operation_is h from at first s.reply is (start_operation h.ops from at first s)) is
 
+-- the calls of a suffix of the operations are the suffix of the calls
 pub from_calls : (from at : ℕ) (first : Option (AnyOp × AnyReply)) (ops : List Invocation)
     → calls_of (filter_map (operation_from from at first) ops) ≡ calls_from from at first (calls_of ops)
 from_calls from at first ops =
     cut_calls (operation_from from at first) (call_from from at first) ops (operation_call from at first)
 
+-- a suffix is a part
 pub from_shows : (h : ObjectCalls) (from at : ℕ) (first : Option (AnyOp × AnyReply)) → IsObjectHistory h
     → IsStart (calls_of h.ops) from at first
     → IsPart h (record { object = h.object; kind = h.kind; ops = filter_map (operation_from from at first) h.ops })

@@ -32,6 +32,7 @@ all_covered kinds quota w c x ds o same ok k = let d = owed_served x c o (w.stag
       ∙ sym (append_assoc (served x c ds) (owed x c o) d.0)),
 )
 
+-- the entries of a client in a beginning of a log are a beginning of its entries in the log
 pub entries_start : (c : ℕ) (xs ys : List AnyEntry) → StartsWith xs ys
     → StartsWith (entries_of_client c xs) (entries_of_client c ys)
 entries_start c xs ys b = (entries_of_client c b.0, ap (entries_of_client c) b.1 ∙ entries-append c ys b.0)

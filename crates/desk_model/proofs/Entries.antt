@@ -25,10 +25,12 @@ pub entries-append : (c : ℕ) (xs ys : List AnyEntry) → entries_of_client c (
 entries-append c [] ys = refl
 entries-append c (e ∷ es) ys = let rest = entries-append c es ys in grind arith
 
+-- what an answer to a client puts into a log is all that client's
 pub own_entries : (c : ℕ) (q : AnyRequest) (a : AnyAnswer) → entries_of_client c (logged c q a) ≡ logged c q a
 own_entries c q (Reply p) = ap (λ b. cond b (logged c q (Reply p)) []) (eq-eqb c c refl)
 own_entries c q Refused = refl
 
+-- what an answer to one client puts into a log has no entry of another
 pub others_entries : (c r : ℕ) (q : AnyRequest) (a : AnyAnswer) → c ≢ r → entries_of_client c (logged r q a) ≡ []
 others_entries c r q (Reply p) other = ap (λ b. cond b (logged r q (Reply p)) []) (ne_eqb r c (λ e. other (sym e)))
 others_entries c r q Refused other = refl
@@ -67,6 +69,7 @@ replays_front : (c after : Content) (xs ys : List AnyEntry) → Replays c (xs ++
 replays_front c after [] ys h = (c, refl)
 replays_front c after (x ∷ xs) ys h = let b = replays_front h.0 after xs ys h.2 in (b.0, (h.0, h.1, b.1))
 
+-- a beginning of a legal log is legal
 pub legal_front : (kind : Kind) (log seen : List AnyEntry) → StartsWith log seen → IsLegalLog kind log
     → IsLegalLog kind seen
 legal_front kind log seen begins legal =

@@ -16,10 +16,12 @@ use Rattle.events.proofs.Calls.{AllRun, all_run_later}
 abbrev pub owned : (ℕ → Bool) → List Event → List Event
 owned own es = filter (λ e. own e.object) es
 
+-- an event on an own object is kept
 pub owned_here : (own : ℕ → Bool) (e : Event) (es : List Event) → own e.object ≡ true
     → owned own (e ∷ es) ≡ e ∷ owned own es
 owned_here own e es q = ap (λ b. cond b (e ∷ owned own es) (owned own es)) q
 
+-- an event on another object is left out
 pub owned_other : (own : ℕ → Bool) (e : Event) (es : List Event) → own e.object ≡ false
     → owned own (e ∷ es) ≡ owned own es
 owned_other own e es q = ap (λ b. cond b (e ∷ owned own es) (owned own es)) q
@@ -66,6 +68,7 @@ runs_next e es h op q =
     let r = h e.process in subst (λ a. Runs e.process (state_by e.object a) es) q
     (r.1.0 (eq-eqb e.process e.process refl)).1
 
+-- the operations on an own object are the same among the own events
 pub operations_owned : (own : ℕ → Bool) (x : ℕ) (es : List Event) → own x ≡ true → AllRun es
     → operations_on x (owned own es) ≡ operations_on x es
 operations_owned own x [] is h = refl
@@ -84,6 +87,7 @@ operations_owned own x (e ∷ es) is h = go (own e.object) refl (operations_owne
         s ∙ sym (ap (λ b. cond b (begun e.number e.action (end_at (next_event e.process es))) []
         ++ operations_on x es) ne)
 
+-- among the own events no operation is on another object
 pub no_operations : (own : ℕ → Bool) (x : ℕ) (es : List Event) → own x ≡ false → operations_on x (owned own es) ≡ []
 no_operations own x [] is = refl
 no_operations own x (e ∷ es) is = go (own e.object) refl (no_operations own x es is)

@@ -71,6 +71,7 @@ invoked p x op s (inr a) = subst (λ t. IsSequential (Inv p x op ∷ t)) (sym a.
     own_match : IsTrue (matches (Inv p x op) (Res p x a.0))
     own_match = both (p == p) (x == x) (eq-eqb p p refl) (eq-eqb x x refl)
 
+-- the event with this number, process, object and action
 abbrev pub event_at : ℕ → ℕ → ℕ → Action → Event
 event_at n p x a = record { number = n; process = p; object = x; action = a }
 

@@ -43,6 +43,7 @@ before_limit ds d kind h = omega arith
 pub not_memory : (ds : List Datum) (d : Datum) (k : HistoryFaultKind) → IsMapFault ds d k → k ≡ NoMemory → ⊥
 not_memory ds d k h q = let g : IsMapFault ds d NoMemory = subst (IsMapFault ds d) q h in g.2
 
+-- an object past the greatest that a text names is the first fault of its form
 pub great_first : (ds : List Datum) (d : Datum) → HasGreatObject d → HasFirst IsHistoryFormFault ds d NotAnOperation
 great_first ds d great = record { stands = inr great; first = λ j f. least j }
   where
@@ -50,6 +51,7 @@ great_first ds d great = record { stands = inr great; first = λ j f. least j }
     least NotAnOperation = omega arith
     least kind = omega arith
 
+-- the first fault of a form at any length is its first fault in one text, if its object is small
 pub first_within : (ds : List Datum) (d : Datum) (k : HistoryFaultKind) → IsSmall d → HasFirst IsMapFault ds d k
     → HasFirst IsHistoryFormFault ds d k
 first_within ds d k small h = record {
@@ -69,6 +71,7 @@ none_within ds d small none few k f = elim (fault_or_limit ds d k small f) [
   | inr t ↦ let l = t.1 in omega arith
 ]
 
+-- a form without another fault is one too many if there are as many before it as there may be
 pub too_many_first : (ds : List Datum) (d : Datum) → IsSmall d → HasNoFault IsMapFault ds d → max_maps ≤ length ds
     → HasFirst IsHistoryFormFault ds d TooMany
 too_many_first ds d small none many = record {
@@ -112,6 +115,7 @@ few (suc n) (d ∷ ds) h =
     (omega arith)) in
     omega arith
 
+-- forms denote events in one text exactly if they do so at any length and keep the limits of one text
 pub only_limits : (ds : List Datum) (es : List Event)
     → Denotes ds es ↔ (DenotesAtAnyLength ds es × (length ds ≤ max_maps) × All IsSmall ds)
 only_limits ds es = (

@@ -224,6 +224,7 @@ continues_skip read ds d none ignored h before s k seen faultless fits =
           (before ++ ds) d so_far.1 none),
     )
 
+-- a form to be ignored adds nothing to what a piece keeps, except that it is counted
 pub part_skip : (old new : ReadPiece) (ds : List Datum) (d : Datum) → IsOfForms old ds → client_of d ≡ None
     → is_ignored d ≡ true
     → new ≡ record {
@@ -265,6 +266,7 @@ no_kind_kept : (o : Option Kind) (x : ℕ) → IsKindOf o [] x → o ≡ None
 no_kind_kept None x h = refl
 no_kind_kept (Some k) x h = let l = h.0.1.stands.1 in absurd (omega (arith, l))
 
+-- before its first map a piece keeps nothing
 pub no_maps : (read : ReadPiece) → IsSeen read.seen [] → read.maps ≡ 0 → read.events.items ≡ [] → IsOfForms read []
 no_maps read seen count events =
     let processes : (p : ℕ) → value_of read.seen.processes p

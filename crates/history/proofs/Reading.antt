@@ -52,6 +52,7 @@ faultless_push IsFault ds d h none earlier later e k q f = elim (split_push ds d
   | inr s ↦ h earlier s.0 e k s.1 f
 ]
 
+-- no forms have no fault
 pub nothing_faulty : (IsFault : List Datum → Datum → HistoryFaultKind → Type 0)
     → AreFaultless IsFault []
 nothing_faulty IsFault earlier later d k e f = no_split earlier e
@@ -87,6 +88,7 @@ one_form : (fs : List Form) (i : ℕ) (f : Form) → i < length fs → f ≡ get
 one_form fs i f l is = ap views (take_more fs i f l) ∙ (map-append view (take i fs) (get_or fs i f ∷ []) ∙ ap
     (λ x. views (take i fs) ++ view x ∷ []) (sym is))
 
+-- the forms up to the next one have no fault, if it has none
 pub faultless_more : (seen : Seen) (fs : List Form) (i : ℕ) (f : Form) (es : List Event) → i < length fs
     → f ≡ get_or fs i f
     → AreEventsRead seen i (views (take i fs)) es → HasNoFault IsHistoryFormFault (views (take i fs)) (view f)
@@ -104,6 +106,7 @@ pub one_read : (old new : Seen) (fs : List Form) (i : ℕ) (f : Form) (es more :
 one_read old new fs i f es more l is few small h r =
     rw (one_form fs i f l is) (one_more old new i (views (take i fs)) (view f) es more h few small r)
 
+-- the fault of the next form is the first of all, if the forms before it have none
 pub first_fault : (seen : Seen) (fs : List Form) (i : ℕ) (f : Form) (es : List Event) (k : HistoryFaultKind)
     → i < length fs → f ≡ get_or fs i f
     → AreEventsRead seen i (views (take i fs)) es → HasFirst IsHistoryFormFault (views (take i fs)) (view f) k
@@ -131,6 +134,7 @@ pub fault_refutes : (ds : List Datum) (fault : HistoryFault) (es : List Event) �
     → Denotes ds es → ⊥
 fault_refutes ds fault es h d = d.faultless h.earlier h.later h.form fault.kind h.split h.stands
 
+-- forms that were all read without a fault denote their events
 pub all_read : (seen : Seen) (fs : List Form) (i : ℕ) (es : List Event) → length fs ≤ i → AreEventsRead seen i
     (views (take i fs)) es → Denotes (views fs) es
 all_read seen fs i es l h =

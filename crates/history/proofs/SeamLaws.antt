@@ -83,6 +83,7 @@ fits read es processes kinds h allowed one = record {
 
 -- ---- joined
 
+-- a piece that fits is joined to what is kept of the pieces before it
 pub joined_more : (old new : Seams) (read : ReadPiece) (ds es : List Datum) → AreJoined old ds → IsOfForms read es
     → All (IsAllowed (value_of old.seen.processes)) read.firsts.items
     → All (λ x. IsOneKind (value_of old.seen.kinds x) (value_of read.seen.kinds x)) read.objects.items
@@ -127,6 +128,7 @@ was_none : {X : Type 0} (o : Option X) → false ≡ is_some o → o ≡ None
 was_none None q = refl
 was_none (Some x) q = absurd (cc q)
 
+-- a process may do what its first map in the piece says, if no fault was found
 pub allowed_at : (processes : ℕ → Option Process) (m : FirstMap) (kept : Option Process)
     (found : Option HistoryFaultKind) → kept ≡ processes m.process
     → false ≡ is_some found → IsProcessFault kept (map_type m.map_type) m.function m.object found

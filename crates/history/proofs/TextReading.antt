@@ -43,6 +43,7 @@ faulty_more : (r : Reading) (f : HistoryFault) (ds : List Datum) (d : Datum) →
 faulty_more r f ds d e h =
     rw e (found_more ds d f (rw e at h))
 
+-- a fault that was found stays the first with one more form
 pub faulty_stays : (r : Reading) (ds : List Datum) (d : Datum) → is_some r.fault ≡ true → IsHistoryReading r ds
     → IsHistoryReading r (ds ++ d ∷ [])
 faulty_stays r ds d e h = by_fault r.fault refl e
@@ -51,6 +52,7 @@ faulty_stays r ds d e h = by_fault r.fault refl e
     by_fault None q k = absurd cc
     by_fault (Some f) q k = faulty_more r f ds d q h
 
+-- a reader that found no fault has read the forms
 pub are_read : (r : Reading) (ds : List Datum) → r.fault ≡ None → IsHistoryReading r ds
     → AreEventsRead r.seen r.map ds r.events.items
 are_read r ds e h = rw e at h
@@ -83,6 +85,7 @@ found seen number ds d es k h first none = (
       ),
 )
 
+-- the events of a reader that found no fault are proper
 pub proper_reading : (r : Reading) (ds : List Datum) → r.fault ≡ None → IsHistoryReading r ds → IsProper r.events.items
 proper_reading r ds e h = let a = are_read r ds e h in rw a.events (proper_events ds a.faultless)
 

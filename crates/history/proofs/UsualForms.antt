@@ -36,6 +36,7 @@ is_name_type : (t : MapType) → is_name (type_name t) ≡ true
 unfolding is_name
 is_name_type t = grind arith
 
+-- the keyword of a type is read where its bytes are
 pub type_here : (t : MapType) (text rest : List ℕ) → EndsToken rest → text ≡ 58 ∷ (type_name t ++ rest)
     → BeginWith (leaf (atom (keyword (type_name t))) ∷ []) text rest
 type_here t text rest e q = word_here (keyword (type_name t)) (58 ∷ type_name t) text rest (refl, is_name_type t) e q
@@ -44,6 +45,7 @@ is_name_function : (f : Function) → is_name (name_of f) ≡ true
 unfolding is_name
 is_name_function f = grind arith
 
+-- the keyword of a function is read where its bytes are
 pub function_here : (f : Function) (text rest : List ℕ) → EndsToken rest → text ≡ 58 ∷ (name_of f ++ rest)
     → BeginWith (leaf (atom (keyword (name_of f))) ∷ []) text rest
 function_here f text rest e q =
@@ -51,10 +53,12 @@ function_here f text rest e q =
 
 -- ---- values
 
+-- nil is read where its bytes are
 pub nil_here : (text rest : List ℕ) → EndsToken rest → text ≡ codes "nil" ++ rest → ReadsValue text Nil rest
 nil_here text rest e q =
     record { form = atom nil; plain = refl; fits = tt; begins = word_here nil (codes "nil") text rest refl e q }
 
+-- false is read where its bytes are
 pub false_here : (text rest : List ℕ) → EndsToken rest → text ≡ codes "false" ++ rest → ReadsValue text False rest
 false_here text rest e q =
     record {
@@ -64,6 +68,7 @@ false_here text rest e q =
       begins = word_here (boolean false) (codes "false") text rest refl e q;
     }
 
+-- true is read where its bytes are
 pub true_here : (text rest : List ℕ) → EndsToken rest → text ≡ codes "true" ++ rest → ReadsValue text True rest
 true_here text rest e q =
     record {
@@ -73,10 +78,12 @@ true_here text rest e q =
       begins = word_here (boolean true) (codes "true") text rest refl e q;
     }
 
+-- an integer is read as a value
 pub integer_here : (z : ℤ) (text rest : List ℕ) → BeginWith (leaf (atom (integer z)) ∷ []) text rest
     → ReadsValue text (Int z) rest
 integer_here z text rest b = record { form = atom (integer z); plain = refl; fits = tt; begins = b }
 
+-- two integers in brackets are read as a value
 pub pair_here : (y z : ℤ) (inside after_y from_z after_z rest : List ℕ)
     → BeginWith (leaf (atom (integer y)) ∷ []) inside after_y → after_y ≡ codes " " ++ from_z
     → BeginWith (leaf (atom (integer z)) ∷ []) from_z after_z → after_z ≡ codes "]" ++ rest
@@ -103,6 +110,7 @@ lack_none : (ks : List (List ℕ)) → LackEach ks no_entries
 lack_none [] = tt
 lack_none (k ∷ ks) = (tt, lack_none ks)
 
+-- a map may end without further pairs
 pub none_last : (ks : List (List ℕ)) (text rest : List ℕ) → text ≡ codes "}" ++ rest → ReadsLast ks text 0 rest
 none_last ks text rest q =
     record { pairs = no_entries; lack = lack_none ks; object_is = refl; fits = tt; begins = here text rest close_map q }
@@ -197,6 +205,7 @@ note_pair k a text at_key after_key at_value after_value rest o q e s b z =
     note_lacks [] h = tt
     note_lacks (l ∷ ls) h = ((h.0, tt), note_lacks ls h.1)
 
+-- pairs without some keys are also without fewer
 pub fewer_keys : (k : List ℕ) (ks : List (List ℕ)) (text : List ℕ) (x : ℕ) (rest : List ℕ)
     → ReadsLast (k ∷ ks) text x rest → ReadsLast ks text x rest
 fewer_keys k ks text x rest r =
@@ -226,6 +235,7 @@ client_is : (n : ℕ) (t : MapType) (f : Function) (x : ℕ) (v : Value) (d : Da
 client_is n t f x v d es e =
     rw (type_is t, e, own_name f) refl
 
+-- a map in the usual order of its keys is read as its form
 pub usual_is : (n : ℕ) (t : MapType) (f : Function) (x : ℕ) (v : Value)
     (text own from_n after_n from_t after_t from_f after_f from_v after_v rest : List ℕ) → IsUtf8 text
     → (text ≡ own) ⊎ (text ≡ 10 ∷ own) → own ≡ codes "{:process " ++ from_n
@@ -296,6 +306,7 @@ indexed_client : (i j : ℤ) (n : ℕ) (t : MapType) (f : Function) (v : Value) 
 indexed_client i j n t f v d =
     rw (type_is t, own_name f) refl
 
+-- a map that begins with its index is read as its form
 pub index_first_is : (i j : ℤ) (n : ℕ) (t : MapType) (f : Function) (v : Value)
     (text own from_i after_i from_j after_j from_t after_t from_n after_n from_f after_f from_v after_v rest : List ℕ)
     → IsUtf8 text

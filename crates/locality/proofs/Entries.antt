@@ -235,6 +235,7 @@ lifted ops (c ∷ cs) h =
       ],
     )
 
+-- the entries of a valid order, as calls with their processes
 pub valid_entries : (object : Specification) (ops : List ProcessCall) (order : List ℤ)
     → Pairs (λ a b. number_of a < number_of b) ops
     → IsValidOrderOf object (calls ops) order → (es : List ProcessCall) × ValidEntries object ops es

@@ -103,6 +103,7 @@ valid_alone k calls order v = record {
   replies = replies_alone k v.entries (specification k).empty (rw (empty_among k) at v.replies);
 }
 
+-- an order is valid for a kind's own specification exactly if it is so among the contents of all kinds
 pub one_kind_among_all_lem : (k : Kind) (calls : List Call) (order : List ℤ)
     → (IsValidOrderOf (specification k) calls order ↔ IsValidOrderOf (any k) calls order)
 one_kind_among_all_lem k calls order = (valid_among k calls order, valid_alone k calls order)

@@ -320,5 +320,6 @@ module _ (h : List Numbered) (hist : IsHistory h) where
   pub rise : Pairs (λ a b. number_of a < number_of b) (calls_in h)
   rise = calls_rise h up
 
+  -- the numbers of the calls of one process rise
   pub part_rise : (p : ℕ) → Pairs (λ a b. number_of a < number_of b) (calls_in (part p h))
   part_rise p = calls_rise (part p h) (part_up p)

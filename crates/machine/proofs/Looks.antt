@@ -30,6 +30,7 @@ length-journal_of (d ∷ ds) = let e = length-journal_of ds in omega arith
 pub stage_there : (s : State) (c : ℕ) → (world_of s).stage c ≢ world.absent → c < clients_of s
 stage_there s c is = grind (arith, get_or_past (map stage_of s.stages) c world.absent, length-map s.stages stage_of)
 
+-- an element that was read at a place is there
 pub slice_get_read : {A : Type 0} (xs : List A) (i : ℕ) (v : A) → i < length xs → v ≡ get_or xs i v
     → slice_get xs i ≡ Some v
 slice_get_read [] i v low e = absurd (omega arith)
@@ -69,6 +70,7 @@ module _ (contents : List Content) (s : State) (m : IsMachine contents s) where
   can_do x c op at kind can =
       (c, subst (λ (k : Kind). Replays (empty k) (get_or s.logs x []) c) (sym kind) (m.fits x c at), can)
 
+  -- the log of an object leaves what the object contains
   pub has_content : (x : ℕ) (c : Content) → slice_get contents x ≡ Some c → kind_at s.kinds x ≡ kind_with c
       → HasContent s x
   has_content x c at kind =
@@ -81,6 +83,7 @@ module _ (contents : List Content) (s : State) (m : IsMachine contents s) where
       (replays_once (empty (kind_with c)) h.0 c (get_or s.logs x [])
       (subst (λ (k : Kind). Replays (empty k) (get_or s.logs x []) h.0) kind h.1) (m.fits x c at)) h.2
 
+  -- the row in the hand of an object's holder has a request for the object that was picked up
   pub if_picked : (x : ℕ) (h : Option ℕ) → (world_of s).hand x ≡ h
       → IfSome h (λ r. (r < clients_of s) × HasPicked s x r)
   if_picked x None e = tt

@@ -38,11 +38,13 @@ none_of None never = refl
 none_of (Some v) never = absurd (never refl)
 
 module _ {S O R : Type 0} (content : S → Content) (op_in : O → AnyOp) (reply_in : R → AnyReply) where
+  -- the state of a machine, by its fields
   abbrev pub state_in : Inside S O R → State
   state_in m = state_of content op_in reply_in m.objects.items
       (items_of_each m.logs.items) m.holders.items m.hands.items m.stages.items
       (items_of_each m.journals.items) m.ended.items m.clock m.quota
 
+  -- each client has a journal
   pub journal_there : (m : Inside S O R) → IsMachine (map content m.objects.items) (state_in m) → (c : ℕ)
       → c < clients_of (state_in m) → c < length m.journals.items
   journal_there m is c low =
@@ -110,16 +112,19 @@ module _ {S O R : Type 0} (content : S → Content) (op_in : O → AnyOp) (reply
     abbrev pub Took : Step → State → Type 0
     Took w s' = IsMachine (map content m.objects.items) s' × IsStepTaken now c w s'
 
+    -- a client that won a free object has taken the step
     pub win_done : (x : ℕ) → IsGoing now c → x < length now.kinds → (world_of now).holder x ≡ None
         → HoldsNothing (world_of now) c
         → Took (win x) (record (state_in m) { holders = set m.holders.items x (Some c) })
     win_done x = rw (← same) (λ go. win_now (map content m.objects.items) (state_in m) is c go x)
 
+    -- a client that released its object has taken the step
     pub release_done : (x : ℕ) → IsGoing now c → x < length now.kinds → (world_of now).holder x ≡ Some c
         → (world_of now).hand x ≡ None
         → Took release (record (state_in m) { holders = set m.holders.items x None })
     release_done x = rw (← same) (λ go. release_now (map content m.objects.items) (state_in m) is c go x)
 
+    -- a client that ended has taken the step
     pub end_done : IsGoing now c → MayEnd ((world_of now).stage c) → HoldsNothing (world_of now) c
         → Took end (record (state_in m) { ended = set m.ended.items c true })
     end_done = rw (← same) (end_now (map content m.objects.items) (state_in m) is c)
@@ -129,6 +134,7 @@ module _ {S O R : Type 0} (content : S → Content) (op_in : O → AnyOp) (reply
     state_handed x h r t = record (state_in m)
         { hands = set m.hands.items x h; stages = map (stage_in op_in reply_in) (set m.stages.items r t) }
 
+    -- a client that picked up a request has taken the step
     pub pick_done : (x r : ℕ) (q : Request O) → IsGoing now c → x < length now.kinds → r < clients_of now
         → (world_of now).holder x ≡ Some c
         → (world_of now).hand x ≡ None → (world_of now).stage r ≡ world.posted (request_in op_in q) → q.object ≡ x
@@ -147,6 +153,7 @@ module _ {S O R : Type 0} (content : S → Content) (op_in : O → AnyOp) (reply
           after = refl;
         }) (sym (ap request_of at))))
 
+    -- a client that put a request back has taken the step
     pub put_back_done : (x r : ℕ) (q : Request O) → IsGoing now c → IsInHand now c x r (request_in op_in q)
         → HasContent now x → (CanDo now x (op_in q.op) → ⊥)
         → Took put_back (state_handed x None r (Posted q))
@@ -179,6 +186,7 @@ module _ {S O R : Type 0} (content : S → Content) (op_in : O → AnyOp) (reply
         → record (state_in m) { journals = map (map (event_in op_in reply_in)) js } ≡ now
     unticked js e = (λ i. record (state_in m) { journals = map (map (event_in op_in reply_in)) (e i) }) ∙ same
 
+    -- a client that drew the ticket of a call has taken the step
     pub call_done : (x : ℕ) (op : O) (js : List (List (JournalEvent O R))) (n : ℕ)
         → js ≡ set (items_of_each m.journals.items) c
         (get_or (items_of_each m.journals.items) c [] ++ Invoked m.clock x op ∷ []) → n ≡ m.clock + 1
@@ -194,6 +202,7 @@ module _ {S O R : Type 0} (content : S → Content) (op_in : O → AnyOp) (reply
         )
         (call_now (map content m.objects.items) (state_in m) is c go x (op_in op) idle few low kind))
 
+    -- a client that drew the ticket of its return has taken the step
     pub return_done : (q : Request O) (a : Answer R) (js : List (List (JournalEvent O R))) (n : ℕ)
         → js ≡ set (items_of_each m.journals.items) c (get_or (items_of_each m.journals.items) c []
         ++ Returned m.clock a ∷ [])
@@ -246,6 +255,7 @@ module _ {S O R : Type 0} (content : S → Content) (op_in : O → AnyOp) (reply
       stages = sym (map-set (stage_in op_in reply_in) m.stages.items r (Answered q a)) i;
     }
 
+    -- a client that answered the request in its hand has taken the step
     pub answer_done : (x r : ℕ) (q : Request O) (old o : S) (was l : Vec (LogEntry O R) Global) (a : Answer R)
         → old ≡ get_or m.objects.items x old
         → was ≡ get_or m.logs.items x was
@@ -284,6 +294,7 @@ module _ {S O R : Type 0} (content : S → Content) (op_in : O → AnyOp) (reply
       staged_inside m is c go (Posted q) post (record { request = request_in op_in q; was = at; after = refl })
       (sym (ap request_of at))
 
+  -- a client without a drawn request cannot post
   pub post_not : (m : Inside S O R) (c : ℕ) → IsGoing (state_in m) c → (found : Stage O R)
       → found ≡ get_or m.stages.items c found
       → ((q : Request O) → found ≡ Drawn q → ⊥)
@@ -302,6 +313,7 @@ module _ {S O R : Type 0} (content : S → Content) (op_in : O → AnyOp) (reply
       (record { request = request_in op_in q; given = answer_in reply_in a; was = at; after = refl })
       (sym (ap request_of at))
 
+  -- a client without an answer cannot take one
   pub take_not : (m : Inside S O R) (c : ℕ) → IsGoing (state_in m) c → (found : Stage O R)
       → found ≡ get_or m.stages.items c found
       → ((q : Request O) (a : Answer R) → found ≡ Answered q a → ⊥)
@@ -315,6 +327,7 @@ module _ {S O R : Type 0} (content : S → Content) (op_in : O → AnyOp) (reply
   taken_is (Taken p b) q a e = (p, b, refl)
   taken_is t q a e = absurd cc
 
+  -- a client that has not taken an answer cannot draw the ticket of a return
   pub return_not : (m : Inside S O R) (c : ℕ) → IsGoing (state_in m) c → (found : Stage O R)
       → found ≡ get_or m.stages.items c found
       → ((q : Request O) (a : Answer R) → found ≡ Taken q a → ⊥)

@@ -59,6 +59,7 @@ pub record ArePutIn (all rest : List ObjectCalls) (old new : BTreeMap ℕ Object
   pub so_far : all ≡ met ++ rest
   pub kept : (x : ℕ) → IsPutIn met x (get nat_cmp old x) (get nat_cmp new x)
 
+-- before the first object nothing was put in
 pub nothing_put : (all : List ObjectCalls) (m : BTreeMap ℕ ObjectCalls) → ArePutIn all all m m
 nothing_put all m = record { met = []; so_far = refl; kept = λ x. inr (λ c. absurd (in_from_contains [] x c), refl) }
 
@@ -93,6 +94,7 @@ put_one met o x old kept new h own other = elim (cases_eq x o.object) [
       | inr i ↦ elim i [ inl e ↦ ne (p.2 ∙ ap (λ (o : ObjectCalls). o.object) e) | inr k ↦ absurd k ]
     ]
 
+-- one more object was put in
 pub put_more : (all rest later : List ObjectCalls) (old kept new : BTreeMap ℕ ObjectCalls) (o : ObjectCalls) (key : ℕ)
     → ArePutIn all rest old kept
     → rest ≡ o ∷ later → key ≡ o.object → Updates nat_cmp kept new key (Some o) → ArePutIn all later old new
@@ -104,6 +106,7 @@ put_more all rest later old kept new o key h is k u = record {
       (λ ne. u.2 x (apart_keys key x (λ e. ne (e ∙ k))));
 }
 
+-- all objects were put in
 pub all_put : (all rest given : List ObjectCalls) (old new : BTreeMap ℕ ObjectCalls) → all ≡ given → rest ≡ []
     → ArePutIn all rest old new → (x : ℕ)
     → IsPutIn given x (get nat_cmp old x) (get nat_cmp new x)
@@ -125,6 +128,7 @@ pub record AreJoined {V E : Type 0} (items : V → List ObjectCalls) (all rest :
   pub so_far : all ≡ met ++ rest
   pub kept : (es : List Event) → AreGathered items es all → IsWholeTo es (length met) (length all) m
 
+-- before the first part nothing was joined
 pub nothing_joined : {V E : Type 0} (items : V → List ObjectCalls) (all : List (Result V E))
     (m : BTreeMap ℕ ObjectCalls) → m.entries ≡ [] → AreJoined items all all m
 nothing_joined {V} {E} items all m empty = record {
@@ -188,6 +192,7 @@ one_longer : {X : Type 0} (xs : List X) (y : X) → length (xs ++ y ∷ []) ≡ 
 one_longer [] y = refl
 one_longer (x ∷ xs) y = let l = one_longer xs y in omega (arith, l)
 
+-- one more part was joined
 pub join_more : {V E : Type 0} (items : V → List ObjectCalls) (all rest later : List (Result V E))
     (m next : BTreeMap ℕ ObjectCalls) (r : Result V E)
     (v : V) → AreJoined items all rest m → rest ≡ r ∷ later → r ≡ Ok v
@@ -207,6 +212,7 @@ join_more {V} {E} items all rest later m next r v h is ok put = record {
     whole : all ≡ h.met ++ r ∷ later
     whole = h.so_far ∙ ap (λ xs. h.met ++ xs) is
 
+-- all parts were joined: each named object has its history
 pub all_joined : {V E : Type 0} (items : V → List ObjectCalls) (all rest given : List (Result V E))
     (m : BTreeMap ℕ ObjectCalls) → all ≡ given
     → rest ≡ [] → 0 < length given → AreJoined items all rest m → (es : List Event) → AreGathered items es given
@@ -239,6 +245,7 @@ all_split items es (Err e) rising named kinds operations calls = tt
 abbrev pub AreListed : List (ℕ × ObjectCalls) → List (ℕ × ObjectCalls) → List ObjectCalls → Type 0
 AreListed all rest objects = map (λ e. e.1) all ≡ objects ++ map (λ e. e.1) rest
 
+-- one more object was listed
 pub list_more : (all rest later : List (ℕ × ObjectCalls)) (objects : List ObjectCalls) (x : ℕ) (o : ObjectCalls)
     → AreListed all rest objects
     → rest ≡ (x, o) ∷ later → AreListed all later (objects ++ o ∷ [])
@@ -246,6 +253,7 @@ list_more all rest later objects x o h is =
     h ∙ (ap (λ (r : List (ℕ × ObjectCalls)). objects ++ map (λ e. e.1) r) is
     ∙ sym (append_assoc objects (o ∷ []) (map (λ e. e.1) later)))
 
+-- all objects were listed, in rising order
 pub all_listed : (es : List Event) (m : BTreeMap ℕ ObjectCalls) (all rest : List (ℕ × ObjectCalls))
     (os : List ObjectCalls) → IsOrdered nat_cmp m
     → IsWhole es m → all ≡ m.entries → rest ≡ [] → AreListed all rest os → AreAll es os

@@ -31,6 +31,7 @@ at_least_its_place os (suc k) d rising l =
     let step = rising k (suc k) d (omega arith) l in
     omega arith
 
+-- a number that is at most another is at most an equal one
 pub no_greater : (a b c : ℕ) → a ≤ b → b ≡ c → a ≤ c
 no_greater a b c l e = omega arith
 
@@ -127,6 +128,7 @@ all_ok g rs h = all_from_in (IsNotBefore g) rs (λ r i. go r (all_at IsOk rs h r
     go (Ok u) k = tt
     go (Err e) k = cc k
 
+-- what one more worker found is taken into account
 pub one_more_found : (rs : List (Result (Unit {0}) RefusedObject)) (r : Result (Unit {0}) RefusedObject)
     (least next : Option RefusedObject)
     → IsLeastOf rs least → IsEarlier least r next → IsLeastOf (rs ++ r ∷ []) next
@@ -144,6 +146,7 @@ one_more_found rs (Err g) (Some f) next h is = elim is [
       (Contains-push rs (Err g), All-push (IsNotBefore g) rs (Err g) (all_weaker f g rs e.0 h.1) (omega arith))
 ]
 
+-- if no worker found a refusal, none has one
 pub none_found : (rs : List (Result (Unit {0}) RefusedObject)) (least : Option RefusedObject) → IsLeastOf rs least
     → IfNone least (All IsOk rs)
 none_found rs None h = h
@@ -151,6 +154,7 @@ none_found rs (Some f) h = tt
 
 -- ---- one place
 
+-- the object at a place is refused if its calls are
 pub refused_at : (os : List ObjectCalls) (certificates : List Certificate) (k : ℕ) (o : ObjectCalls) (r : Refusal)
     → k < length os → o ≡ get_or os k o
     → IsRefused o.kind (calls_of o.ops) certificates o.object r → IsRefusedAt os certificates k r
@@ -158,6 +162,7 @@ refused_at os certificates k o r l is h =
     λ d. subst (λ (q : ObjectCalls). IsRefused q.kind (calls_of q.ops) certificates q.object r)
     (is ∙ get_or_default os k o d l) h
 
+-- the object at a place has a valid order if its calls have
 pub fine_at : (os : List ObjectCalls) (certificates : List Certificate) (k : ℕ) (o : ObjectCalls) → k < length os
     → o ≡ get_or os k o
     → IsFine o.kind (calls_of o.ops) certificates o.object → IsFineAt os certificates k
@@ -232,6 +237,7 @@ first_of_all es count os certificates rs f distinct objects shares stands least 
     (sym o.1) (found.1 o.0) in
     next_is_first es certificates os k o.0 f.refusal distinct objects below found.0 o.1 here
 
+-- each object has a valid order if each worker found that its own have
 pub all_are_fine : (es : List Event) (count : ℕ) (os : List ObjectCalls) (certificates : List Certificate)
     (rs : List (Result (Unit {0}) RefusedObject)) → AreObjects es os → AreShares count os certificates rs
     → All IsOk rs → AreFine es certificates os

@@ -76,6 +76,7 @@ can_says h v content b is replays can = rw is (
   λ t. can.1 (does (kind_held v) v.log v.request.op content replays t),
 )
 
+-- the request in hand is possible in what the log leaves
 pub may_serve : (h v : Handling) (content : Content) → h ≡ v → Replays (empty (kind_held v)) v.log content
     → CanDoAfter (kind_held h) h.log h.request.op → IsSome (next content v.request.op)
 may_serve h v content is replays can = does (kind_held v) v.log v.request.op content replays (rw is at can)

@@ -37,9 +37,11 @@ same_map f same (suc i) e [] = refl
 same_map f same zero e (p ∷ ps) = ap (λ z. z ∷ map f ps) (same p (p.tries ++ e ∷ []))
 same_map f same (suc i) e (p ∷ ps) = ap (λ z. f p ∷ z) (same_map f same i e ps)
 
+-- a try changes no roster of a client's places
 pub same_rosters : (i : ℕ) (e : Enlist) (ps : List PlaceSeen) → rosters (trying i e ps) ≡ rosters ps
 same_rosters i e ps = same_map (λ p. p.roster) (λ p ts. refl) i e ps
 
+-- a client's places stay its own after a try
 pub still_own : (c i : ℕ) (e : Enlist) (lists : List TableId) (ps : List PlaceSeen) → ArePlacesOf c lists ps
     → ArePlacesOf c lists (trying i e ps)
 still_own c i e lists ps k = record
@@ -56,6 +58,7 @@ row_there zero x c r e = absurd (some-ne-none r (sym e))
 row_there (suc n) zero c r e = sym (some-injective c r e)
 row_there (suc n) (suc x) c r e = row_there n x c r e
 
+-- a client has a place of its row in the list of each object
 pub own_place : (c x : ℕ) (lists : List TableId) (ps : List PlaceSeen) → x < 16 → ArePlacesOf c lists ps
     → (p : PlaceSeen) × (get_elem? ps x ≡ some p)
     × (p.row ≡ c) × (get_elem? (rosters ps) x ≡ some p.roster)
@@ -77,6 +80,7 @@ fresh_rosters : (c : ℕ) (lists : List TableId) → rosters (fresh_places c lis
 fresh_rosters c [] = refl
 fresh_rosters c (l ∷ ls) = ap (λ z. l ∷ z) (fresh_rosters c ls)
 
+-- new places are the client's own
 pub fresh_own : (c : ℕ) (lists : List TableId) (ps : List PlaceSeen) → length lists ≡ 16 → ps ≡ fresh_places c lists
     → ArePlacesOf c lists ps
 fresh_own c lists ps long is = rw is record
@@ -99,6 +103,7 @@ walkers_left all (x ∷ xs) ws' n n' some_left gone more left j =
     ap (λ z. get_elem? (rosters_of z) j) gone ∙ (left (suc j) ∙ ap (get_elem? (rosters_of all)) (omega arith))
 
 module _ {Z : Type 0} where
+  -- each owner has room for one more place
   pub room_left : (n : ℕ) (lists : List TableId) (owners : List (Vec PlaceSeen Z)) → length lists < 16
       → AreDealt 0 n lists owners → HaveRoom owners
   room_left n lists owners low all c d l =

@@ -50,6 +50,7 @@ module _ {A : Type 0} where
   )
 
 module _ {S O R : Type 0} where
+  -- one more object has its core in its slot
   pub cores_more : (lists : List TableId) (os os' : List S) (ss ss' : List (Slot S O R)) (o : S) (k : Core S O R)
       → os' ≡ os ++ o ∷ []
       → ss' ≡ ss ++ slot.Core k ∷ [] → length ss ≡ length os → k.object ≡ o → k.log.items ≡ []
@@ -66,11 +67,13 @@ module _ {S O R : Type 0} where
       ))
       (at_end os o p x (ap (λ z. get_elem? z x) (sym e) ∙ at))
 
+  -- the cores stay in their slots with more slots after them
   pub cores_longer : (lists : List TableId) (os : List S) (ss ss' more : List (Slot S O R)) → ss' ≡ ss ++ more
       → AreCores os lists ss → AreCores os lists ss'
   cores_longer lists os ss ss' more e before x p at =
       let b = before x p at in (b.0, ap (λ z. get_elem? z x) e ∙ at_longer ss more x (slot.Core b.0) b.1, b.2, b.3, b.4)
 
+  -- with one more empty slot there is nothing from here on
   pub nothing_more : (ss ss' : List (Slot S O R)) (from : ℕ) → ss' ≡ ss ++ slot.Nothing ∷ []
       → ((i : ℕ) → from ≤ i → i < length ss → get_elem? ss i ≡ some slot.Nothing)
       → (i : ℕ) → from ≤ i → i < length ss + 1 → get_elem? ss' i ≡ some slot.Nothing

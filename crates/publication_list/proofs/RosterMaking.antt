@@ -37,6 +37,7 @@ at_end (x ∷ xs) a b (suc j) e =
 abbrev first_walker : ListView
 first_walker = view.Walker 0 [] None []
 
+-- the rule holds of a new table, whose words are all 0
 pub opening_keeps_rule : (words : List ℕ) → length words ≡ 65 → ((i : ℕ) → get_or words i 0 ≡ 0)
     → Holds (opening words [] first_walker)
 opening_keeps_rule words wide zeros = record {
@@ -90,15 +91,18 @@ split_keeps_rule id made left out walks low s k at =
       ];
     }
 
+-- each place of a list of zeros has 0, also past the end
 pub zeros : (n i : ℕ) → get_or {A = ℕ} (replicate n 0) i 0 ≡ 0
 zeros zero i = refl
 zeros (suc n) zero = refl
 zeros (suc n) (suc i) = zeros n i
 
+-- the walker may make one more place
 pub split_allowed : (id row : ℕ) (m : Hands) → row < 32 → m ≡ (view.Walker row [] None [], [])
     → Splits Holds id m.0 (play.after_making m.0) (play.new_place m.0)
 split_allowed id row m low is = rw is (split_keeps_rule id row [] None [] low)
 
+-- one more place, of the next row, at which nothing was tried
 pub ArePlaces-more : (id : TableId) (n : ℕ) (xs ys : List PlaceSeen) (p : PlaceSeen) → AreRowPlaces id n xs
     → ys ≡ xs ++ p ∷ [] → p ≡ record { roster = id; row = n; tries = [] } → AreRowPlaces id (n + 1) ys
 ArePlaces-more id n xs ys p k more is = (

@@ -66,6 +66,7 @@ numbers_of c x [] = refl
 numbers_of c x (Invoked t y op ∷ js) = ap (λ ns. t ∷ ns) (numbers_of c y js)
 numbers_of c x (Returned u a ∷ js) = ap (λ ns. u ∷ ns) (numbers_of c x js)
 
+-- the process of each event of a client's journal is the client
 pub process_of_each : (c x : ℕ) (js : List AnyEvent) (e : Event) → In e (events_of_journal c x js) → e.process ≡ c
 process_of_each c x [] e i = absurd i
 process_of_each c x (Invoked t y op ∷ js) e i = elim i [

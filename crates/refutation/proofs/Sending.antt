@@ -18,14 +18,17 @@ on_ok_with (Err e) P Q h f = tt
 
 -- ---- numbers
 
+-- a set of length 0 has no keys
 pub no_keys : (ns : List ℕ) → length ns ≡ 0 → ns ≡ []
 no_keys [] e = refl
 no_keys (n ∷ ns) e = absurd cc
 
+-- no keys are keys of a set of numbers
 pub no_numbers : AreNumberKeys []
 unfolding IsStrictlySortedBy
 no_numbers = record { in_range = tt; rising = tt }
 
+-- the text of numbers of which there is one
 pub some_numbers : (ns : List ℕ) → (length ns ≡ 0 → ⊥)
     → given_numbers_text ns ≡ codes ", :numbers [" ++ (naturals_text true ns ++ codes "]")
 some_numbers [] some = absurd (some refl)
@@ -45,6 +48,7 @@ pub all_taken_item : {X : Type 0} (P : X → Type 0) (xs : List X) (i : ℕ) (x 
 all_taken_item {X} P xs i x lt e h p =
     rw (take_more xs i x lt) (all_with P (take i xs) (get_or xs i x) h (rw e at p))
 
+-- the text of the cuts that are left is that of the next one and of those after it
 pub cuts_left : (cs : List Cut) (i : ℕ) (c : Cut) (first : Bool) → i < length cs → c ≡ get_or cs i c
     → cuts_text first (drop i cs) ≡ (between first (codes " ") ++ cut_text c) ++ cuts_text false
     (drop (i + 1) cs)
@@ -53,6 +57,7 @@ cuts_left cs i c first lt e =
     ∙ ap (λ (y : Cut). y ∷ drop (i + 1) cs) (sym e) in
     rw here refl
 
+-- the lines of the reasons that are left are that of the next one and those after it
 pub lines_left : (rs : List Reason) (i : ℕ) (r : Reason) → i < length rs → r ≡ get_or rs i r
     → reason_lines (drop i rs) ≡ reason_line r ++ reason_lines (drop (i + 1) rs)
 lines_left rs i r lt e =

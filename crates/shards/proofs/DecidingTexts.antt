@@ -74,11 +74,13 @@ module _ {shard_of name : ℕ → ℕ} {whole : List ℕ} {shards : ℕ → List
   whole_is es d = d.denoted.events ∙ ap (events_of_forms 0)
       (one_reading_of d.forms (forms_of h) whole d.spelled h.spelled)
 
+  -- the text of a shard denotes the shard's events and no others
   pub own_is : (s : ℕ) (es : List Event) → TextDenotes (shards s) es → es ≡ own_events s
   own_is s es d =
       d.denoted.events ∙ ap (events_of_forms 0) (one_reading_of d.forms (own_forms s) (shards s) d.spelled
       (own_spelled s))
 
+  -- the text of a shard is that of the whole's events on the shard's objects
   pub shard_is : (es : List Event) → TextDenotes whole es → (s : ℕ)
       → IsShardOf (λ x. shard_of x == s) name es (shards s)
   shard_is es d s = record {
@@ -88,6 +90,7 @@ module _ {shard_of name : ℕ → ℕ} {whole : List ℕ} {shards : ℕ → List
         (sym (whole_is es d)) (are_shards s);
   }
 
+  -- each shard of a linearizable history is linearizable
   pub shards_of_linearizable : IsLinearizableAtAnyLength whole
       → (s : ℕ) → IsLinearizableAtAnyLength (shards s)
   shards_of_linearizable l s = record {
@@ -98,6 +101,7 @@ module _ {shard_of name : ℕ → ℕ} {whole : List ℕ} {shards : ℕ → List
         (subst DenoteLinearizable (whole_is l.events l.denoted) l.linearizable) s;
   }
 
+  -- a history is linearizable if each of its shards is
   pub linearizable_by_shards : ((s : ℕ) → IsLinearizableAtAnyLength (shards s))
       → IsLinearizableAtAnyLength whole
   linearizable_by_shards l = record {
