@@ -66,8 +66,8 @@ IsScheduleSound text =
     ⊎ ((ds : List Datum) × Spells ds text × (form : ℕ) × IsSoundTo ds form) ⊎ IsSchedule text)
 
 -- Why there is no record: the text is too long, or spells nothing; it spells forms of which this is
--- the first fault; it denotes a schedule after which this client has not ended; or memory was
--- refused, and nothing was wrong before.
+-- the first fault; it denotes a schedule after which this client has not ended; or an
+-- allocation failed, and nothing was wrong before.
 abbrev pub IsSimulationFault : List ℕ → SimulationFault → Type 0
 IsSimulationFault text (Text e) = IsUnreadable text e
 IsSimulationFault text (Form f) =

@@ -1,5 +1,5 @@
--- `draw_call`: the step is taken, or it is impossible, or memory is short and nothing has changed. The client may
--- call and the object is of the kind, so `call_done` gives the world after the step.
+-- `draw_call`: the step is taken, or it is impossible, or an allocation failed and nothing has changed. The client
+-- may call and the object is of the kind, so `call_done` gives the world after the step.
 use Rattle.std.proofs.Common.{◌+◌, refl, sym, ◌∙◌, ap, ◌++◌, ◌∷◌, [], set, get_or}
 use Rattle.machine.specs.Machines.{State}
 use Rattle.recorder.specs.Records.{items_of_each}

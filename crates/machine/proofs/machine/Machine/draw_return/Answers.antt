@@ -1,5 +1,5 @@
 -- `draw_return`: a client that has taken its answer notes its return; at any other stage the step is not possible.
--- What is written is what the transition makes (`return_done`). Without memory nothing changes (`unticked`).
+-- What is written is what the transition makes (`return_done`). If an allocation fails nothing changes (`unticked`).
 use Rattle.std.proofs.Common.{◌≡◌, ◌+◌, refl, sym, subst, ◌∙◌, ap, ◌++◌, ◌∷◌, [], set, get_or}
 use Rattle.machine.specs.Machines.{State, world_of, stage_of, stage_in}
 use Rattle.machine.specs.declared.step.Stage.TheVariants.{Taken}
