@@ -73,7 +73,7 @@ abbrev pub number_within : Option ℕ → Option ℕ
 number_within None = None
 number_within (Some n) = if nat_le n max_number then Some n else None
 
--- the number of a map that a value is; `None` if there is no value, or it is none from 0 to
+-- the number of a map that a value is; `None` if the value is absent, or is no number from 0 to
 -- 4,294,967,295
 abbrev pub number_in : Option Datum → Option ℕ
 number_in value = number_within (natural_in value)
