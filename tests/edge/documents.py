@@ -263,9 +263,15 @@ def names_in_code():
             yield "_" + re.sub(r"(?<=[a-z0-9])(?=[A-Z])", "_", name).lower() + "_", f"{os.path.relpath(path, ROOT)}: {name}"
 
 
-def has_word(text, pattern):
-    """Whether a text has a word to avoid, apart from two phrases that may stay."""
-    return re.search(pattern, re.sub("there is none|is none of", "", text))
+def without_what_may_stay(texts):
+    """The texts without two phrases that may stay, in which words to avoid are."""
+    return {name: re.sub("there is none|is none of", "", text) for name, text in texts.items()}
+
+
+def has_word(text, word):
+    """Whether a text has a word to avoid. Most have not even its letters after the first, up to a number."""
+    pattern = rf"\b[{word[0]}{word[0].upper()}]{word[1:].replace('N', '[0-9]+')}\b"
+    return word[1:].partition("N")[0] in text and re.search(pattern, text)
 
 
 def plain_words(program, report):
@@ -277,10 +283,10 @@ def plain_words(program, report):
     comments = {}
     for name, messages, remarks in messages_and_comments():
         texts[name], comments[name] = messages, remarks
+    texts, comments = without_what_may_stay(texts), without_what_may_stay(comments)
     for words, looked_at in zip(tables, ([texts, comments], [texts])):
         for word in words:
-            pattern = rf"\b[{word[0]}{word[0].upper()}]{word[1:].replace('N', '[0-9]+')}\b"
-            where_said = {name for group in looked_at for name, text in group.items() if has_word(text, pattern)}
+            where_said = {name for group in looked_at for name, text in group.items() if has_word(text, word)}
             report.equal(f"plain_words: '{word}' is in no text", [], sorted(where_said))
     names = list(names_in_code())
     for word in tables[0]:
