@@ -68,9 +68,16 @@ def has_order(events):
     return bool(state[0])
 
 
+@functools.lru_cache(maxsize=None)
+def map_of(event):
+    """The map of an event. In it `@` is for the number of the object, with which its process, of two digits, ends too."""
+    process, kind, f, value = event
+    return f"{{:process {process + 10}@ :type :{kind} :f :{f} :value {written(value)} :object @}}\n"
+
+
 def template(events):
-    """The maps of a history. In each `@` is for the number of the object, with which its processes, of two digits, end too."""
-    return "".join(f"{{:process {process + 10}@ :type :{kind} :f :{f} :value {written(value)} :object @}}\n" for process, kind, f, value in events)
+    """The maps of a history."""
+    return "".join(map(map_of, events))
 
 
 class Sorted:

@@ -69,19 +69,14 @@ def history_of(turns, calls):
         if process in gone:
             return None
         if process not in running:
-            f, argument, running[process] = next(calls)
+            f, argument, _ = running[process] = next(calls)
             events.append((process, "invoke", f, argument))
             continue
-        kind, value = running.pop(process)
+        f, _, (kind, value) = running.pop(process)
         if kind == "info":
             gone.add(process)
-        events.append((process, kind, f_of(events, process), value))
+        events.append((process, kind, f, value))
     return None if running else events
-
-
-def f_of(events, process):
-    """The function that a process called last."""
-    return next(f for of, _, f, _ in reversed(events) if of == process)
 
 
 def searched_by_force(program, report):
@@ -296,7 +291,7 @@ class Every:
 
     def __init__(self, calls, operations, of_two, take):
         self.calls, self.steps, self.take, self.histories = calls, 2 * operations, take, brute_force.Sorted()
-        self.count, self.without, self.text_of = 0, 0, {}
+        self.count, self.without = 0, 0
         self.go_on("", 0, operations, (None, None), brute_force.NOTHING_DONE, not of_two)
         self.take_lot()
 
@@ -309,11 +304,9 @@ class Every:
 
     def step(self, text, maps, left, waiting, state, is_named, event):
         """Goes on after one more map, unless it is the first to name a value, and names 2."""
-        if event not in self.text_of:
-            self.text_of[event] = brute_force.template([event])
         first = None if is_named else first_value(event[3])
         if first != 2:
-            self.go_on(text + self.text_of[event], maps + 1, left, waiting, brute_force.after(state, *event), is_named or first == 1)
+            self.go_on(text + brute_force.map_of(event), maps + 1, left, waiting, brute_force.after(state, *event), is_named or first == 1)
 
     def go_on(self, text, maps, left, waiting, state, is_named):
         if maps:
