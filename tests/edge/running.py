@@ -60,7 +60,8 @@ class Program:
         process: judge and draw of the tools start others."""
         # The tools find the proved program beside them, and the finder in them.
         own = {name: value for name, value in os.environ.items() if name not in ("FCBENCH", "FCBENCH_FINDER")}
-        env = {**own, **(env or {})}
+        # A backtrace of a program in Rust that lacks memory takes fifty times what the run takes.
+        env = {**own, "RUST_BACKTRACE": "0", **(env or {})}
         if faults:
             env.update({name: str(value) for name, value in faults.items()}, LD_PRELOAD=self.faults)
         begun = time.monotonic()
