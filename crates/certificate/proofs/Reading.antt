@@ -1,11 +1,11 @@
 -- Reading certificates form by form: the forms so far have no fault, or this is the first one.
 use Rattle.std.proofs.Common.{◌≡◌, ◌≢◌, ℕ, zero, suc, ◌+◌, ◌<◌, ◌≤◌, ◌==◌, Bool, true, false, cond, List, [], ◌∷◌}
-use Rattle.std.proofs.Common.{◌++◌, length, take, drop, get_or}
+use Rattle.std.proofs.Common.{◌++◌, length, take, get_or}
 use Rattle.std.proofs.Common.{map, option_map, Option, Some, None, Contains, refl, ap, sym, ◌∙◌, length-append, arith}
 use Rattle.std.specs.Prelude.{ℤ, ◌||◌, codes}
 use Rattle.std.specs.List.{list_any}
 use Rattle.std.proofs.lemmas.Bool.{both_ways, or_parts, eqb-true, eq-eqb}
-use Rattle.std.proofs.lemmas.List.{drop_more, take_more, take-append-drop, length-take-le, length-map, map-append}
+use Rattle.std.proofs.lemmas.List.{take_more, map-append}
 use Rattle.std.proofs.Math.ListN.{get_or-append}
 use Rattle.std.proofs.Math.Seq.{get_or-append_seam}
 use Rattle.std.proofs.lemmas.List.Quantifiers.{all_pairs_push}
@@ -16,7 +16,6 @@ use Rattle.edn_reader.specs.declared.form.Form.{Form}
 use Rattle.edn_fields.specs.Fields.{value_at, natural_in, object_in}
 use Rattle.certificate.specs.Denotes.{Reading, order_in, reading_with, certificate_of, reading_of, AreDistinct, Denotes}
 use Rattle.certificate.specs.Faults.{cert_fault_number, IsCertFault, HasNoCertFault, IsFirstFault}
-use Rattle.certificate.specs.Faults.{IsCertSoundAt}
 use Rattle.certificate.specs.Inside.{IsFaultAmong, AreCertificatesRead}
 use Rattle.certificate.specs.declared.Certificate.{Certificate}
 use Rattle.certificate.specs.declared.fault.CertFault.{CertFault}
@@ -28,9 +27,6 @@ use Rattle.certificate.specs.declared.fault.CertFaultKind.TheVariants.{NotACerti
 -- the integers of a list of forms, after some that were read
 abbrev pub integers_after : List ℤ → List Form → Option (List ℤ)
 integers_after done fs = option_map (λ zs. done ++ zs) (integers_in (items_of (views fs)))
-
-at_place : (fs : List Form) (i : ℕ) (f : Form) → i < length fs → f ≡ get_or fs i f → drop i fs ≡ f ∷ drop (i + 1) fs
-at_place fs i f lt e = drop_more fs i f lt ∙ ap (λ (y : Form). y ∷ drop (i + 1) fs) (sym e)
 
 -- ---- one certificate
 
@@ -219,29 +215,6 @@ only_fault earlier d NoMemory other h k = absurd h
 pub not_denoted : (ds : List Datum) (e : CertFault) → IsFirstFault ds e → (cs : List Certificate) → Denotes ds cs → ⊥
 not_denoted ds e f cs h = no_fault ds cs h f.earlier f.later f.form e.kind f.split f.stands
 
-parts_at : (fs : List Form) (i : ℕ) (f : Form) → i < length fs → f ≡ get_or fs i f
-    → views fs ≡ views (take i fs) ++ view f ∷ views (drop (i + 1) fs)
-parts_at fs i f lt is =
-    ap views (sym (take-append-drop i fs) ∙ ap (λ (xs : List Form). take i fs ++ xs) (at_place fs i f lt is))
-    ∙ map-append view (take i fs) (f ∷ drop (i + 1) fs)
-
--- the first fault, after forms that were read
-pub first_fault : (fs : List Form) (i : ℕ) (f : Form) (cs : List Certificate) (among : ℕ → Bool)
-    (kind : CertFaultKind) → i < length fs
-    → f ≡ get_or fs i f → AreCertificatesRead (views (take i fs)) cs among → IsFaultAmong among (view f) kind
-    → kind ≢ NoMemory → IsFirstFault (views fs) (record { kind = kind; form = i })
-first_fault fs i f cs among kind lt is h fault other = record {
-  earlier = views (take i fs);
-  form = view f;
-  later = views (drop (i + 1) fs);
-  split = parts_at fs i f lt is;
-  place = length-map (take i fs) view ∙ length-take-le i fs (omega arith);
-  stands = fault_here (views (take i fs)) cs among (view f) kind h fault other;
-  least = no_fault (views (take i fs)) cs h.denoted;
-  first = λ k. only_fault (views (take i fs)) (view f) kind k
-      (fault_here (views (take i fs)) cs among (view f) kind h fault other);
-}
-
 -- a certificate of an object that no earlier form has
 pub nothing_here : (ds : List Datum) (cs : List Certificate) (among : ℕ → Bool) (d : Datum) (r : Reading)
     → AreCertificatesRead ds cs among
@@ -256,20 +229,6 @@ nothing_here ds cs among d r h own new TwoForOneObject fault =
     both_ways ((get_or cs f.1.0 f.0).object == x) none
     (eq-eqb (get_or cs f.1.0 f.0).object x (ap (λ (b : Certificate). b.object) f.1.2 ∙ same))
 nothing_here ds cs among d r h own new NoMemory fault = fault
-
-pub sound_at : (fs : List Form) (i : ℕ) (f : Form) (cs : List Certificate) (among : ℕ → Bool) (r : Reading)
-    → i < length fs → f ≡ get_or fs i f
-    → AreCertificatesRead (views (take i fs)) cs among → certificate_of (view f) ≡ Some r → among r.object ≡ false
-    → IsCertSoundAt (views fs) i
-sound_at fs i f cs among r lt is h own new = record {
-  earlier = views (take i fs);
-  form = view f;
-  later = views (drop (i + 1) fs);
-  split = parts_at fs i f lt is;
-  stands_at = length-map (take i fs) view ∙ length-take-le i fs (omega arith);
-  least = no_fault (views (take i fs)) cs h.denoted;
-  none = nothing_here (views (take i fs)) cs among (view f) r h own new;
-}
 
 pub taken_one_more : (fs : List Form) (i : ℕ) (f : Form) → i < length fs → f ≡ get_or fs i f
     → views (take (i + 1) fs) ≡ views (take i fs) ++ view f ∷ []

@@ -1,15 +1,13 @@
--- The elements of a text of certificates, one by one: what was found stays found, whatever follows.
-use Rattle.std.proofs.Common.{◌≡◌, ℕ, ◌+◌, Bool, true, false, Option, Some, None, List, [], ◌∷◌, ◌++◌, length, refl}
+-- Forms that are read one by one: what was found stays found, whatever follows.
+use Rattle.std.proofs.Common.{◌≡◌, ℕ, Bool, true, false, Option, Some, None, List, [], ◌∷◌, ◌++◌, length, refl}
 use Rattle.std.proofs.Common.{sym, ap, subst, ◌∙◌, append_assoc}
 use Rattle.std.specs.Prelude.{is_some}
 use Rattle.std.proofs.lemmas.List.{length-map}
 use Rattle.edn_reader.specs.Datum.{Datum}
-use Rattle.edn_reader.specs.Elements.{SpellsFront}
-use Rattle.edn_reader.proofs.FormsInARow.{Along, front_more}
 use Rattle.certificate.specs.declared.Certificate.{Certificate}
 use Rattle.certificate.specs.declared.fault.CertFault.{CertFault}
 use Rattle.certificate.specs.declared.fault.CertFaultKind.{CertFaultKind}
-use Rattle.certificate.specs.declared.text_reader.Reading.{Reading}
+use Rattle.certificate.specs.declared.reader.Reading.{Reading}
 use Rattle.certificate.specs.Denotes.{certificate_of, reading_of, Denotes}
 use Rattle.certificate.specs.Faults.{IsCertSoundAt}
 use Rattle.certificate.specs.Inside.{IsFaultAmong, AreCertificatesRead, has}
@@ -38,7 +36,7 @@ faulty_more r f ds d e h =
     (sym e)
     (λ n. first_more ds d f.form f.kind (a.0 n), λ m. sound_more ds d f.form (a.1 m))
 
-pub still_faulty : (r : Reading) (ds : List Datum) (d : Datum) → is_some r.fault ≡ true → IsCertificateReading r ds
+pub still_faulty : (r : Reading) (ds : List Datum) (d : Datum) → true ≡ is_some r.fault → IsCertificateReading r ds
     → IsCertificateReading r (ds ++ d ∷ [])
 still_faulty r ds d e h = by_fault r.fault refl
   where
@@ -83,19 +81,6 @@ found ds cs among d kind h fault = (
       ),
 )
 
--- one form more, of which this is known
-pub along_passed : (P Q : List Datum → Type 0) (text mid rest : List ℕ) (before start : ℕ) (d : Datum)
-    → SpellsFront mid (d ∷ []) rest
-    → start + length rest ≡ before + length mid → ((ds : List Datum) → P ds → Q (ds ++ d ∷ []))
-    → Along P text mid before → Along Q text rest start
-along_passed P Q text mid rest before start d f moves put a =
-    record {
-      forms = a.forms ++ d ∷ [];
-      front = front_more text mid rest a.forms (d ∷ []) a.front f;
-      holds = put a.forms a.holds;
-      place = moves ∙ a.place;
-    }
-
-pub no_fault_yet : (o : Option CertFault) → is_some o ≡ false → o ≡ None
+pub no_fault_yet : (o : Option CertFault) → false ≡ is_some o → o ≡ None
 no_fault_yet None e = refl
 no_fault_yet (Some f) e = absurd cc

@@ -1,7 +1,7 @@
 -- How the reader judges a form by the objects of the forms before it. No public clause speaks of
 -- it.
-use Rattle.std.specs.Prelude.{◌≡◌, ◌==◌, ℕ, Bool, true, false, Option, Some, None, is_some}
-use Rattle.std.specs.Prelude.{option_map, List}
+use Rattle.std.specs.Prelude.{◌≡◌, ◌==◌, ℕ, Bool, true, false, Some, None, is_some}
+use Rattle.std.specs.Prelude.{List, Result, MatchResult}
 use Rattle.std.specs.List.{list_any}
 use Rattle.edn_reader.specs.Datum.{Datum}
 use Rattle.number_map.specs.Lookup.{value_of}
@@ -16,10 +16,6 @@ use Rattle.certificate.specs.declared.fault.CertFaultKind.TheVariants.{TwoForOne
 abbrev pub has : {V : Type 0} → NumberMap V → ℕ → Bool
 has m x = is_some (value_of m x)
 
--- what was read of a form: the certificate that it is, or that it is not a certificate
-abbrev pub Says : Option Certificate → Datum → Type 0
-Says said d = certificate_of d ≡ option_map reading_of said
-
 -- what is wrong with a form, or that nothing is if an allocation failed, by whether an object is
 -- that of an earlier form
 abbrev pub IsFaultAmong : (ℕ → Bool) → Datum → CertFaultKind → Type 0
@@ -28,6 +24,12 @@ IsFaultAmong among d TwoForOneObject =
     (r : Reading) × (certificate_of d ≡ Some r) × (among r.object ≡ true)
 IsFaultAmong among d NoMemory =
     (r : Reading) × (certificate_of d ≡ Some r) × (among r.object ≡ false)
+
+-- the certificate that a form is, of an object that no earlier form has, or what is wrong with it
+abbrev pub IsNextCertificate : (ℕ → Bool) → Datum → Result Certificate CertFaultKind → Type 0
+IsNextCertificate among d found =
+    MatchResult found (λ c. (certificate_of d ≡ Some (reading_of c))
+    × (among c.object ≡ false)) (IsFaultAmong among d)
 
 -- the forms so far, their certificates, and which objects these are of
 pub record AreCertificatesRead (ds : List Datum) (cs : List Certificate) (among : ℕ → Bool) :

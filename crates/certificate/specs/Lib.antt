@@ -2,7 +2,6 @@ pub mod Denotes
 pub mod Faults
 pub mod Lines
 pub mod Inside
-pub mod TokenBuffers
 pub mod UsualForms
 pub mod Texts
 pub use Rattle.edn_reader.specs.Datum

@@ -7,7 +7,7 @@ use Rattle.certificate.specs.declared.fault.CertFault.{CertFault}
 use Rattle.certificate.specs.declared.fault.CertFaultKind.TheVariants.{NoMemory}
 use Rattle.certificate.specs.declared.fault.CertTextFault.{CertTextFault}
 use Rattle.certificate.specs.declared.fault.CertTextFault.TheVariants.{Text, Forms}
-use Rattle.certificate.specs.declared.text_reader.Reading.{Reading}
+use Rattle.certificate.specs.declared.reader.Reading.{Reading}
 use Rattle.certificate.specs.Faults.{IsFirstFault, IsCertSoundAt}
 use Rattle.certificate.specs.Inside.{AreCertificatesRead, has}
 

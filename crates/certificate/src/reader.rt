@@ -1,23 +1,22 @@
 //! From forms to certificates.
 
-ghost use Rattle.std.specs.Prelude.{◌≡◌, ◌≢◌, ◌==◌, if◌then◌else◌, ℕ, List, Some, None, true};
-ghost use Rattle.std.specs.Prelude.{false, is_some, IfOk, IfErr, IfSome, IfNone, All, option_map};
-ghost use Rattle.std.specs.Ordering.{nat_cmp};
-ghost use Rattle.std.specs.BTreeSet.{contains};
+ghost use Rattle.std.specs.Prelude.{◌≡◌, ◌≢◌, ◌==◌, if◌then◌else◌, ◌++◌, ◌∷◌, [], ℕ, List, Some, None};
+ghost use Rattle.std.specs.Prelude.{true, is_some, IfOk, IfErr, IfSome, IfNone, OnOk};
+ghost use Rattle.std.specs.Prelude.{All, option_map};
 ghost use Rattle.edn_reader.specs.Truncation.{integers_in};
-ghost use Rattle.edn_reader.specs.Datum.{DatumFits, max_open, items_of};
+ghost use Rattle.edn_reader.specs.Datum.{Datum, DatumFits, max_open, items_of};
 ghost use Rattle.edn_reader.specs.View.{view, views};
 ghost use Rattle.certificate.specs.declared.Certificate.{Certificate};
 ghost use Rattle.certificate.specs.Denotes as spec;
 ghost use Rattle.certificate.specs.Denotes.{Denotes, AreDistinct};
 ghost use Rattle.certificate.specs.Faults.{IsFirstFault, IsCertSoundAt};
-ghost use Rattle.certificate.specs.Inside.{IsFaultAmong};
+ghost use Rattle.certificate.specs.Inside.{has, IsNextCertificate};
 
 use crate::Certificate;
 use crate::fault::{CertFault, CertFaultKind};
 use edn::Form;
+use number_map::NumberMap;
 use std::alloc::{AllocError, Global};
-use std::collections::BTreeSet;
 
 /// Whether all the forms are integers.
 fn are_integers(forms: &[Form]) -> bool
@@ -94,33 +93,133 @@ pub fn certificate_in(alloc: Global, form: &Form) -> Result<Option<Certificate>,
     Ok(Some(Certificate { object, order }))
 }
 
-/// Reads a form as a certificate, and adds its object to the objects. Faults are found before any
-/// allocation.
+/// The certificate that a form is, if its object is not among the objects. Faults are found before
+/// any allocation.
 fn next_certificate(
     alloc: Global,
     form: &Form,
-    objects: &mut BTreeSet<u32>,
+    objects: &NumberMap<()>,
 ) -> Result<Certificate, CertFaultKind>
-    ensures own { IfOk result (λ c. spec.certificate_of (view form.now)
-        ≡ Some (spec.reading_of c)) }
-    ensures new { IfOk result (λ c. contains nat_cmp objects.old c.object ≡ false) }
-    ensures among { IfOk result (λ c. (x : ℕ) →
-        contains nat_cmp objects.new x ≡ (if c.object == x
-        then true else contains nat_cmp objects.old x)) }
-    ensures fault { IfErr result (IsFaultAmong (contains nat_cmp objects.old) (view form.now)) }
+    ensures { IsNextCertificate (has objects.now) (view form.now) result }
 {
     let Some((object, entries)) = parts_in(form) else {
         return Err(CertFaultKind::NotACertificate);
     };
-    if objects.contains(&object) {
+    if objects.get(u64::from(object)).is_some() {
         return Err(CertFaultKind::TwoForOneObject);
     }
-    let Ok(order) = integers_of(alloc, entries) else {
-        return Err(CertFaultKind::NoMemory);
-    };
-    match objects.insert(object) {
-        Ok(_) => Ok(Certificate { object, order }),
+    match integers_of(alloc, entries) {
+        Ok(order) => Ok(Certificate { object, order }),
         Err(_) => Err(CertFaultKind::NoMemory),
+    }
+}
+
+/// The same, of a certificate that was read in the usual form.
+fn next_usual(
+    certificate: Certificate,
+    objects: &NumberMap<()>,
+) -> Result<Certificate, CertFaultKind>
+    ensures { (d : Datum) → spec.certificate_of d ≡ Some (spec.reading_of certificate)
+        → IsNextCertificate (has objects.now) d result }
+{
+    if objects.get(u64::from(certificate.object)).is_some() {
+        return Err(CertFaultKind::TwoForOneObject);
+    }
+    Ok(certificate)
+}
+
+/// What was read: the certificates so far and their objects, and what is wrong with the first form
+/// that is faulty.
+#[derive(Drop)]
+pub(crate) struct Reading {
+    certificates: Vec<Certificate>,
+    objects: NumberMap<()>,
+    fault: Option<CertFault>,
+}
+
+impl Reading {
+    ghost use Rattle.certificate.specs.Texts.{IsCertFaultIn, IsCertificateReading};
+
+    pub fn new(alloc: Global) -> Reading
+        ensures { IsCertificateReading result [] }
+    {
+        Reading {
+            certificates: Vec::new(alloc),
+            objects: NumberMap::new(alloc),
+            fault: None,
+        }
+    }
+
+    /// One certificate more, of an object that is not among the objects.
+    fn push(&mut self, certificate: Certificate) -> Result<(), AllocError>
+        ensures certificates { OnOk result
+            (self.new.certificates.items ≡ self.old.certificates.items ++ certificate ∷ []) }
+        ensures objects { OnOk result ((x : ℕ) → has self.new.objects x
+            ≡ (if certificate.object == x then true else has self.old.objects x)) }
+        ensures fault { self.new.fault ≡ self.old.fault }
+    {
+        self.objects.insert(u64::from(certificate.object), ())?;
+        self.certificates.push(certificate)?;
+        Ok(())
+    }
+
+    /// Reads one more form from what was found of it, unless an earlier one is faulty.
+    fn take_found(&mut self, found: Result<Certificate, CertFaultKind>)
+        ensures { (ds : List Datum) (d : Datum)
+            → IsNextCertificate (has self.old.objects) d found
+            → IsCertificateReading self.old ds → IsCertificateReading self.new (ds ++ d ∷ []) }
+    {
+        if self.fault.is_some() {
+            return;
+        }
+        let form = self.certificates.len();
+        match found {
+            Ok(certificate) => match self.push(certificate) {
+                Ok(()) => {}
+                Err(_) => self.fault = Some(CertFault {
+                    kind: CertFaultKind::NoMemory,
+                    form,
+                }),
+            },
+            Err(kind) => self.fault = Some(CertFault { kind, form }),
+        }
+    }
+
+    /// Reads one more form, unless an earlier one is faulty.
+    pub fn take(&mut self, alloc: Global, form: &Form)
+        ensures { (ds : List Datum) → IsCertificateReading self.old ds
+            → IsCertificateReading self.new (ds ++ view form.now ∷ []) }
+    {
+        let found = next_certificate(alloc, form, &self.objects);
+        self.take_found(found);
+    }
+
+    /// Reads one more form, which is this certificate, unless an earlier one is faulty.
+    pub fn take_usual(&mut self, certificate: Certificate)
+        ensures { (ds : List Datum) (d : Datum)
+            → spec.certificate_of d ≡ Some (spec.reading_of certificate)
+            → IsCertificateReading self.old ds → IsCertificateReading self.new (ds ++ d ∷ []) }
+    {
+        let found = next_usual(certificate, &self.objects);
+        self.take_found(found);
+    }
+
+    /// The certificates, or what is wrong with a form.
+    pub fn finish(self) -> Result<Vec<Certificate>, CertFault>
+        ensures denotes { (ds : List Datum) → IsCertificateReading self ds
+            → IfOk result (λ v. Denotes ds v.items) }
+        ensures fault { (ds : List Datum) → IsCertificateReading self ds
+            → IfErr result (IsCertFaultIn ds) }
+    {
+        let Reading {
+            certificates,
+            objects: _,
+            fault,
+        } = self;
+        match fault {
+            Some(fault) => Err(fault),
+            None => Ok(certificates),
+        }
     }
 }
 
@@ -140,19 +239,9 @@ pub fn read_certificates(alloc: Global, forms: Vec<Form>) -> Result<Vec<Certific
     ensures refused { IfErr result (λ e. e.kind ≢ CertFaultKind.NoMemory → (cs : List Certificate) →
         Denotes (views forms.items) cs → ⊥) }
 {
-    let mut certificates = Vec::new(alloc);
-    let mut objects = BTreeSet::new(alloc);
-    for (place, form) in forms.iter().enumerate() {
-        match next_certificate(alloc, form, &mut objects) {
-            Ok(certificate) => match certificates.push(certificate) {
-                Ok(()) => {}
-                Err(_) => return Err(CertFault {
-                    kind: CertFaultKind::NoMemory,
-                    form: place,
-                }),
-            },
-            Err(kind) => return Err(CertFault { kind, form: place }),
-        }
+    let mut reading = Reading::new(alloc);
+    for form in forms.iter() {
+        reading.take(alloc, form);
     }
-    Ok(certificates)
+    reading.finish()
 }

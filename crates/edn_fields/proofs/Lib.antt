@@ -2,6 +2,5 @@ pub mod Finding
 pub mod Skipping
 pub mod Operating
 pub mod Shapes
-pub mod Seeking
 pub mod Truncation
 pub mod FirstFaults

@@ -4,7 +4,7 @@ use Rattle.std.proofs.Common.{◌≡◌, ℕ, Bool, true, false, cond, Option, S
 use Rattle.std.proofs.Common.{refl, sym, ap, subst, ◌∙◌, append_assoc, arith}
 use Rattle.std.specs.Prelude.{◌==◌}
 use Rattle.std.proofs.lemmas.Bool.{eqb-true}
-use Rattle.edn_reader.specs.Datum.{keyword, Datum, atom, vector, dictionary, Entries, no_entries, entry, entries_of}
+use Rattle.edn_reader.specs.Datum.{keyword, Datum, atom, dictionary, Entries, no_entries, entry, entries_of}
 use Rattle.edn_reader.specs.Token.{Token, open_map, close_map, leaf, tokens_of, entries_tokens}
 use Rattle.edn_reader.specs.Pieces.{token_buffer_tokens}
 use Rattle.edn_reader.specs.declared.Piece.{Piece}

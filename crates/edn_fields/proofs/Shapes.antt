@@ -1,7 +1,6 @@
 -- What a value is, by its first token.
 use Rattle.std.proofs.Common.{◌≡◌, Option, Some, None, List, ◌++◌, refl, ap, ◌∙◌}
-use Rattle.std.specs.Prelude.{pos, negsuc}
-use Rattle.edn_reader.specs.Datum.{nil, boolean, integer, string, keyword, Datum, atom, vector, dictionary}
+use Rattle.edn_reader.specs.Datum.{nil, Datum, atom}
 use Rattle.edn_reader.specs.Token.{Token, tokens_of}
 use Rattle.edn_reader.specs.Pieces.{token_buffer_tokens}
 use Rattle.edn_reader.specs.declared.Piece.{Piece}

@@ -1,10 +1,9 @@
--- The values of a map of which the beginnings are kept, and its integer vector.
-use Rattle.std.proofs.Common.{◌≡◌, ℕ, Bool, true, false, Option, Some, None, List, refl, ap, ◌∙◌}
-use Rattle.std.specs.Prelude.{option_map, option_and_then, if◌then◌else◌}
-use Rattle.edn_reader.specs.Truncation.{truncated_value, truncated_entries, integer_vector_of, integer_vector_under}
+-- The values of a map of which the beginnings are kept.
+use Rattle.std.proofs.Common.{◌≡◌, ℕ, Bool, true, false, Option, Some, None, List, refl}
+use Rattle.std.specs.Prelude.{option_map, if◌then◌else◌}
+use Rattle.edn_reader.specs.Truncation.{truncated_value, truncated_entries}
 use Rattle.edn_reader.specs.Datum.{Datum, atom, vector, dictionary, Entries, no_entries, entry}
 use Rattle.edn_fields.specs.Fields.{same_bytes, value_at, natural_in, keyword_in}
-use Rattle.edn_fields.proofs.Finding.{same_bytes_is}
 
 -- the value of a key in entries of which only the beginning of each value was kept
 pub value_of_truncated : (k : List ℕ) (es : Entries)
@@ -30,17 +29,3 @@ keyword_of_truncated None = refl
 keyword_of_truncated (Some (atom a)) = refl
 keyword_of_truncated (Some (vector ds)) = refl
 keyword_of_truncated (Some (dictionary es)) = refl
-
--- the integer vector under a key is that of the key's value
-pub integer_vector_of_value : (k : List ℕ) (es : Entries)
-    → integer_vector_under k es ≡ option_and_then integer_vector_of (value_at k es)
-integer_vector_of_value k no_entries = refl
-integer_vector_of_value k (entry l d es) =
-    ap (λ (b : Bool). if b then integer_vector_of d else integer_vector_under k es) (same_bytes_is k l)
-    ∙ by_key (same_bytes k l) (integer_vector_of_value k es)
-  where
-    by_key : (b : Bool) → integer_vector_under k es ≡ option_and_then integer_vector_of (value_at k es)
-        → (if b then integer_vector_of d else integer_vector_under k es)
-        ≡ option_and_then integer_vector_of (if b then Some d else value_at k es)
-    by_key true e = refl
-    by_key false e = e

@@ -8,19 +8,11 @@ use Rattle.edn_reader.specs.Token.{tokens_of}
 use Rattle.edn_reader.specs.Pieces.{token_buffer_tokens}
 use Rattle.edn_reader.specs.Shapes.{key_in}
 use Rattle.edn_reader.specs.declared.Piece.{Piece}
-use Rattle.edn_fields.specs.Fields.{value_at}
 
 -- the token buffer begins with the value's tokens, or there is no value and it is empty
 abbrev pub IsValue : List Piece → Option Datum → Type 0
 IsValue ps None = ps ≡ []
 IsValue ps (Some d) = (ts : List Token) × (token_buffer_tokens ps ≡ tokens_of d ++ ts)
-
--- The form is a map. The token buffer begins with the tokens of its value for this key, or the map
--- has no such value and the buffer is empty.
-abbrev pub IsValueIn : List Piece → List ℕ → Datum → Type 0
-IsValueIn ps k (atom a) = ⊥
-IsValueIn ps k (vector ds) = ⊥
-IsValueIn ps k (dictionary es) = IsValue ps (value_at k es)
 
 -- what follows this many closing brackets, except for those of what is opened here
 abbrev pub after_open : ℕ → List Token → List Token

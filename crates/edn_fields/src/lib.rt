@@ -9,12 +9,10 @@ ghost use Rattle.edn_reader.specs.View.{view, pair_views};
 ghost use Rattle.edn_fields.specs.Fields as spec;
 
 mod operation;
-mod seek;
 mod values;
 
 use edn::{Form, Name};
 pub use operation::{OperationValues, values_of};
-pub use seek::value_on;
 pub use values::{keyword_at, natural_at};
 
 /// The greatest object number.

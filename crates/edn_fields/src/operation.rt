@@ -1,15 +1,14 @@
 //! The values of an operation map, whose tokens are in a token buffer.
 
-ghost use Rattle.std.specs.Prelude.{◌≡◌, ◌++◌, ◌∷◌, [], ℕ, List, IfSome, IfNone};
-ghost use Rattle.edn_reader.specs.Datum.{Datum, Entries, dictionary, entries_of};
-ghost use Rattle.edn_reader.specs.Token.{Token, tokens_of, entries_tokens, close_map};
+ghost use Rattle.std.specs.Prelude.{◌≡◌, ◌++◌, ◌∷◌, [], ℕ, List, IfSome, IfNone, MatchOption};
+ghost use Rattle.edn_reader.specs.Datum.{Datum, Entries, keyword, atom, dictionary, entries_of};
+ghost use Rattle.edn_reader.specs.Token.{Token, tokens_of, entries_tokens, leaf, open_map, close_map};
 ghost use Rattle.edn_reader.specs.Pieces.{token_buffer_tokens};
 ghost use Rattle.edn_fields.specs.Fields.{value_at};
 ghost use Rattle.edn_fields.specs.Values.{IsValue};
-ghost use Rattle.edn_fields.specs.Operations.{HasValues, IsMapWith};
+ghost use Rattle.edn_fields.specs.Operations.{HasValues, IsMapWith, NoMap, NoPair};
 
 use crate::is_same;
-use crate::seek::{after_bracket, pair_at};
 use crate::values::after_value;
 use edn::Piece;
 
@@ -75,6 +74,32 @@ impl<'p, 'a> OperationValues<'p, 'a> {
             object: first_of(self.object, b"object", name, value),
             value: first_of(self.value, b"value", name, value),
         }
+    }
+}
+
+/// The token buffer after the bracket that opens a map.
+#[inline]
+fn after_bracket<'p, 'a>(pieces: &'p [Piece<'a>]) -> Option<&'p [Piece<'a>]>
+    ensures { MatchOption result (NoMap (token_buffer_tokens pieces.entry.now))
+        (λ inside. token_buffer_tokens pieces.entry.now ≡ open_map ∷ token_buffer_tokens
+        inside.now) }
+{
+    match pieces {
+        [Piece::OpenMap, inside @ ..] => Some(inside),
+        _ => None,
+    }
+}
+
+/// The key at the front, and the token buffer after it.
+#[inline]
+fn pair_at<'p, 'a>(pieces: &'p [Piece<'a>]) -> Option<(&'a str, &'p [Piece<'a>])>
+    ensures { MatchOption result (NoPair (token_buffer_tokens pieces.entry.now))
+        (λ x. token_buffer_tokens pieces.entry.now ≡ leaf (atom (keyword x.0.now))
+        ∷ token_buffer_tokens x.1.now) }
+{
+    match pieces {
+        [Piece::Keyword(name), tail @ ..] => Some((name, tail)),
+        _ => None,
     }
 }
 

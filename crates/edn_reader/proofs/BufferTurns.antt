@@ -1,7 +1,7 @@
 -- One turn of `TokenBuffer`: what holds of it after each token. A token is one step of the reader, and where no frame
 -- is open the element is whole.
-use Rattle.std.proofs.Common.{◌≡◌, ◌⊎◌, ℕ, true, false, Option, Some, None, ◌<◌, List, [], ◌∷◌, ◌++◌, length, get_or}
-use Rattle.std.proofs.Common.{refl, sym, ap, ◌∙◌, append_assoc, arith, inl, inr}
+use Rattle.std.proofs.Common.{◌≡◌, ◌⊎◌, ℕ, Bool, true, false, Option, Some, None, ◌<◌, List, [], ◌∷◌, ◌++◌, length}
+use Rattle.std.proofs.Common.{get_or, refl, sym, ap, ◌∙◌, append_assoc, arith, inl, inr}
 use Rattle.std.specs.Prelude.{option_map, option_and_then, IsSome, ◌==◌}
 use Rattle.std.proofs.lemmas.Bool.Decides.{nat_tests}
 use Rattle.std.proofs.lemmas.List.{append-nil}
@@ -14,11 +14,9 @@ use Rattle.edn_reader.specs.Reading.{in_text, in_vector, in_map, put, close_as, 
 use Rattle.edn_reader.specs.Reading.{close_map_at, open_at, State, step, steps, opening, closed}
 use Rattle.edn_reader.specs.Shapes.{Shape, Shapes, shape_list, shapes_of, shape_step, after_piece, nothing_open}
 use Rattle.edn_reader.specs.Shapes.{waits_for_key, put_in}
-use Rattle.edn_reader.specs.Elements.{SpellsFront, SpellsNothing, ReadsElement, HoldsToken}
-use Rattle.edn_reader.specs.Truncation.{Keeping}
-use Rattle.edn_reader.specs.IntegerVectors.{Held, nothing_held, hold_all, noted}
+use Rattle.edn_reader.specs.Elements.{SpellsFront, SpellsNothing, ReadsElement, KeepsToken}
+use Rattle.edn_reader.specs.Truncation.{Keep, nothing_kept, keep, keep_all}
 use Rattle.edn_reader.proofs.Cutting.{kept_tokens}
-use Rattle.edn_reader.proofs.Noting.{hold_append, held_kept, integer_vector_held}
 use Rattle.edn_reader.proofs.Strings.{some_is}
 use Rattle.edn_reader.proofs.Consumed.{consumed, step_tokens, list_tokens, mapped, opened_at}
 use Rattle.edn_reader.proofs.Lexical.{first_shorter, skip_within, with_rest}
@@ -112,12 +110,16 @@ step_first t z e = absurd cc
 
 -- ---- one turn of the loop over an element's tokens
 
+keep_append : (ts us : List Token) (k : Keep) → keep_all (ts ++ us) k ≡ keep_all us (keep_all ts k)
+keep_append [] us k = refl
+keep_append (t ∷ ts) us k = keep_append ts us (keep t k)
+
 -- after the tokens that were kept the element goes on, or it is whole
-pub record Midway (keeping : Keeping) (text rest : List ℕ) (now_open : Shapes) (k : Held) : Type 0 where
+pub record Midway (cuts : Bool) (text rest : List ℕ) (now_open : Shapes) (k : Keep) : Type 0 where
   pub state : State
   pub progress : Progress text rest state
   pub shaped : shapes_of state ≡ now_open
-  pub kept : hold_all (consumed state) (nothing_held keeping) ≡ k
+  pub kept : keep_all (consumed state) (nothing_kept cuts) ≡ k
   pub going : IsGoing state
 
 -- a token that was taken, and the step that it is
@@ -181,10 +183,10 @@ start text u = record {
 
 module _ {text here : List ℕ} (u : IsUtf8 text) (h : here ≡ skip text) where
   -- its first token
-  pub first_turn : {keeping : Keeping} {r : List ℕ} {old new : Shapes} {kept more : Held} → old ≡ nothing_open
-      → kept ≡ nothing_held keeping → after_piece old (first here) ≡ Some (new, r)
-      → HoldsToken kept (first here) more → Midway keeping text r new more
-  first_turn {keeping = keeping} {r = r} {new = new} o z e k =
+  pub first_turn : {cuts : Bool} {r : List ℕ} {old new : Shapes} {kept more : Keep} → old ≡ nothing_open
+      → kept ≡ nothing_kept cuts → after_piece old (first here) ≡ Some (new, r)
+      → KeepsToken kept (first here) more → Midway cuts text r new more
+  first_turn {cuts = cuts} {r = r} {new = new} o z e k =
       let t = taken opening (first here) new r (rw o at e) in
       let n : next text ≡ got t.token r = next_at text here h ∙ t.is in
       record {
@@ -217,8 +219,8 @@ module _ {text here : List ℕ} (u : IsUtf8 text) (h : here ≡ skip text) where
 
 -- ---- between tokens of an element
 
-module _ {keeping : Keeping} {text rest : List ℕ} {now_open : Shapes} {kept : Held}
-    (m : Midway keeping text rest now_open kept) where
+module _ {cuts : Bool} {text rest : List ℕ} {now_open : Shapes} {kept : Keep}
+    (m : Midway cuts text rest now_open kept) where
   -- where something is open the element is not whole
   inside : false ≡ (length now_open.outer == 0) → IsInside m.state.outer
   inside o = elim m.going [
@@ -238,16 +240,14 @@ module _ {keeping : Keeping} {text rest : List ℕ} {now_open : Shapes} {kept : 
       not_inside (f ∷ fs) i h = grind (arith, nat_tests)
 
   pub whole : IsUtf8 text → true ≡ (length now_open.outer == 0)
-      → ReadsElement keeping text kept.kept.tokens (noted kept.integer_vector) rest
+      → ReadsElement cuts text kept.tokens rest
   whole u o =
       let d = one_form o in
       let p : Progress text rest (closed (d.0 ∷ [])) = rw d.1 at m.progress in
-      let held : kept ≡ hold_all (tokens_of d.0) (nothing_held keeping) = sym (rw (d.1, append-nil) at m.kept) in
+      let held : kept ≡ keep_all (tokens_of d.0) (nothing_kept cuts) = sym (rw (d.1, append-nil) at m.kept) in
       record {
         element = d.0;
-        own = ap (λ (k : Held). k.kept.tokens) held
-            ∙ rw (held_kept (tokens_of d.0) (nothing_held keeping)) (kept_tokens keeping.cuts d.0);
-        own_integer_vector = ap (λ (k : Held). noted k.integer_vector) held ∙ integer_vector_held keeping d.0;
+        own = ap (λ (k : Keep). k.tokens) held ∙ kept_tokens cuts d.0;
         front = element_front p u;
         utf8 = p.utf8;
       }
@@ -258,9 +258,9 @@ module _ {keeping : Keeping} {text rest : List ℕ} {now_open : Shapes} {kept : 
 
   module _ {here : List ℕ} (h : here ≡ skip rest) where
     -- one token more
-    pub next_turn : {r : List ℕ} {new : Shapes} {more : Held} → false ≡ (length now_open.outer == 0)
-        → after_piece now_open (first here) ≡ Some (new, r) → HoldsToken kept (first here) more
-        → Midway keeping text r new more
+    pub next_turn : {r : List ℕ} {new : Shapes} {more : Keep} → false ≡ (length now_open.outer == 0)
+        → after_piece now_open (first here) ≡ Some (new, r) → KeepsToken kept (first here) more
+        → Midway cuts text r new more
     next_turn {r = r} {new = new} o e k =
         let t = taken m.state (first here) new r (rw (← m.shaped) at e) in
         let n : next rest ≡ got t.token r = next_at rest here h ∙ t.is in
@@ -271,7 +271,7 @@ module _ {keeping : Keeping} {text rest : List ℕ} {now_open : Shapes} {kept : 
           kept = rw (
             step_consumed rest t.token r m.state t.after n t.steps_to,
             k t.token r t.is,
-            hold_append (consumed m.state) (t.token ∷ []) (nothing_held keeping),
+            keep_append (consumed m.state) (t.token ∷ []) (nothing_kept cuts),
             m.kept,
           ) refl;
           going = step_going t.token m.state t.after t.steps_to (inside o);

@@ -1,14 +1,12 @@
 -- Forms at the front of a text, one more after them, and what is sound after them.
-use Rattle.std.proofs.Common.{◌≡◌, ◌≢◌, ℕ, ◌+◌, Bool, true, false, cond, Option, Some, None, List, [], ◌∷◌, ◌++◌}
+use Rattle.std.proofs.Common.{◌≡◌, ◌≢◌, ℕ, ◌+◌, Bool, true, false, cond, Some, None, List, [], ◌∷◌, ◌++◌}
 use Rattle.std.proofs.Common.{length, sym, ap, subst, ◌∙◌, append_assoc, arith}
-use Rattle.std.specs.Prelude.{ℤ}
 use Rattle.std.specs.Str.{IsUtf8}
 use Rattle.edn_reader.specs.Datum.{Datum}
 use Rattle.edn_reader.specs.Elements.{SpellsFront, SpellsNothing, ReadsElement, ReadsNext}
 use Rattle.edn_reader.specs.Sound.{IsShort, IsSoundAt, IsSoundFrom, IsUnreadable}
 use Rattle.edn_reader.specs.Spells.{Spells}
-use Rattle.edn_reader.specs.Token.{Token, tokens_of}
-use Rattle.edn_reader.specs.Truncation.{Keeping, kept_of, integer_vector_kept}
+use Rattle.edn_reader.specs.Token.{Token}
 use Rattle.edn_reader.specs.declared.fault.EdnFault.{EdnFault}
 use Rattle.edn_reader.specs.declared.fault.FaultKind.TheVariants.{TooLong, NoMemory}
 use Rattle.std.proofs.lemmas.List.{append-nil}
@@ -63,20 +61,16 @@ pub record Along (P : List Datum → Type 0) (text rest : List ℕ) (start : ℕ
   pub holds : P forms
   pub place : start + length rest ≡ length text
 
--- one element more
-pub along_more : (keeping : Keeping) (P Q : List Datum → Type 0) (text mid rest : List ℕ) (before start : ℕ)
-    (tokens : List Token)
-    (integer_vector : Option (List ℤ)) → ReadsElement keeping mid tokens integer_vector rest
-    → start + length rest ≡ before + length mid
-    → ((ds : List Datum) (d : Datum) → tokens ≡ tokens_of (kept_of keeping.cuts d)
-    → integer_vector ≡ integer_vector_kept keeping d → P ds
-    → Q (ds ++ d ∷ [])) → Along P text mid before → Along Q text rest start
-along_more keeping P Q text mid rest before start tokens integer_vector e moves put a =
+-- one form more
+pub along_more : (P Q : List Datum → Type 0) (text mid rest : List ℕ) (before start : ℕ) (d : Datum)
+    → SpellsFront mid (d ∷ []) rest
+    → start + length rest ≡ before + length mid → ((ds : List Datum) → P ds → Q (ds ++ d ∷ []))
+    → Along P text mid before → Along Q text rest start
+along_more P Q text mid rest before start d f moves put a =
     record {
-      forms = a.forms ++ e.element ∷ [];
-      front = front_more text mid rest a.forms (e.element ∷ []) a.front e.front;
-      holds =
-          put a.forms e.element e.own e.own_integer_vector a.holds;
+      forms = a.forms ++ d ∷ [];
+      front = front_more text mid rest a.forms (d ∷ []) a.front f;
+      holds = put a.forms a.holds;
       place = moves ∙ a.place;
     }
 
@@ -108,15 +102,12 @@ unreadable_after P text rest start e short a not_long none not_memory =
       nothing = λ _. along_none P text rest start a (none not_memory);
     }
 
-pub reads_some : (keeping : Keeping) (b : Bool) (text : List ℕ) (tokens : List Token)
-    (integer_vector : Option (List ℤ)) (rest : List ℕ) → b ≡ true
-    → ReadsNext keeping text tokens integer_vector (cond b (Some rest) None)
-    → ReadsElement keeping text tokens integer_vector rest
-reads_some keeping true text tokens integer_vector rest e h = h
-reads_some keeping false text tokens integer_vector rest e h = absurd cc
+pub reads_some : (cuts b : Bool) (text : List ℕ) (tokens : List Token) (rest : List ℕ) → b ≡ true
+    → ReadsNext cuts text tokens (cond b (Some rest) None) → ReadsElement cuts text tokens rest
+reads_some cuts true text tokens rest e h = h
+reads_some cuts false text tokens rest e h = absurd cc
 
-pub reads_none : (keeping : Keeping) (b : Bool) (text : List ℕ) (tokens : List Token)
-    (integer_vector : Option (List ℤ)) (rest : List ℕ) → b ≡ false
-    → ReadsNext keeping text tokens integer_vector (cond b (Some rest) None) → SpellsNothing text
-reads_none keeping true text tokens integer_vector rest e h = absurd cc
-reads_none keeping false text tokens integer_vector rest e h = h
+pub reads_none : (cuts b : Bool) (text : List ℕ) (tokens : List Token) (rest : List ℕ) → b ≡ false
+    → ReadsNext cuts text tokens (cond b (Some rest) None) → SpellsNothing text
+reads_none cuts true text tokens rest e h = absurd cc
+reads_none cuts false text tokens rest e h = h

@@ -25,7 +25,6 @@ pub mod Nested
 pub mod Raw
 pub mod Prefixes
 pub mod Cutting
-pub mod Noting
 pub mod BufferTurns
 pub mod Tables
 pub mod ByteRuns

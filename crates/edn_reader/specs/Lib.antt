@@ -18,7 +18,6 @@ pub mod Forming
 pub mod Formings
 pub mod Levels
 pub mod Truncation
-pub mod IntegerVectors
 pub mod Kepts
 pub mod Elements
 pub mod TokenBuffers

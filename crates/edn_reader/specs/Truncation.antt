@@ -1,8 +1,7 @@
--- What is kept of an element of which a reader needs only the beginning of each value, and the
--- vector of integers under one key.
+-- What is kept of an element of which a reader needs only the beginning of each value; and vectors
+-- of integers.
 use Rattle.std.specs.Prelude.{ℕ, zero, suc, ◌+◌, ◌-◌, ◌==◌, ℤ, Bool, true, false, if◌then◌else◌}
 use Rattle.std.specs.Prelude.{List, [], ◌∷◌, ◌++◌, Option, Some, None, option_map, option_and_then}
-use Rattle.std.specs.Str.{bytes_eq}
 use Rattle.edn_reader.specs.Datum.{nil, integer, Datum, atom, vector, dictionary, Items, no_items}
 use Rattle.edn_reader.specs.Datum.{item}
 use Rattle.edn_reader.specs.Datum.{Entries, no_entries, entry}
@@ -44,7 +43,7 @@ truncated (dictionary es) = dictionary (truncated_entries es)
 abbrev pub kept_of : Bool → Datum → Datum
 kept_of cuts d = if cuts then truncated d else d
 
--- ---- an vector of integers
+-- ---- a vector of integers
 
 abbrev pub integer_in : Datum → Option ℤ
 integer_in (atom (integer z)) = Some z
@@ -60,36 +59,6 @@ integers_in (item d ds) =
 abbrev pub integer_vector_of : Datum → Option (List ℤ)
 integer_vector_of (vector ds) = integers_in ds
 integer_vector_of other = None
-
--- the integer vector under a key: under the first entry that has it
-abbrev pub integer_vector_under : List ℕ → Entries → Option (List ℤ)
-integer_vector_under key no_entries = None
-integer_vector_under key (entry k d es) =
-    if bytes_eq key k then integer_vector_of d else integer_vector_under key es
-
-abbrev pub integer_vector_at : List ℕ → Datum → Option (List ℤ)
-integer_vector_at key (dictionary es) = integer_vector_under key es
-integer_vector_at key other = None
-
--- ---- what a reader keeps of each element
-
--- whether the element is cut, and under which key the integer vector is kept, if one is
-pub record Keeping : Type 0 where
-  pub cuts : Bool
-  pub integer_vector_key : Option (List ℕ)
-
-abbrev pub all_kept : Keeping
-all_kept = record { cuts = false; integer_vector_key = None }
-
-abbrev pub truncated_kept : Keeping
-truncated_kept = record { cuts = true; integer_vector_key = None }
-
-abbrev pub truncated_and_integer_vector : List ℕ → Keeping
-truncated_and_integer_vector key = record { cuts = true; integer_vector_key = Some key }
-
--- the integer vector of a whole element, whether or not it is cut
-abbrev pub integer_vector_kept : Keeping → Datum → Option (List ℤ)
-integer_vector_kept k d = option_and_then (λ key. integer_vector_at key d) k.integer_vector_key
 
 -- ---- token by token. No public clause speaks of it.
 

@@ -13,7 +13,6 @@ mod fault;
 mod form;
 mod forming;
 mod front;
-mod integer_vector;
 mod laws;
 mod levels;
 mod lexer;

@@ -1,20 +1,14 @@
 //! From bytes to forms.
-ghost use Rattle.std.specs.Prelude.{◌≡◌, ◌≢◌, ◌<◌, ◌++◌, ◌∷◌, [], List, length, IfOk, IfErr};
-ghost use Rattle.std.specs.Prelude.{IsErrAnd, OnOk};
+ghost use Rattle.std.specs.Prelude.{◌≡◌, ◌≢◌, ◌<◌, List, length, IfOk, IfErr, IsErrAnd};
 ghost use Rattle.edn_reader.specs.Datum.{Datum, max_length};
-ghost use Rattle.edn_reader.specs.Forming.{BeginsForm};
-ghost use Rattle.edn_reader.specs.Pieces.{token_buffer_tokens};
 ghost use Rattle.edn_reader.specs.Sound.{IsSoundAt};
 ghost use Rattle.edn_reader.specs.Spells.{Spells};
-ghost use Rattle.edn_reader.specs.Token.{tokens_of};
 ghost use Rattle.edn_reader.specs.View.{views};
 
 use crate::elements::Elements;
 use crate::fault::{EdnFault, FaultKind};
 use crate::form::Form;
-use crate::forming::form_at;
-use crate::piece::Piece;
-use std::alloc::{AllocError, Global};
+use std::alloc::Global;
 
 /// The most bytes that a text may have.
 pub const MAX_LENGTH: usize = 268_435_456;
@@ -42,10 +36,10 @@ pub fn read_forms(alloc: Global, text: &[u8]) -> Result<Vec<Form>, EdnFault>
     let mut forms = Vec::new(alloc);
     'elements: loop {
         let place = elements.place();
-        if !elements.advance()? {
+        let Some(form) = elements.next_form()? else {
             return Ok(forms);
-        }
-        match put_form(alloc, elements.pieces(), &mut forms) {
+        };
+        match forms.push(form) {
             Ok(()) => {}
             Err(_) => {
                 return Err(EdnFault {
@@ -55,15 +49,4 @@ pub fn read_forms(alloc: Global, text: &[u8]) -> Result<Vec<Form>, EdnFault>
             }
         }
     }
-}
-
-/// Puts the form of an element's tokens after the others.
-fn put_form(alloc: Global, pieces: &[Piece], forms: &mut Vec<Form>) -> Result<(), AllocError>
-    requires { BeginsForm (token_buffer_tokens pieces.now) }
-    ensures { OnOk result ((d : Datum) → token_buffer_tokens pieces.now ≡ tokens_of d
-        → views forms.new.items ≡ views forms.old.items ++ d ∷ []) }
-{
-    let form = form_at(alloc, pieces)?;
-    forms.push(form)?;
-    Ok(())
 }

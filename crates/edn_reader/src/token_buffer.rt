@@ -7,41 +7,29 @@ ghost use Rattle.edn_reader.specs.Datum.{Datum};
 ghost use Rattle.edn_reader.specs.Reading as reading;
 ghost use Rattle.edn_reader.specs.Shapes.{after_piece, nothing_open};
 ghost use Rattle.edn_reader.specs.Spells.{Spells};
-ghost use Rattle.edn_reader.specs.Elements.{ReadsNext, HoldsToken};
+ghost use Rattle.edn_reader.specs.Elements.{ReadsNext, KeepsToken};
 ghost use Rattle.edn_reader.specs.Results.{Denies};
 ghost use Rattle.edn_reader.specs.TokenBuffers.{IsSoundAfter};
 
 use crate::fault::{Cause, Stop};
-use crate::integer_vector::IntegerVector;
 use crate::levels::Levels;
 use crate::lexer::skip;
 use crate::piece::Piece;
 use crate::truncated::TruncatedTokens;
 use std::alloc::Global;
 
-/// What is kept of each element: whether it is cut, and under which key its integer vector is kept,
-/// if one is.
-#[derive(Clone, Copy)]
-pub struct Keeping<'a> {
-    pub cuts: bool,
-    pub integer_vector_key: Option<&'a [u8]>,
-}
-
-/// The tokens of one element that are kept, its integer vector, what is open while they are read,
-/// and what follows the last of them; and, if reading fails, how much of the text was left
-/// there.
+/// The tokens of one element that are kept, what is open while they are read, and what follows the
+/// last of them; and, if reading fails, how much of the text was left there.
 #[derive(Drop)]
 pub struct TokenBuffer<'a> {
     truncated: TruncatedTokens<'a>,
-    integer_vector: IntegerVector<'a>,
     levels: Levels<'a>,
     remains: &'a [u8],
     left: usize,
 }
 
 impl<'a> TokenBuffer<'a> {
-    ghost use Rattle.edn_reader.specs.TokenBuffers.{tokens_on, integer_vector_on, held_on, open_on};
-    ghost use Rattle.edn_reader.specs.Kepts.{keeping_of};
+    ghost use Rattle.edn_reader.specs.TokenBuffers.{tokens_on, kept_on, open_on};
     ghost use Rattle.edn_reader.specs.Pieces.{piece_token, token_buffer_tokens};
 
     pub fn new(alloc: Global) -> TokenBuffer<'a>
@@ -49,7 +37,6 @@ impl<'a> TokenBuffer<'a> {
     {
         TokenBuffer {
             truncated: TruncatedTokens::new(alloc),
-            integer_vector: IntegerVector::new(alloc),
             levels: Levels::new(alloc),
             remains: b"",
             left: 0,
@@ -77,11 +64,10 @@ impl<'a> TokenBuffer<'a> {
             (after_piece (open_on self.old) (reading.first here.entry.now))) }
         ensures place { self.new.left ≡ length here.entry.now }
         ensures kept { OnOk result
-            (HoldsToken (held_on self.old) (reading.first here.entry.now) (held_on self.new)) }
+            (KeepsToken (kept_on self.old) (reading.first here.entry.now) (kept_on self.new)) }
     {
         self.levels.step(alloc, &piece)?;
         self.remains = rest;
-        self.integer_vector.note(&piece)?;
         self.truncated.keep(piece)?;
         Ok(())
     }
@@ -99,7 +85,7 @@ impl<'a> TokenBuffer<'a> {
         ensures place { IfErr result (λ cause. cause ≡ Cause.NoMemory →
             self.new.left ≡ length here.entry.now) }
         ensures kept { OnOk result
-            (HoldsToken (held_on self.old) (reading.first here.entry.now) (held_on self.new)) }
+            (KeepsToken (kept_on self.old) (reading.first here.entry.now) (kept_on self.new)) }
     {
         // A string is no key, whatever it holds.
         if self.levels.takes_key() && here[0] == b'"' {
@@ -128,7 +114,7 @@ impl<'a> TokenBuffer<'a> {
         ensures place { IfErr result (λ cause. cause ≡ Cause.NoMemory →
             self.new.left ≡ length here.entry.now) }
         ensures kept { OnOk result
-            (HoldsToken (held_on self.old) (reading.first here.entry.now) (held_on self.new)) }
+            (KeepsToken (kept_on self.old) (reading.first here.entry.now) (kept_on self.new)) }
     {
         self.left = here.len();
         match here {
@@ -153,15 +139,13 @@ impl<'a> TokenBuffer<'a> {
     fn try_read(
         &mut self,
         alloc: Global,
-        keeping: Keeping<'a>,
+        cuts: bool,
         text: &'a [u8],
     ) -> Result<Option<&'a [u8]>, Cause>
         requires utf8 { IsUtf8 text.now }
         requires fresh { open_on self.old ≡ nothing_open }
         ensures reads { IfOk result (λ rest.
-            ReadsNext (keeping_of keeping.entry) text.entry.now (tokens_on self.new)
-            (integer_vector_on self.new)
-            (option_map (λ r. r.now) rest)) }
+            ReadsNext cuts text.entry.now (tokens_on self.new) (option_map (λ r. r.now) rest)) }
         ensures shorter { IfOk result (λ rest. IfSome rest
             (λ r. length r.now < length text.entry.now)) }
         ensures none { IfErr result (λ cause. cause ≢ Cause.NoMemory → (ds : List Datum) →
@@ -170,8 +154,7 @@ impl<'a> TokenBuffer<'a> {
             IsSoundAfter self.new.left text.entry.now) }
         ensures fresh { OnOk result (open_on self.new ≡ nothing_open) }
     {
-        self.truncated.clear(keeping.cuts);
-        self.integer_vector.clear(keeping.integer_vector_key);
+        self.truncated.clear(cuts);
         let here = skip(text);
         if here.is_empty() {
             return Ok(None);
@@ -190,20 +173,17 @@ impl<'a> TokenBuffer<'a> {
 
     /// Reads the next element of a text, and returns what follows it, or none if there is no
     /// element more. Of its tokens all are kept, or the beginning of each value if it is to be
-    /// cut, and its integer vector if there is a key for it. After an error nothing is open, as
-    /// before.
+    /// cut. After an error nothing is open, as before.
     pub fn read(
         &mut self,
         alloc: Global,
-        keeping: Keeping<'a>,
+        cuts: bool,
         text: &'a [u8],
     ) -> Result<Option<&'a [u8]>, Stop>
         requires utf8 { IsUtf8 text.now }
         requires fresh { open_on self.old ≡ nothing_open }
         ensures reads { IfOk result (λ rest.
-            ReadsNext (keeping_of keeping.entry) text.entry.now (tokens_on self.new)
-            (integer_vector_on self.new)
-            (option_map (λ r. r.now) rest)) }
+            ReadsNext cuts text.entry.now (tokens_on self.new) (option_map (λ r. r.now) rest)) }
         ensures shorter { IfOk result (λ rest. IfSome rest
             (λ r. length r.now < length text.entry.now)) }
         ensures none { IfErr result (λ e. e.cause ≢ Cause.NoMemory → (ds : List Datum) →
@@ -212,7 +192,7 @@ impl<'a> TokenBuffer<'a> {
             IsSoundAfter e.left text.entry.now) }
         ensures fresh { open_on self.new ≡ nothing_open }
     {
-        match self.try_read(alloc, keeping, text) {
+        match self.try_read(alloc, cuts, text) {
             Ok(rest) => Ok(rest),
             Err(cause) => {
                 self.levels = Levels::new(alloc);
@@ -229,15 +209,5 @@ impl<'a> TokenBuffer<'a> {
         ensures { token_buffer_tokens result.now ≡ tokens_on self.now }
     {
         self.truncated.pieces()
-    }
-
-    /// The integer vector of the element that was read last, which is gone then.
-    pub fn take_integer_vector(&mut self, alloc: Global) -> Option<Vec<i64>>
-        ensures integer_vector { option_map (λ v. v.items) result ≡ integer_vector_on self.old }
-        ensures gone { integer_vector_on self.new ≡ None }
-        ensures tokens { tokens_on self.new ≡ tokens_on self.old }
-        ensures open { open_on self.new ≡ open_on self.old }
-    {
-        self.integer_vector.take(alloc)
     }
 }

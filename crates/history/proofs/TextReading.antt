@@ -4,7 +4,6 @@ use Rattle.std.proofs.Common.{take, refl, sym, subst, ◌∙◌, arith}
 use Rattle.std.specs.Option.{is_some}
 use Rattle.std.proofs.lemmas.List.{length-append, take_all, take-append-le}
 use Rattle.edn_reader.specs.Datum.{Datum}
-use Rattle.edn_reader.proofs.FormsInARow.{Along, front_more}
 use Rattle.edn_fields.proofs.FirstFaults.{first_more}
 use Rattle.events.specs.declared.event.Event.{Event}
 use Rattle.events.specs.Events.{IsProper}
@@ -13,11 +12,9 @@ use Rattle.history.specs.declared.fault.HistoryFault.{HistoryFault}
 use Rattle.history.specs.declared.fault.HistoryFaultKind.{HistoryFaultKind}
 use Rattle.history.specs.declared.fault.HistoryFaultKind.TheVariants.{NoMemory}
 use Rattle.history.specs.declared.text_reader.Reading.{Reading}
-use Rattle.history.specs.declared.client_map.OperationMap.{OperationMap}
 use Rattle.history.specs.Faults.{IsHistoryFormFault, HasNoHistoryFault}
 use Rattle.history.specs.Seen.{HasFirst, HasNoFault}
 use Rattle.history.specs.Texts.{IsHistoryFaultIn, AreEventsRead, IsHistoryReading}
-use Rattle.history.specs.UsualForms.{ReadsForm}
 use Rattle.history.proofs.Reading.{faultless_push}
 use Rattle.history.proofs.Proper.{proper_events}
 
@@ -88,15 +85,3 @@ found seen number ds d es k h first none = (
 -- the events of a reader that found no fault are proper
 pub proper_reading : (r : Reading) (ds : List Datum) → r.fault ≡ None → IsHistoryReading r ds → IsProper r.events.items
 proper_reading r ds e h = let a = are_read r ds e h in rw a.events (proper_events ds a.faultless)
-
--- one form more, which says this
-pub along_next : (P Q : List Datum → Type 0) (text mid rest : List ℕ) (before start : ℕ) (said : OperationMap)
-    (r : ReadsForm mid said rest)
-    → start + length rest ≡ before + length mid → ((ds : List Datum) → P ds → Q (ds ++ r.form ∷ []))
-    → Along P text mid before → Along Q text rest start
-along_next P Q text mid rest before start said r moves put a = record {
-  forms = a.forms ++ r.form ∷ [];
-  front = front_more text mid rest a.forms (r.form ∷ []) a.front r.front;
-  holds = put a.forms a.holds;
-  place = moves ∙ a.place;
-}

@@ -1,12 +1,11 @@
 //! The maps of a text, one by one.
 
-ghost use Rattle.std.specs.Prelude.{◌≡◌, ◌≢◌, ◌+◌, ◌<◌, List, length, IfOk, IfErr, IsSome};
+ghost use Rattle.std.specs.Prelude.{◌≡◌, ◌≢◌, ◌+◌, ◌<◌, true, List, length, IfOk, IfErr, IsSome};
 ghost use Rattle.std.specs.Str.{IsUtf8};
 ghost use Rattle.edn_reader.specs.Datum.{Datum};
-ghost use Rattle.edn_reader.specs.Left.{keeping_in};
+ghost use Rattle.edn_reader.specs.Left.{cuts_in};
 ghost use Rattle.edn_reader.specs.Sound.{IsShort, IsUnreadable, IsSoundFrom};
 ghost use Rattle.edn_reader.specs.Spells.{Spells};
-ghost use Rattle.edn_reader.specs.Truncation.{truncated_kept};
 
 use crate::attempts::Attempts;
 use crate::client_map::{OperationMap, said_on};
@@ -21,7 +20,7 @@ use std::alloc::Global;
 pub(crate) struct MapReader<'a> {
     elements: Elements<'a>,
     attempts: Attempts,
-    ghost truncates: { keeping_in elements ≡ truncated_kept },
+    ghost truncates: { cuts_in elements ≡ true },
 }
 
 impl<'a> MapReader<'a> {

@@ -55,3 +55,50 @@ fn certificates_are_refused_for_their_first_fault(rt: HostRuntime) -> Result<(),
     assert!(rt; answer == Err(CertFault { kind, form }));
     Ok(())
 }
+
+/// A form in an unusual form, and its order if it is a certificate.
+const ORDERS: [(&str, Option<&[i64]>); 19] = [
+    (
+        "{:object 3 :order [1 -2 9223372036854775807]}",
+        Some(&[1, -2, 9_223_372_036_854_775_807]),
+    ),
+    ("{:object 3 :order []}", Some(&[])),
+    ("{:object 3 :order [1 2 3 4 5]}", Some(&[1, 2, 3, 4, 5])),
+    ("{:object 3 :order [0 0 0 0 0 0] :a 1}", Some(&[0, 0, 0, 0, 0, 0])),
+    (
+        "{:object 3 :a [[] {:order [1]}] :b {:order [[2]]} :c :order :order [5 , ; 6\n7]}",
+        Some(&[5, 7]),
+    ),
+    (
+        "{:object 3 :a {} :order [-9223372036854775808]}",
+        Some(&[-9_223_372_036_854_775_808]),
+    ),
+    ("{:object 3 :a [:order [1]]}", None),
+    ("{:object 3 :a {:order [1]}}", None),
+    ("{:object 3 :a :order :b [1]}", None),
+    ("{:object 3 :orders [1]}", None),
+    ("{:object 3 :orde [1]}", None),
+    ("{:object 3 :order 1}", None),
+    ("{:object 3 :order {:order [1]}}", None),
+    ("{:object 3 :order [1 [2]]}", None),
+    ("{:object 3 :order [1 {}]}", None),
+    ("{:object 3 :order [1 nil]}", None),
+    ("{:object 3 :order [1 :order]}", None),
+    ("[1 2]", None),
+    (":order", None),
+];
+
+#[test]
+fn a_certificate_is_read_however_it_is_written(rt: HostRuntime) -> Result<(), Fail> {
+    for (text, want) in ORDERS.iter() {
+        let is_so = match (read(rt.alloc(), text.as_bytes())?, *want) {
+            (Ok(certificates), Some(order)) => {
+                certificates.len() == 1 && certificates[0].order.as_slice() == order
+            }
+            (Err(fault), None) => fault.kind == CertFaultKind::NotACertificate && fault.form == 0,
+            _ => false,
+        };
+        assert!(rt; is_so, "at {text:?}");
+    }
+    Ok(())
+}

@@ -1,60 +1,55 @@
--- `read_certificates`: the certificates are those that the forms denote, or the fault is that of the first faulty
--- form. All forms before the one at hand were read, so its fault is the first.
-use Rattle.std.proofs.Common.{◌≡◌, ◌<◌, List, length, take, get_or, ap, subst, ◌∙◌, arith}
-use Rattle.std.specs.Ordering.{nat_cmp}
-use Rattle.std.specs.BTreeSet.{contains}
-use Rattle.edn_reader.specs.View.{view, views}
+-- `read_certificates`: the reading is always that of the forms so far, and at the end that of all.
+use Rattle.std.proofs.Common.{◌≡◌, ◌<◌, ◌≤◌, List, length, take, get_or, ap, subst, ◌∙◌, arith}
+use Rattle.std.proofs.lemmas.List.{take_all}
+use Rattle.std.proofs.lemmas.Result.{IfOk-weaker, IfErr-weaker}
+use Rattle.edn_reader.specs.View.{views}
 use Rattle.edn_reader.specs.declared.form.Form.{Form}
-use Rattle.certificate.specs.Denotes.{reading_of}
-use Rattle.certificate.specs.Inside.{IsFaultAmong}
-use Rattle.certificate.proofs.Reading.{first_fault, sound_at, not_denoted, one_more_read, taken_one_more}
+use Rattle.certificate.specs.Denotes.{Denotes, AreDistinct}
+use Rattle.certificate.specs.Texts.{IsCertFaultIn, IsCertificateReading}
+use Rattle.certificate.proofs.Reading.{not_denoted, taken_one_more}
 use Rattle.certificate.proofs.reader.read_certificates.Goals as goal
 
-pub returns-in-Err-clause-fault : goal.returns-in-Err-clause-fault
-returns-in-Err-clause-fault c =
-    let fs = c.args.forms.items in
-    let f = c.form-item.result in
-    let lt : c.loop-place.place < length fs = omega (arith, ap length c.deref-form-items.ensures.value) in
-    let is : f ≡ get_or fs c.loop-place.place f =
-    c.form-item.is ∙ ap (λ (xs : List Form). get_or xs c.loop-place.place f) c.deref-form-items.ensures.value in
-    first_fault fs c.loop-place.place f c.loop-place.certificates.items
-    (contains nat_cmp c.loop-place.objects) c.in-Err.kind lt is c.loop-place.invariant c.in-Err.ensures.fault
+pub loop-form-init : goal.loop-form-init
+loop-form-init c = c.new-reading.ensures
 
-pub returns-in-Err-clause-refused : goal.returns-in-Err-clause-refused
-returns-in-Err-clause-refused c =
-    λ other. not_denoted (views c.args.forms.items) _ (returns-in-Err-clause-fault c other)
-
-pub returns-in-Err-clause-memory : goal.returns-in-Err-clause-memory
-returns-in-Err-clause-memory c = λ want.
+pub loop-form-preserved : goal.loop-form-preserved
+loop-form-preserved c =
     let fs = c.args.forms.items in
+    let i = c.loop-form.form-index in
     let f = c.form-item.result in
-    let lt : c.loop-place.place < length fs = omega (arith, ap length c.deref-form-items.ensures.value) in
-    let is : f ≡ get_or fs c.loop-place.place f =
-    c.form-item.is ∙ ap (λ (xs : List Form). get_or xs c.loop-place.place f) c.deref-form-items.ensures.value in
-    let r = subst (IsFaultAmong (contains nat_cmp c.loop-place.objects) (view f)) want c.in-Err.ensures.fault in
-    sound_at fs c.loop-place.place f c.loop-place.certificates.items
-    (contains nat_cmp c.loop-place.objects) r.0 lt is c.loop-place.invariant r.1 r.2
+    let lt : i < length fs = omega (arith, c.loop-form-test.true, ap length c.deref-form-items.ensures.value) in
+    let is : f ≡ get_or fs i f =
+    c.form-item.is ∙ ap (λ (xs : List Form). get_or xs i f) c.deref-form-items.ensures.value in
+    rw (taken_one_more fs i f lt is) (c.take.ensures (views (take i fs)) c.loop-form.invariant)
 
-pub returns-in-Err-push-clause-memory : goal.returns-in-Err-push-clause-memory
-returns-in-Err-push-clause-memory c = λ _.
+all_read : (c : goal.After-drop-forms) → IsCertificateReading c.loop-form.reading (views c.args.forms.items)
+all_read c =
     let fs = c.args.forms.items in
-    let f = c.form-item.result in
-    let lt : c.loop-place.place < length fs = omega (arith, ap length c.deref-form-items.ensures.value) in
-    let is : f ≡ get_or fs c.loop-place.place f =
-    c.form-item.is ∙ ap (λ (xs : List Form). get_or xs c.loop-place.place f) c.deref-form-items.ensures.value in
-    sound_at fs c.loop-place.place f c.loop-place.certificates.items (contains nat_cmp c.loop-place.objects)
-    (reading_of c.in-Ok.certificate) lt
-    is c.loop-place.invariant c.in-Ok.ensures.own c.in-Ok.ensures.new
+    let i = c.loop-form.form-index in
+    let le : length fs ≤ i = omega (arith, c.loop-form-test.false, ap length c.deref-form-items.ensures.value) in
+    subst (λ (xs : List Form). IsCertificateReading c.loop-form.reading (views xs)) (take_all i fs le)
+    c.loop-form.invariant
 
-pub loop-place-preserved : goal.loop-place-preserved
-loop-place-preserved c =
-    let fs = c.args.forms.items in
-    let f = c.form-item.result in
-    let lt : c.loop-place.place < length fs = omega (arith, ap length c.deref-form-items.ensures.value) in
-    let is : f ≡ get_or fs c.loop-place.place f =
-    c.form-item.is ∙ ap (λ (xs : List Form). get_or xs c.loop-place.place f) c.deref-form-items.ensures.value in
-    rw (taken_one_more fs c.loop-place.place f lt is, c.in-Ok-push.ensures.items)
-    (one_more_read (views (take c.loop-place.place fs)) c.loop-place.certificates.items
-    (contains nat_cmp c.loop-place.objects)
-    (contains nat_cmp c.next_certificate.new.objects) (view f) c.in-Ok.certificate c.loop-place.invariant
-    c.in-Ok.ensures.own c.in-Ok.ensures.new c.in-Ok.ensures.among)
+pub returns-clause-denotes : goal.returns-clause-denotes
+returns-clause-denotes c = c.finish.ensures.denotes (views c.args.forms.items) (all_read c)
+
+pub returns-clause-distinct : goal.returns-clause-distinct
+returns-clause-distinct c =
+    IfOk-weaker c.finish.result (λ v. Denotes (views c.args.forms.items) v.items) (λ v. AreDistinct v.items)
+    (λ v h. h.distinct) (returns-clause-denotes c)
+
+pub returns-clause-fault : goal.returns-clause-fault
+returns-clause-fault c =
+    let ds = views c.args.forms.items in
+    IfErr-weaker c.finish.result (IsCertFaultIn ds) _ (λ e h. h.0) (c.finish.ensures.fault ds (all_read c))
+
+pub returns-clause-memory : goal.returns-clause-memory
+returns-clause-memory c =
+    let ds = views c.args.forms.items in
+    IfErr-weaker c.finish.result (IsCertFaultIn ds) _ (λ e h. h.1) (c.finish.ensures.fault ds (all_read c))
+
+pub returns-clause-refused : goal.returns-clause-refused
+returns-clause-refused c =
+    let ds = views c.args.forms.items in
+    IfErr-weaker c.finish.result (IsCertFaultIn ds) _ (λ e h n. not_denoted ds e (h.0 n))
+    (c.finish.ensures.fault ds (all_read c))

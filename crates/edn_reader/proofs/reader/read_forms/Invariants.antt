@@ -1,8 +1,7 @@
-use Rattle.std.proofs.Common.{◌≡◌, List, length}
+use Rattle.std.proofs.Common.{◌≡◌, false, List, length}
 use Rattle.std.specs.Str.{IsUtf8}
-use Rattle.edn_reader.specs.Truncation.{all_kept}
 use Rattle.edn_reader.specs.Datum.{Datum}
-use Rattle.edn_reader.specs.Left.{text_left, start_of, keeping_in}
+use Rattle.edn_reader.specs.Left.{text_left, start_of, cuts_in}
 use Rattle.edn_reader.specs.Sound.{IsShort}
 use Rattle.edn_reader.specs.View.{views}
 use Rattle.edn_reader.proofs.FormsInARow.{Along}
@@ -14,8 +13,7 @@ invariant-elements l =
       along : Along (λ (ds : List Datum). ds ≡ views l.forms.items) l.text (text_left l.elements) (start_of l.elements);
       short : IsShort l.text;
       utf8 : IsUtf8 l.text;
-      here : IsUtf8 (text_left l.elements);
-      keeps : keeping_in l.elements ≡ all_kept;
+      cuts : cuts_in l.elements ≡ false;
     }
 
 abbrev pub decreases-elements : goal.decreases-elements

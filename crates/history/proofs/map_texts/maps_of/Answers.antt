@@ -3,7 +3,7 @@
 use Rattle.std.proofs.Common.{Option, List, [], ◌∷◌, ◌++◌, length, sym, ap, subst, ◌∙◌, inr, inl, arith}
 use Rattle.std.specs.Str.{IsUtf8}
 use Rattle.edn_reader.specs.Elements.{SpellsNothing}
-use Rattle.edn_reader.proofs.FormsInARow.{along_spells, front_more, sound_after, unreadable_after}
+use Rattle.edn_reader.proofs.FormsInARow.{along_more, along_spells, front_more, sound_after, unreadable_after}
 use Rattle.history.specs.declared.client_map.OperationMap.{OperationMap}
 use Rattle.history.specs.declared.map_texts.MapText.{MapText}
 use Rattle.history.specs.MapReading.{left_in, start_of_map, ReadsNext}
@@ -11,7 +11,6 @@ use Rattle.history.specs.MapTexts.{AreMapTexts}
 use Rattle.history.specs.UsualForms.{ReadsForm}
 use Rattle.history.proofs.OwnTexts.{form_alone, texts_push}
 use Rattle.history.proofs.Pushing.{pushed_unless}
-use Rattle.history.proofs.TextReading.{along_next}
 use Rattle.history.proofs.map_texts.maps_of.Goals as goal
 
 pub forms-preserved : goal.forms-preserved
@@ -26,9 +25,9 @@ forms-preserved c =
     let pushed = pushed_unless c.push.result c.push.new.self.items _ c.forms.texts.items
     (sym c.is_err.ensures.value ∙ c.if-is_err.false) c.push.ensures.items in
     record {
-      along = along_next (AreMapTexts c.forms.texts.items)
+      along = along_more (AreMapTexts c.forms.texts.items)
           (AreMapTexts c.push.new.self.items) c.args.piece.now text rest
-          (start_of_map c.forms.maps) (start_of_map c.advance.new.self) c.in-Ok-Some.said read
+          (start_of_map c.forms.maps) (start_of_map c.advance.new.self) read.form read.front
           c.in-Ok-Some.ensures.moves
           (λ ds h. subst (λ (ms : List MapText). AreMapTexts ms (ds ++ read.form ∷ [])) (sym pushed)
           (texts_push c.forms.texts.items ds _ read.form h (record { says = read.says; spelled = spelled })))

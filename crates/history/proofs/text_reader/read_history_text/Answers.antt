@@ -2,12 +2,11 @@
 -- is the forms read so far and then what is left (`Along`), and what is left gets shorter.
 use Rattle.std.proofs.Common.{Option, subst}
 use Rattle.edn_reader.specs.Elements.{SpellsNothing}
-use Rattle.edn_reader.proofs.FormsInARow.{along_spells, sound_after, unreadable_after}
+use Rattle.edn_reader.proofs.FormsInARow.{along_more, along_spells, sound_after, unreadable_after}
 use Rattle.history.specs.declared.client_map.OperationMap.{OperationMap}
 use Rattle.history.specs.MapReading.{left_in, start_of_map, ReadsNext}
 use Rattle.history.specs.Texts.{IsHistoryReading}
 use Rattle.history.specs.UsualForms.{ReadsForm}
-use Rattle.history.proofs.TextReading.{along_next}
 use Rattle.history.proofs.text_reader.read_history_text.Goals as goal
 
 pub forms-preserved : goal.forms-preserved
@@ -16,9 +15,9 @@ forms-preserved c =
     subst (λ (o : Option OperationMap). ReadsNext (left_in c.forms.maps) o
     (left_in c.advance.new.self)) c.in-Ok-Some.field-0-is c.in-Ok-Some.ensures.reads in
     record {
-      along = along_next (IsHistoryReading c.forms.reading) (IsHistoryReading c.take.new.self) c.args.text.now
+      along = along_more (IsHistoryReading c.forms.reading) (IsHistoryReading c.take.new.self) c.args.text.now
           (left_in c.forms.maps) (left_in c.advance.new.self)
-          (start_of_map c.forms.maps) (start_of_map c.advance.new.self) c.in-Ok-Some.said read
+          (start_of_map c.forms.maps) (start_of_map c.advance.new.self) read.form read.front
           c.in-Ok-Some.ensures.moves
           (λ ds h. c.take.ensures ds read.form read.says h) c.forms.invariant.along;
       short = c.forms.invariant.short;

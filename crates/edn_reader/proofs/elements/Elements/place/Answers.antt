@@ -13,7 +13,7 @@ overflow_sub-result c =
       c.args.self.now.within,
     )
 
-pub returns : goal.returns
-returns c =
+pub returns-clause-place : goal.returns-clause-place
+returns-clause-place c =
     let s = c.skip.ensures ∙ ap skip c.as_bytes.ensures.value in
     omega (arith, skip_within c.args.self.now.rest.now, ap length s, c.args.self.now.within)

@@ -1,10 +1,6 @@
 -- Each exit is a law of `Turns`, at the token that comes next.
 use Rattle.std.proofs.Common.{◌<◌, length, ap, arith}
 use Rattle.std.proofs.lemmas.Result.{err_from_is_err_and}
-use Rattle.edn_reader.specs.Kepts.{kept_in, noted_in, keeping_of}
-use Rattle.edn_reader.specs.Truncation.{nothing_kept}
-use Rattle.edn_reader.specs.IntegerVectors.{nothing_noted}
-use Rattle.edn_reader.proofs.Noting.{held_both}
 use Rattle.edn_reader.proofs.BufferTurns.{first_turn, none_first, sound_first, nothing_more, whole, whole_open}
 use Rattle.edn_reader.proofs.BufferTurns.{next_turn}
 use Rattle.edn_reader.proofs.BufferTurns.{none_next, sound_next, none_at_end, after_piece_shorter}
@@ -23,10 +19,7 @@ returns-in_err-take-clause-none c =
 
 pub tokens-init : goal.tokens-init
 tokens-init c = (
-  first_turn c.requires.utf8 c.skip-here.ensures c.requires.fresh
-      (held_both (kept_in c.clear.new.self) (nothing_kept c.args.keeping.cuts) (noted_in c.clear-2.new.self)
-      (nothing_noted (keeping_of c.args.keeping).integer_vector_key) c.clear.ensures c.clear-2.ensures)
-      c.in_ok-take.ensures.taken c.in_ok-take.ensures.kept,
+  first_turn c.requires.utf8 c.skip-here.ensures c.requires.fresh c.clear.ensures c.in_ok-take.ensures.taken c.in_ok-take.ensures.kept,
   (let a = skip_within c.args.text.now in
       let b = after_piece_shorter c.skip-here.result.now _ _ _ c.in_ok-take.ensures.taken in
       omega (arith, a, b, ap length c.skip-here.ensures)),

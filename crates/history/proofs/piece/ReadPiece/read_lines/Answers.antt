@@ -3,13 +3,12 @@
 use Rattle.std.proofs.Common.{Option, [], ◌∷◌, ◌++◌, sym, subst, append_assoc}
 use Rattle.std.proofs.lemmas.List.{append-nil}
 use Rattle.edn_reader.specs.Elements.{SpellsNothing}
-use Rattle.edn_reader.proofs.FormsInARow.{along_moved, along_spells}
+use Rattle.edn_reader.proofs.FormsInARow.{along_more, along_moved, along_spells}
 use Rattle.history.specs.declared.client_map.OperationMap.{OperationMap}
 use Rattle.history.specs.MapReading.{left_in, start_of_map, ReadsNext}
 use Rattle.history.specs.ReadPieces.{IsOfForms}
 use Rattle.history.specs.UsualForms.{ReadsForm}
 use Rattle.history.proofs.PieceMore.{along_start}
-use Rattle.history.proofs.TextReading.{along_next}
 use Rattle.history.proofs.piece.ReadPiece.read_lines.Goals as goal
 
 pub forms-init : goal.forms-init
@@ -25,9 +24,9 @@ forms-preserved c = λ ds h.
     let read : ReadsForm (left_in c.forms.maps) c.in-Ok-Some.said (left_in c.advance.new.self) =
     subst (λ (o : Option OperationMap). ReadsNext (left_in c.forms.maps) o (left_in c.advance.new.self))
     c.in-Ok-Some.field-0-is c.in-Ok-Some.ensures.reads in
-    along_next (λ es. IsOfForms c.forms.self (ds ++ es)) (λ es. IsOfForms c.take.new.self (ds ++ es)) c.args.lines.now
+    along_more (λ es. IsOfForms c.forms.self (ds ++ es)) (λ es. IsOfForms c.take.new.self (ds ++ es)) c.args.lines.now
     (left_in c.forms.maps) (left_in c.advance.new.self) (start_of_map c.forms.maps) (start_of_map c.advance.new.self)
-    c.in-Ok-Some.said read c.in-Ok-Some.ensures.moves
+    read.form read.front c.in-Ok-Some.ensures.moves
     (λ es p. subst (IsOfForms c.take.new.self) (append_assoc ds es (read.form ∷ []))
     (c.in_ok-take-in-Ok-Some.ensures (ds ++ es) read.form read.says p)) (c.forms.invariant ds h)
 
