@@ -69,7 +69,7 @@ pub fn write_certificates<S: Sink>(
     requires working { S.broken sink.old ≡ false }
     ensures sent { Writes result (S.sent sink.old) (S.sent sink.new) (S.broken sink.new)
         (text.certificate_lines certificates.now) }
-    // What went out reads back as these certificates.
+    // What was sent reads back as these certificates.
     ensures spelled { OnOk result (AreDistinct certificates.now
         → AreCertificatesInRange certificates.now →
         SpellsCertificates certificates.now (text.certificate_lines certificates.now)) }

@@ -42,6 +42,6 @@ pub(crate) fn says<R: AllocGlobal + Abort, S: SeqObject>(
 ) {
     match text_of(rt.alloc(), record) {
         Ok(text) => assert!(rt; text.as_slice() == lines.as_bytes(), "{name}"),
-        Err(_) => panic!(rt; "memory was refused"),
+        Err(_) => panic!(rt; "an allocation failed"),
     }
 }

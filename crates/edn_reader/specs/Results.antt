@@ -8,6 +8,6 @@ use Rattle.edn_reader.specs.declared.fault.Cause.TheVariants.{NoMemory}
 abbrev pub Denies : {B : Type 0} → Cause → Option B → Type 0
 Denies e expected = ((e ≡ NoMemory → ⊥) → expected ≡ None) × (e ≡ NoMemory → IsSome expected)
 
--- the value became what is expected, unless memory ran out
+-- the value became what is expected, unless an allocation failed
 abbrev pub Becomes : {B : Type 0} → Result (Unit {0}) Cause → Option B → B → Type 0
 Becomes r expected new = MatchResult r (λ _. expected ≡ Some new) (λ e. Denies e expected)

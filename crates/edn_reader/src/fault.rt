@@ -4,7 +4,7 @@ ghost use Rattle.std.specs.Prelude.{◌≡◌, ◌≢◌, ◌↔◌, ◌++◌, �
 use std::alloc::{AllocError, AllocFailed};
 use std::fmt;
 
-/// What is wrong with a text, or that memory ran out, and where. A kind prints as its
+/// What is wrong with a text, or that an allocation failed, and where. A kind prints as its
 /// number, `E1` to `E11`. Which of several faults is named, and its place, is tested and not
 /// proved.
 #[derive(Clone, Copy, Debug, PartialEq, Eq)]
@@ -35,7 +35,7 @@ pub enum FaultKind {
     NotInProfile,
     /// E10: the text is longer than 268,435,456 bytes. At 0.
     TooLong,
-    /// E11: a growth was refused. At the first byte of the token that was being read, or of the
+    /// E11: an allocation failed. At the first byte of the token that was being read, or of the
     /// element whose form was being made.
     NoMemory,
 }

@@ -123,8 +123,8 @@ fn a_sink_that_fails_has_a_beginning_of_the_reasons(rt: HostRuntime) -> Result<(
     Ok(())
 }
 
-/// Passes for each allocation that is refused: the reader says that memory ran out, or reads the
-/// text.
+/// Passes for each allocation that is refused: the reader says that an allocation failed, or
+/// reads the text.
 #[test]
 fn where_memory_is_refused_reasons_are_read_or_the_fault_says_so(
     rt: HostRuntime,

@@ -1,4 +1,4 @@
--- `read_forms`: the text spells the forms, and memory runs out only where nothing is wrong yet. The loop keeps that
+-- `read_forms`: the text spells the forms, and an allocation fails only where nothing is wrong yet. The loop keeps that
 -- the text is the forms so far and then what is left (`Along`), and what is left gets shorter.
 use Rattle.std.proofs.Common.{◌≡◌, ◌∷◌, ◌++◌, [], List, Option, option_map, ap, sym, subst, ◌∙◌}
 use Rattle.std.proofs.lemmas.Result.{err_from_is_err_and}
