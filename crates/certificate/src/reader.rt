@@ -1,8 +1,8 @@
 //! From forms to certificates.
 
-ghost use Rattle.std.specs.Prelude.{◌≡◌, ◌≢◌, ◌==◌, if◌then◌else◌, ◌++◌, ◌∷◌, [], ℕ, List, Some, None};
-ghost use Rattle.std.specs.Prelude.{true, is_some, IfOk, IfErr, IfSome, IfNone, OnOk};
-ghost use Rattle.std.specs.Prelude.{All, option_map};
+ghost use Rattle.std.specs.Prelude.{◌≡◌, ◌≢◌, ◌==◌, if◌then◌else◌, ◌++◌, ◌∷◌, [], ℕ, List, All};
+ghost use Rattle.std.specs.Prelude.{true, is_some, Some, None, option_map, IfOk, IfErr, IfSome};
+ghost use Rattle.std.specs.Prelude.{IfNone, OnOk};
 ghost use Rattle.edn_reader.specs.Truncation.{integers_in};
 ghost use Rattle.edn_reader.specs.Datum.{Datum, DatumFits, max_open, items_of};
 ghost use Rattle.edn_reader.specs.View.{view, views};

@@ -2,7 +2,8 @@
 
 ghost use Rattle.std.specs.Prelude.{◌≡◌, ◌++◌, ◌∷◌, [], ℕ, List, IfSome, IfNone, MatchOption};
 ghost use Rattle.edn_reader.specs.Datum.{Datum, Entries, keyword, atom, dictionary, entries_of};
-ghost use Rattle.edn_reader.specs.Token.{Token, tokens_of, entries_tokens, leaf, open_map, close_map};
+ghost use Rattle.edn_reader.specs.Token.{Token, tokens_of, entries_tokens, leaf, open_map};
+ghost use Rattle.edn_reader.specs.Token.{close_map};
 ghost use Rattle.edn_reader.specs.Pieces.{token_buffer_tokens};
 ghost use Rattle.edn_fields.specs.Fields.{value_at};
 ghost use Rattle.edn_fields.specs.Values.{IsValue};

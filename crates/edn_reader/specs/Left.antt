@@ -12,9 +12,9 @@ text_left e = e.rest.now
 abbrev pub start_of : Elements → ℕ
 start_of e = e.whole - length e.rest.now
 
--- whether each element is cut
-abbrev pub cuts_in : Elements → Bool
-cuts_in e = e.cuts
+-- whether only the beginning of each value is kept of an element
+abbrev pub is_truncating : Elements → Bool
+is_truncating e = e.cuts
 
 -- the tokens that were kept of the element that was read last
 abbrev pub tokens_in : Elements → List Token

@@ -33,7 +33,7 @@ pub struct Elements<'a> {
 
 impl<'a> Elements<'a> {
     ghost use Rattle.std.specs.Prelude.{true, false, option_map, IsSome};
-    ghost use Rattle.edn_reader.specs.Left.{text_left, start_of, cuts_in, tokens_in};
+    ghost use Rattle.edn_reader.specs.Left.{text_left, start_of, is_truncating, tokens_in};
     ghost use Rattle.edn_reader.specs.Pieces.{token_buffer_tokens};
     ghost use Rattle.edn_reader.specs.Reading.{skip};
     ghost use Rattle.edn_reader.specs.View.{view};
@@ -42,7 +42,7 @@ impl<'a> Elements<'a> {
     /// memory is taken.
     fn over(alloc: Global, cuts: bool, text: &'a [u8]) -> Result<Elements<'a>, EdnFault>
         ensures text { IfOk result (λ r. (text_left r ≡ text.entry.now) × (start_of r ≡ 0)) }
-        ensures cuts { IfOk result (λ r. cuts_in r ≡ cuts) }
+        ensures cuts { IfOk result (λ r. is_truncating r ≡ cuts) }
         ensures short { IfOk result (λ r. IsShort text.entry.now × IsUtf8 text.entry.now) }
         ensures unreadable { IfErr result (IsUnreadable text.entry.now) }
     {
@@ -71,7 +71,7 @@ impl<'a> Elements<'a> {
     /// whether it is UTF-8 as a whole. No memory is taken.
     pub fn new(alloc: Global, text: &'a [u8]) -> Result<Elements<'a>, EdnFault>
         ensures text { IfOk result (λ r. (text_left r ≡ text.entry.now) × (start_of r ≡ 0)) }
-        ensures cuts { IfOk result (λ r. cuts_in r ≡ false) }
+        ensures cuts { IfOk result (λ r. is_truncating r ≡ false) }
         ensures short { IfOk result (λ r. IsShort text.entry.now × IsUtf8 text.entry.now) }
         ensures unreadable { IfErr result (IsUnreadable text.entry.now) }
     {
@@ -83,7 +83,7 @@ impl<'a> Elements<'a> {
     /// map is kept as a value is. What is not kept takes no memory, and is read as all else is.
     pub fn truncated(alloc: Global, text: &'a [u8]) -> Result<Elements<'a>, EdnFault>
         ensures text { IfOk result (λ r. (text_left r ≡ text.entry.now) × (start_of r ≡ 0)) }
-        ensures cuts { IfOk result (λ r. cuts_in r ≡ true) }
+        ensures cuts { IfOk result (λ r. is_truncating r ≡ true) }
         ensures short { IfOk result (λ r. IsShort text.entry.now × IsUtf8 text.entry.now) }
         ensures unreadable { IfErr result (IsUnreadable text.entry.now) }
     {
@@ -105,7 +105,7 @@ impl<'a> Elements<'a> {
     pub fn pass(&mut self, after: &'a [u8])
         requires { PassesElement (text_left self.old) after.now }
         ensures left { text_left self.new ≡ after.entry.now }
-        ensures cuts { cuts_in self.new ≡ cuts_in self.old }
+        ensures cuts { is_truncating self.new ≡ is_truncating self.old }
         ensures tokens { tokens_in self.new ≡ tokens_in self.old }
         ensures moves { start_of self.new + length (text_left self.new)
             ≡ start_of self.old + length (text_left self.old) }
@@ -129,9 +129,9 @@ impl<'a> Elements<'a> {
     /// was, and the next call returns the same, except for an allocation failure.
     pub fn advance(&mut self) -> Result<bool, EdnFault>
         ensures reads { IfOk result (λ more.
-            ReadsNext (cuts_in self.old) (text_left self.old) (tokens_in self.new)
+            ReadsNext (is_truncating self.old) (text_left self.old) (tokens_in self.new)
             (if more then Some (text_left self.new) else None)) }
-        ensures cuts { cuts_in self.new ≡ cuts_in self.old }
+        ensures cuts { is_truncating self.new ≡ is_truncating self.old }
         ensures moves { start_of self.new + length (text_left self.new)
             ≡ start_of self.old + length (text_left self.old) }
         ensures shorter { IfOk result (λ more. more ≡ true →
@@ -169,10 +169,10 @@ impl<'a> Elements<'a> {
     /// form is made once the element is whole. After an allocation failure what is left may begin
     /// after the element.
     pub fn next_form(&mut self) -> Result<Option<Form>, EdnFault>
-        requires { cuts_in self.old ≡ false }
+        requires { is_truncating self.old ≡ false }
         ensures gives { IfOk result (λ form.
             GivesForm (text_left self.old) (option_map view form) (text_left self.new)) }
-        ensures cuts { cuts_in self.new ≡ cuts_in self.old }
+        ensures cuts { is_truncating self.new ≡ is_truncating self.old }
         ensures moves { start_of self.new + length (text_left self.new)
             ≡ start_of self.old + length (text_left self.old) }
         ensures shorter { IfOk result (λ form. IsSome form →

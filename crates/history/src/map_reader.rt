@@ -3,7 +3,7 @@
 ghost use Rattle.std.specs.Prelude.{◌≡◌, ◌≢◌, ◌+◌, ◌<◌, true, List, length, IfOk, IfErr, IsSome};
 ghost use Rattle.std.specs.Str.{IsUtf8};
 ghost use Rattle.edn_reader.specs.Datum.{Datum};
-ghost use Rattle.edn_reader.specs.Left.{cuts_in};
+ghost use Rattle.edn_reader.specs.Left.{is_truncating};
 ghost use Rattle.edn_reader.specs.Sound.{IsShort, IsUnreadable, IsSoundFrom};
 ghost use Rattle.edn_reader.specs.Spells.{Spells};
 
@@ -20,7 +20,7 @@ use std::alloc::Global;
 pub(crate) struct MapReader<'a> {
     elements: Elements<'a>,
     attempts: Attempts,
-    ghost truncates: { cuts_in elements ≡ true },
+    ghost truncates: { is_truncating elements ≡ true },
 }
 
 impl<'a> MapReader<'a> {

@@ -64,7 +64,10 @@ const ORDERS: [(&str, Option<&[i64]>); 19] = [
     ),
     ("{:object 3 :order []}", Some(&[])),
     ("{:object 3 :order [1 2 3 4 5]}", Some(&[1, 2, 3, 4, 5])),
-    ("{:object 3 :order [0 0 0 0 0 0] :a 1}", Some(&[0, 0, 0, 0, 0, 0])),
+    (
+        "{:object 3 :order [0 0 0 0 0 0] :a 1}",
+        Some(&[0, 0, 0, 0, 0, 0]),
+    ),
     (
         "{:object 3 :a [[] {:order [1]}] :b {:order [[2]]} :c :order :order [5 , ; 6\n7]}",
         Some(&[5, 7]),

@@ -1,6 +1,6 @@
 use Rattle.std.proofs.Common.{◌≡◌, false, length}
 use Rattle.std.specs.Str.{IsUtf8}
-use Rattle.edn_reader.specs.Left.{text_left, start_of, cuts_in}
+use Rattle.edn_reader.specs.Left.{text_left, start_of, is_truncating}
 use Rattle.edn_reader.specs.Sound.{IsShort}
 use Rattle.edn_reader.proofs.FormsInARow.{Along}
 use Rattle.certificate.specs.Texts.{IsCertificateReading}
@@ -11,7 +11,7 @@ invariant-elements l = record {
   along : Along (IsCertificateReading l.reading) l.text (text_left l.elements) (start_of l.elements);
   short : IsShort l.text;
   utf8 : IsUtf8 l.text;
-  cuts : cuts_in l.elements ≡ false;
+  cuts : is_truncating l.elements ≡ false;
 }
 
 abbrev pub decreases-elements : goal.decreases-elements

@@ -3,7 +3,7 @@ use Rattle.std.proofs.Common.{Bool, [], ◌∷◌, sym, ap, subst, ◌∙◌}
 use Rattle.std.proofs.lemmas.List.{append-nil}
 use Rattle.edn_reader.specs.Datum.{Datum}
 use Rattle.edn_reader.specs.Elements.{SpellsFront}
-use Rattle.edn_reader.specs.Left.{text_left, start_of, cuts_in, tokens_in}
+use Rattle.edn_reader.specs.Left.{text_left, start_of, is_truncating, tokens_in}
 use Rattle.edn_reader.specs.Token.{tokens_of}
 use Rattle.edn_reader.specs.Truncation.{kept_of}
 use Rattle.edn_reader.specs.View.{view}
@@ -16,7 +16,7 @@ pub form_at-requires : goal.form_at-requires
 form_at-requires c =
     let old = c.args.self.now in
     let new = c.advance.new.self in
-    let e = reads_some (cuts_in old) c.in-Ok-true.field-0 (text_left old) (tokens_in new) (text_left new)
+    let e = reads_some (is_truncating old) c.in-Ok-true.field-0 (text_left old) (tokens_in new) (text_left new)
     c.in-Ok-true.field-0-test c.in-Ok-true.ensures.reads in
     record {
       form = e.element;
@@ -30,7 +30,7 @@ pub returns-in-Ok-clause-gives : goal.returns-in-Ok-clause-gives
 returns-in-Ok-clause-gives c =
     let old = c.args.self.now in
     let new = c.advance.new.self in
-    let e = reads_some (cuts_in old) c.in-Ok-true.field-0 (text_left old) (tokens_in new) (text_left new)
+    let e = reads_some (is_truncating old) c.in-Ok-true.field-0 (text_left old) (tokens_in new) (text_left new)
     c.in-Ok-true.field-0-test c.in-Ok-true.ensures.reads in
     let f = c.in-Ok.ensures in
     let s = same_datum (view c.in-Ok.form) e.element f.0 [] (sym f.1 ∙ c.pieces.ensures ∙ e.own
@@ -41,7 +41,7 @@ pub returns-in-Err-form_at-clause-memory : goal.returns-in-Err-form_at-clause-me
 returns-in-Err-form_at-clause-memory c =
     let old = c.args.self.now in
     let new = c.advance.new.self in
-    let e = reads_some (cuts_in old) c.in-Ok-true.field-0 (text_left old) (tokens_in new) (text_left new)
+    let e = reads_some (is_truncating old) c.in-Ok-true.field-0 (text_left old) (tokens_in new) (text_left new)
     c.in-Ok-true.field-0-test c.in-Ok-true.ensures.reads in
     λ _. element_sound (text_left old) (text_left new) e.element (start_of old) c.place-place.result
     c.place-place.ensures.utf8 e.front c.place-place.ensures.place

@@ -19,7 +19,8 @@ returns-in_err-take-clause-none c =
 
 pub tokens-init : goal.tokens-init
 tokens-init c = (
-  first_turn c.requires.utf8 c.skip-here.ensures c.requires.fresh c.clear.ensures c.in_ok-take.ensures.taken c.in_ok-take.ensures.kept,
+  first_turn c.requires.utf8 c.skip-here.ensures c.requires.fresh c.clear.ensures c.in_ok-take.ensures.taken
+      c.in_ok-take.ensures.kept,
   (let a = skip_within c.args.text.now in
       let b = after_piece_shorter c.skip-here.result.now _ _ _ c.in_ok-take.ensures.taken in
       omega (arith, a, b, ap length c.skip-here.ensures)),

@@ -1,7 +1,7 @@
 -- `advance`: what is given is what the next form says, or there is none. Of a usual map `usual_map` says that. Of
 -- any other form the pieces that are kept say as much as the whole form does (`says_as_much`).
 use Rattle.std.proofs.Common.{◌≡◌, ℕ, Bool, List, ap, sym, subst, ◌∙◌}
-use Rattle.edn_reader.specs.Left.{text_left, cuts_in, tokens_in}
+use Rattle.edn_reader.specs.Left.{text_left, is_truncating, tokens_in}
 use Rattle.edn_reader.specs.Token.{tokens_of}
 use Rattle.edn_reader.specs.Truncation.{kept_of, truncated}
 use Rattle.edn_reader.proofs.FormsInARow.{reads_some, reads_none}
@@ -23,7 +23,7 @@ pub returns-in-Ok-true-clause-reads : goal.returns-in-Ok-true-clause-reads
 returns-in-Ok-true-clause-reads c =
     let old = c.args.self.now.elements in
     let new = c.advance.new.self in
-    let e = reads_some (cuts_in old) c.in-Ok-true.field-0 (left_in c.args.self.now) (tokens_in new) (text_left new)
+    let e = reads_some (is_truncating old) c.in-Ok-true.field-0 (left_in c.args.self.now) (tokens_in new) (text_left new)
     c.in-Ok-true.field-0-test c.in-Ok-true.ensures.reads in
     record {
       form = e.element;
@@ -38,5 +38,5 @@ pub returns-in-Ok-false-clause-reads : goal.returns-in-Ok-false-clause-reads
 returns-in-Ok-false-clause-reads c =
     let old = c.args.self.now.elements in
     let new = c.advance.new.self in
-    reads_none (cuts_in old) c.in-Ok-false.field-0 (left_in c.args.self.now) (tokens_in new)
+    reads_none (is_truncating old) c.in-Ok-false.field-0 (left_in c.args.self.now) (tokens_in new)
     (text_left new) c.in-Ok-false.field-0-test c.in-Ok-false.ensures.reads
