@@ -23,8 +23,8 @@ pub returns-in-Ok-true-clause-reads : goal.returns-in-Ok-true-clause-reads
 returns-in-Ok-true-clause-reads c =
     let old = c.args.self.now.elements in
     let new = c.advance.new.self in
-    let e = reads_some (is_truncating old) c.in-Ok-true.field-0 (left_in c.args.self.now) (tokens_in new) (text_left new)
-    c.in-Ok-true.field-0-test c.in-Ok-true.ensures.reads in
+    let e = reads_some (is_truncating old) c.in-Ok-true.field-0 (left_in c.args.self.now) (tokens_in new)
+    (text_left new) c.in-Ok-true.field-0-test c.in-Ok-true.ensures.reads in
     record {
       form = e.element;
       front = e.front;
