@@ -1,8 +1,9 @@
 -- A text that was written anew and read again: it spells one map of a client, which says what the map says that was
 -- given, of an object by another number.
 use Rattle.std.proofs.Common.{◌≡◌, ℕ, true, List, [], ◌∷◌, length, get_or, Option, Some, None, refl, ap, ◌∙◌, subst}
-use Rattle.std.proofs.Common.{arith}
+use Rattle.std.proofs.Common.{arith, rules}
 use Rattle.std.specs.Option.{option_eq}
+use denote.Enum.Bare.{same_true}
 use Rattle.edn_reader.specs.Datum.{Datum}
 use Rattle.edn_reader.specs.Spells.{Spells}
 use Rattle.history.specs.Maps.{client_of}
@@ -11,7 +12,10 @@ use Rattle.history.specs.Views.{IsClient, Says}
 use Rattle.history.specs.declared.client_map.ClientMap.{ClientMap}
 use Rattle.history.specs.declared.client_map.OperationMap.TheVariants.{OfClient}
 use Rattle.history.specs.declared.map_texts.MapText.{MapText}
+use Rattle.seq_objects.specs.contracts.function.Function.{the_type}
+use Rattle.seq_objects.specs.contracts.function.FunctionPartialEq.TheImpl.{eq-value as function_eq}
 use Rattle.seq_objects.specs.contracts.value.ValuePartialEq.TheImpl.{eq-value}
+use Rattle.seq_objects.specs.declared.function.Function.{Function}
 use Rattle.seq_objects.specs.declared.value.Value.{Value}
 use Rattle.seq_objects.specs.declared.value.Value.TheVariants.{Nil, False, True, Int, Pair, Triple}
 
@@ -29,6 +33,12 @@ pub values_in_same : (a b : Option Value) → option_eq eq-value.it a b ≡ true
 values_in_same None None q = refl
 values_in_same (Some v) (Some w) q = ap Some (values_same v w q)
 values_in_same a b q = absurd (cc q)
+
+-- and so are functions
+pub functions_in_same : (a b : Option Function) → option_eq function_eq.it a b ≡ true → a ≡ b
+functions_in_same None None q = refl
+functions_in_same (Some f) (Some g) q = ap Some (same_true the_type (search rules) f g q)
+functions_in_same a b q = absurd (cc q)
 
 pub same_map : (a b : ClientMap) → a.process ≡ b.process → a.object ≡ b.object → a.map_type ≡ b.map_type
     → a.function ≡ b.function → a.value ≡ b.value → a ≡ b
