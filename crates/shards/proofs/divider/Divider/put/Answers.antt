@@ -24,3 +24,11 @@ returns-clause-adds c =
           c.deref.ensures.value adds;
     })
     c.put_text-2.ensures.adds
+
+pub returns-then-from-map-clause-tally : goal.returns-then-from-map-clause-tally
+returns-then-from-map-clause-tally c =
+    on_ok_weaker c.put_text.result (λ _. rw c.put_text.ensures.tally c.in_ok-count.ensures) c.put_text.ensures.adds
+
+pub returns-clause-tally : goal.returns-clause-tally
+returns-clause-tally c =
+    on_ok_weaker c.put_text-2.result (λ _. rw c.put_text-2.ensures.tally c.in_ok-count.ensures) c.put_text-2.ensures.adds
