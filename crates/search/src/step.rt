@@ -5,7 +5,7 @@ ghost use Rattle.std.specs.Prelude.{◌≡◌};
 use model::AnyReply;
 
 /// What brings back the content before an operation.
-#[derive(Clone, Copy, Debug, PartialEq, Eq, Drop)]
+#[derive(Clone, Copy, Debug, Drop)]
 pub enum Undo {
     /// The operation left the content as it was.
     Nothing,
@@ -24,7 +24,7 @@ pub enum Undo {
     SetOwner(Option<i64>),
 }
 
-#[derive(Clone, Copy, Debug, PartialEq, Eq, Drop)]
+#[derive(Clone, Copy, Debug, Drop)]
 pub struct Step {
     pub reply: AnyReply,
     pub undo: Undo,

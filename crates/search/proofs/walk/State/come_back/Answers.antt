@@ -16,6 +16,24 @@ owed_before-self-requires c =
     let l = count_le (owes (call_at items) (places (reverse c.args.self.now.levels.items))) (length items) in
     omega (arith, c.requires.search.walk.counts, c.requires.trials.few, l)
 
+pub put_back-requires-clause-small : goal.put_back-requires-clause-small
+put_back-requires-clause-small c =
+    let w = rw (pushed c.pop.new.self.items c.in-Some.ensures.items) at c.requires.search.walk in
+    let left = w.stack.0.left.0 in
+    let few = c.requires.trials.few in
+    omega arith
+
+pub put_back-requires-clause-within : goal.put_back-requires-clause-within
+put_back-requires-clause-within c =
+    let w = rw (pushed c.pop.new.self.items c.in-Some.ensures.items) at c.requires.search.walk in
+    w.stack.3
+
+pub index-requires : goal.index-requires
+index-requires c =
+    let w = rw (pushed c.pop.new.self.items c.in-Some.ensures.items) at c.requires.search.walk in
+    let left = w.stack.0.left.0 in
+    omega arith
+
 pub index-requires-2 : goal.index-requires-2
 index-requires-2 c =
     let w = rw (pushed c.pop.new.self.items c.in-Some.ensures.items) at c.requires.search.walk in

@@ -31,4 +31,5 @@ returns-then-from-map-clause-tally c =
 
 pub returns-clause-tally : goal.returns-clause-tally
 returns-clause-tally c =
-    on_ok_weaker c.put_text-2.result (λ _. rw c.put_text-2.ensures.tally c.in_ok-count.ensures) c.put_text-2.ensures.adds
+    on_ok_weaker c.put_text-2.result (λ _. rw c.put_text-2.ensures.tally c.in_ok-count.ensures)
+    c.put_text-2.ensures.adds
