@@ -1,16 +1,13 @@
 //! Clients that retire with a call outstanding, in a queue of two clients with the quota 2.
 
 use crate::bench::Setup;
-use crate::steps::Got::Value;
-use crate::steps::Play;
-use crate::steps::Step::{
-    Combines, Enlists, Polls, Posts, Retires, RetiresBefore, ServesAsItRetires,
-};
+use crate::steps::Step::{Combines, Enlists, Gets, Posts, Retires, SeesOut, ServesAsItRetires};
+use crate::steps::{Play, value};
 use publication::Enlist;
 use seq_objects::{AnyOp, Kind};
 
 const TWO: Setup = Setup {
-    kinds: (Kind::Queue, None),
+    kinds: &[Kind::Queue],
     left: None,
     clients: 2,
     quota: 2,
@@ -46,7 +43,7 @@ yes: 1 operations, 1 objects
 queue: 1 objects, 1 operations
 ";
 
-pub(crate) const PLAYS: [Play; 5] = [
+pub(crate) static PLAYS: [Play; 5] = [
     Play {
         name: "an unlisted call is pending",
         setup: TWO,
@@ -55,7 +52,7 @@ pub(crate) const PLAYS: [Play; 5] = [
             (0, Retires),
             (1, Posts(0, AnyOp::Enqueue(2))),
             (1, Combines(1, 1)),
-            (1, Polls(Value(2))),
+            (1, Gets(2)),
         ],
         end: Some((1, UNLISTED)),
     },
@@ -68,7 +65,7 @@ pub(crate) const PLAYS: [Play; 5] = [
             (0, Retires),
             (1, Posts(0, AnyOp::Enqueue(2))),
             (1, Combines(1, 2)),
-            (1, Polls(Value(2))),
+            (1, Gets(2)),
         ],
         end: Some((1, LISTED)),
     },
@@ -82,7 +79,7 @@ pub(crate) const PLAYS: [Play; 5] = [
             (0, Retires),
             (1, Posts(0, AnyOp::Dequeue)),
             (1, Combines(2, 1)),
-            (1, Polls(Value(1))),
+            (1, Gets(1)),
         ],
         end: Some((1, DEQUEUED)),
     },
@@ -94,14 +91,14 @@ pub(crate) const PLAYS: [Play; 5] = [
             (1, ServesAsItRetires(0)),
             (1, Posts(0, AnyOp::Dequeue)),
             (1, Combines(1, 1)),
-            (1, Polls(Value(1))),
+            (1, Gets(1)),
         ],
         end: Some((1, DEQUEUED)),
     },
     Play {
         name: "an idle client retires",
         setup: TWO,
-        turns: &[(0, RetiresBefore(1)), (1, Posts(0, AnyOp::Enqueue(3)))],
+        turns: &[(1, SeesOut(0)), (1, Posts(0, AnyOp::Enqueue(3)))],
         end: Some((1, IDLE)),
     },
 ];

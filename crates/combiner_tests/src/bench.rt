@@ -25,9 +25,9 @@ pub(crate) struct Bench {
 /// What a desk begins with.
 #[derive(Clone, Copy)]
 pub(crate) struct Setup {
-    /// The kind of object 0, and that of object 1 if there is one.
-    pub(crate) kinds: (Kind, Option<Kind>),
-    /// Object 0 refuses the call after this many others, or none.
+    /// The kind of each object.
+    pub(crate) kinds: &'static [Kind],
+    /// Each object refuses the call after this many others, or none.
     pub(crate) left: Option<u32>,
     pub(crate) clients: u32,
     /// How many calls each client may make.
@@ -65,22 +65,14 @@ fn object_of(alloc: Global, kind: Kind, left: Option<u32>) -> Refusing
     }
 }
 
-/// Empty objects of these kinds. Object 0 refuses the call after `left` others, or none.
-fn objects_of(
-    alloc: Global,
-    kinds: (Kind, Option<Kind>),
-    left: Option<u32>,
-) -> Result<Vec<Refusing>, AllocError>
-    ensures { IfOk result (λ v. (0 < length v.items) × (length v.items < 17)
-        × AreEmpty ⟦<Refusing as SeqObject>⟧.content v.items) }
+/// Empty objects of these kinds. Each refuses the call after `left` others, or none.
+fn objects_of(alloc: Global, kinds: &[Kind], left: Option<u32>) -> Result<Vec<Refusing>, AllocError>
+    ensures { IfOk result (λ v. AreEmpty ⟦<Refusing as SeqObject>⟧.content v.items) }
 {
-    let (first, second) = kinds;
-    let mut objects = Vec::with_capacity(alloc, 2)?;
-    objects.push_reserved(object_of(alloc, first, left));
-    let Some(kind) = second else {
-        return Ok(objects);
-    };
-    objects.push_reserved(object_of(alloc, kind, None));
+    let mut objects = Vec::new(alloc);
+    for kind in kinds {
+        objects.push(object_of(alloc, *kind, left))?;
+    }
     Ok(objects)
 }
 
@@ -115,19 +107,13 @@ fn seated(
 }
 
 impl Bench {
-    /// A desk of one object, with clients of `quota` calls each. The object refuses the call after
-    /// `left` others, or none.
     pub(crate) fn new(alloc: Global, setup: &Setup) -> Result<Bench, Fail> {
-        let Setup {
-            kinds,
-            left,
-            clients,
-            quota,
-        } = *setup;
-        if clients == 0 || clients > 32 || quota > 10_000 {
+        let objects = objects_of(alloc, setup.kinds, setup.left)?;
+        let Setup { clients, quota, .. } = *setup;
+        let is_few = clients <= 32 && quota <= 10_000 && objects.len() <= 16;
+        if !is_few || clients == 0 || objects.is_empty() {
             return Err(Fail::new("there is no such desk"));
         }
-        let objects = objects_of(alloc, kinds, left)?;
         let (desk, clients) = Desk::new(alloc, objects, clients, quota)?;
         let seats = seated(alloc, &desk, clients)?;
         Ok(Bench { desk, seats })
@@ -141,25 +127,26 @@ impl Bench {
         self.seats.remove(number)
     }
 
-    /// The client takes the seat with this number.
-    pub(crate) fn seat(&mut self, number: u64, client: Client<Refusing>) -> Result<(), AllocError>
+    /// The client takes the seat with this number, which it left. So no memory is needed.
+    pub(crate) fn seat(&mut self, number: u64, client: Client<Refusing>)
         requires { client.desk ≡ self.old }
         ensures { self.new ≡ self.old }
     {
-        self.seats.insert(number, client)
+        let _ = self.seats.insert(number, client);
     }
 
     /// Closes the desk by the client with this number.
-    pub(crate) fn close(mut self, number: u64) -> Result<Closing, AllocError> {
+    pub(crate) fn close(mut self, number: u64) -> Closing {
         let Some(last) = self.take(number) else {
-            return Ok(Closing::NoClient);
+            return Closing::NoClient;
         };
-        let Bench { desk, mut seats } = self;
+        let Bench { desk, seats } = self;
         match desk.close(last) {
-            Ok(record) => Ok(Closing::Closed(record)),
+            Ok(record) => Closing::Closed(record),
             Err(Unretired { desk, last, client }) => {
-                seats.insert(number, last)?;
-                Ok(Closing::Unretired(Bench { desk, seats }, client))
+                let mut bench = Bench { desk, seats };
+                bench.seat(number, last);
+                Closing::Unretired(bench, client)
             }
         }
     }

@@ -1,17 +1,16 @@
 //! What the publication list does to which rows are tried.
 
 use crate::bench::Setup;
-use crate::steps::Got::Value;
 use crate::steps::Play;
-use crate::steps::Step::{Combines, CombinesInVain, Enlists, Polls, Posts};
+use crate::steps::Step::{Combines, CombinesInVain, Enlists, Gets, Posts};
 use publication::Enlist::{Already, Listed};
 use seq_objects::{AnyOp, Kind};
 
-pub(crate) const PLAYS: [Play; 3] = [
+pub(crate) static PLAYS: [Play; 3] = [
     Play {
         name: "only listed rows are tried",
         setup: Setup {
-            kinds: (Kind::Queue, None),
+            kinds: &[Kind::Queue],
             left: None,
             clients: 2,
             quota: 1,
@@ -21,14 +20,14 @@ pub(crate) const PLAYS: [Play; 3] = [
             (0, Combines(1, 0)),
             (1, Enlists(Listed)),
             (0, Combines(2, 1)),
-            (1, Polls(Value(1))),
+            (1, Gets(1)),
         ],
         end: None,
     },
     Play {
         name: "idle rows are taken out",
         setup: Setup {
-            kinds: (Kind::Queue, None),
+            kinds: &[Kind::Queue],
             left: None,
             clients: 2,
             quota: 1,
@@ -47,7 +46,7 @@ pub(crate) const PLAYS: [Play; 3] = [
     Play {
         name: "served rows stay longer",
         setup: Setup {
-            kinds: (Kind::Queue, None),
+            kinds: &[Kind::Queue],
             left: None,
             clients: 2,
             quota: 1,
@@ -58,7 +57,7 @@ pub(crate) const PLAYS: [Play; 3] = [
             (0, CombinesInVain(1, 99)),
             (1, Posts(0, AnyOp::Enqueue(1))),
             (0, Combines(100, 1)),
-            (1, Polls(Value(1))),
+            (1, Gets(1)),
             (0, CombinesInVain(101, 192)),
             (1, Enlists(Already)),
             (0, CombinesInVain(193, 256)),

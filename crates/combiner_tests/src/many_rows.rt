@@ -1,8 +1,7 @@
 //! One pass over the rows of eight clients, each of which may make three calls.
 
 use crate::bench::Setup;
-use crate::steps::Got::Value;
-use crate::steps::Step::{Combines, Enlists, Polls, Posts};
+use crate::steps::Step::{Combines, Enlists, Gets, Posts};
 use crate::steps::{Play, Step};
 use publication::Enlist::Listed;
 use seq_objects::{AnyOp, Kind};
@@ -11,14 +10,14 @@ const POSTS: Step = Posts(0, AnyOp::Enqueue(3));
 
 const LISTS: Step = Enlists(Listed);
 
-const GETS: Step = Polls(Value(3));
+const GETS: Step = Gets(3);
 
-pub(crate) const PLAYS: [Play; 1] = [
+pub(crate) static PLAYS: [Play; 1] = [
     // A pass that stops at row 2, or counts no further than 2, fails here.
     Play {
         name: "all listed rows are served",
         setup: Setup {
-            kinds: (Kind::Queue, None),
+            kinds: &[Kind::Queue],
             left: None,
             clients: 8,
             quota: 3,

@@ -1,15 +1,15 @@
 //! Refused memory: a queue that refuses a call, and a log that cannot grow so far.
 
 use crate::bench::{Bench, Setup};
-use crate::steps::Got::{Nil, Nothing, Refused, Value};
-use crate::steps::Step::{Combines, Enlists, Polls, Posts, ReservesTooMuch};
-use crate::steps::{Play, Step, take_turns};
-use combiner::Combined;
+use crate::steps::Step::{
+    Combines, Enlists, Gets, LacksMemory, MayGet, Polls, Posts, ReservesTooMuch,
+};
+use crate::steps::{NIL, NOTHING, Play, REFUSED, Step, take_turns};
 use publication::Enlist;
 use seq_objects::{AnyOp, Kind};
 use std::test::Fail;
 
-const REFUSED: &str = "{:process 0, :type :invoke, :f :enqueue, :value 1, :object 0}
+const FIRST_REFUSED: &str = "{:process 0, :type :invoke, :f :enqueue, :value 1, :object 0}
 {:process 0, :type :fail, :f :enqueue, :value 1, :object 0}
 {:process 0, :type :invoke, :f :dequeue, :value nil, :object 0}
 {:process 0, :type :ok, :f :dequeue, :value nil, :object 0}
@@ -44,47 +44,50 @@ queue: 1 objects, 6 operations
 #[test]
 fn a_pass_whose_log_cannot_grow_serves_nothing(rt: HostRuntime) -> Result<(), Fail> {
     let setup = Setup {
-        kinds: (Kind::Queue, None),
+        kinds: &[Kind::Queue],
         left: None,
         clients: 1,
         quota: 2,
     };
-    let mut bench = Bench::new(rt.alloc(), &setup)?;
     let waits = [
         (0, Posts(0, AnyOp::Enqueue(1))),
         (0, Enlists(Enlist::Listed)),
     ];
-    take_turns(&rt, &mut bench, &waits, "before")?;
-    let first = bench.combine(0)?;
-    match first {
-        Combined::NoMemory => {
-            println!(rt; "the first pass served nothing")?;
-            let served = [
-                (0, Polls(Nothing)),
-                (0, Combines(2, 1)),
-                (0, Polls(Value(1))),
-            ];
-            take_turns(&rt, &mut bench, &served, "after")
-        }
-        Combined::Served { pass, count } => {
-            assert!(rt; pass == 1 && count == 1);
-            let got = bench.poll(0)?;
-            assert!(rt; got == Value(1) || got == Refused);
-            Ok(())
-        }
-        Combined::Busy => panic!(rt; "the object is held"),
+    let mut bench = take_turns(&rt, Bench::new(rt.alloc(), &setup)?, &waits, "before");
+    let mut after = [(0, MayGet(1)), (0, Combines(2, 0)), (0, Polls(NOTHING))];
+    if bench.step(&rt, &(0, LacksMemory)) {
+        println!(rt; "the first pass served nothing")?;
+        after = [(0, Polls(NOTHING)), (0, Combines(2, 1)), (0, Gets(1))];
     }
+    let _ = take_turns(&rt, bench, &after, "after");
+    Ok(())
 }
 
 const NINE: Step = Posts(0, AnyOp::Enqueue(9));
 
-const GETS: Step = Polls(Value(9));
+const GETS: Step = Gets(9);
 
-pub(crate) const PLAYS: [Play; 3] = [
+pub(crate) static PLAYS: [Play; 4] = [
+    Play {
+        name: "the first pass has memory",
+        setup: Setup {
+            kinds: &[Kind::Queue],
+            left: None,
+            clients: 1,
+            quota: 2,
+        },
+        turns: &[
+            (0, Posts(0, AnyOp::Enqueue(1))),
+            (0, Enlists(Enlist::Listed)),
+            (0, Combines(1, 1)),
+            (0, Gets(1)),
+        ],
+        end: None,
+    },
     Play {
         name: "a refused call is in no log",
         setup: Setup {
-            kinds: (Kind::Queue, None),
+            kinds: &[Kind::Queue],
             left: Some(0),
             clients: 1,
             quota: 2,
@@ -92,17 +95,17 @@ pub(crate) const PLAYS: [Play; 3] = [
         turns: &[
             (0, Posts(0, AnyOp::Enqueue(1))),
             (0, Combines(1, 1)),
-            (0, Polls(Refused)),
+            (0, Polls(REFUSED)),
             (0, Posts(0, AnyOp::Dequeue)),
             (0, Combines(2, 1)),
-            (0, Polls(Nil)),
+            (0, Polls(NIL)),
         ],
-        end: Some((0, REFUSED)),
+        end: Some((0, FIRST_REFUSED)),
     },
     Play {
         name: "a call is refused after five others",
         setup: Setup {
-            kinds: (Kind::Queue, None),
+            kinds: &[Kind::Queue],
             left: Some(5),
             clients: 1,
             quota: 8,
@@ -125,7 +128,7 @@ pub(crate) const PLAYS: [Play; 3] = [
             (0, GETS),
             (0, NINE),
             (0, Combines(6, 1)),
-            (0, Polls(Refused)),
+            (0, Polls(REFUSED)),
             (0, NINE),
             (0, Combines(7, 1)),
             (0, GETS),
@@ -135,7 +138,7 @@ pub(crate) const PLAYS: [Play; 3] = [
     Play {
         name: "a log that cannot grow so far is as it was",
         setup: Setup {
-            kinds: (Kind::Queue, None),
+            kinds: &[Kind::Queue],
             left: None,
             clients: 1,
             quota: 2,
@@ -144,7 +147,7 @@ pub(crate) const PLAYS: [Play; 3] = [
             (0, Posts(0, AnyOp::Enqueue(1))),
             (0, ReservesTooMuch),
             (0, Combines(1, 1)),
-            (0, Polls(Value(1))),
+            (0, Gets(1)),
         ],
         end: None,
     },

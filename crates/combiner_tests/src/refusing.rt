@@ -36,11 +36,14 @@ impl SeqObject for Refusing {
     }
 
     fn apply(&mut self, op: &AnyOp) -> Result<AnyReply, AllocError> {
-        if self.left == Some(0) {
-            self.left = None;
-            return Err(AllocError);
+        match self.left {
+            Some(0) => {
+                self.left = None;
+                return Err(AllocError);
+            }
+            Some(left) => self.left = Some(left - 1),
+            None => {}
         }
-        self.left = self.left.map(|left| left.saturating_sub(1));
         self.inside.apply(op)
     }
 

@@ -4,11 +4,10 @@ ghost use Rattle.std.specs.Prelude.{◌≡◌, ◌<◌, length};
 
 use crate::bench::{Bench, Setup};
 use crate::refusing::Refusing;
-use crate::steps::Got::{Nil, Nothing, Value};
 use crate::steps::Step::{
-    Combines, Enlists, HoldsAgainst, IsRefused, Polls, Posts, Retires, Serves,
+    Combines, Enlists, Gets, HoldsAgainst, IsRefused, Polls, Posts, Retires, Serves,
 };
-use crate::steps::{Got, Play, serve_row};
+use crate::steps::{Got, NIL, NOTHING, Play, serve_row, value};
 use combiner::{Combined, call, combine};
 use publication::{Client, Desk, Enlist, Pass, Post, Win};
 use seq_objects::{AnyOp, Kind};
@@ -38,69 +37,65 @@ yes: 3 operations, 1 objects
 mutex: 1 objects, 3 operations
 ";
 
-/// What a call of enqueue and then one of dequeue give.
+const TWO: Setup = Setup {
+    kinds: &[Kind::Queue],
+    left: None,
+    clients: 2,
+    quota: 2,
+};
+
+/// Whether a call that enqueues this value gives it, and what a call of dequeue then gives.
 fn enqueue_and_dequeue<R: Wait>(
     rt: &R,
     desk: &Desk<Refusing>,
     client: Client<Refusing>,
     v: i64,
-) -> (Got, Got)
+) -> (bool, Got)
     requires { client.desk ≡ desk.now.id }
 {
     let (client, first) = call(rt, desk, client, 0, AnyOp::Enqueue(v));
     let (_, second) = call(rt, desk, client, 0, AnyOp::Dequeue);
-    (Got::of(first.ok()), Got::of(second.ok()))
+    (first.ok() == value(v), second.ok())
 }
 
-impl Bench {
-    /// What the calls of the clients 0 and 1 give, each in a thread of its own.
-    fn both_call<R: Threads + Wait + Sync>(
-        &mut self,
-        rt: &R,
-    ) -> Result<((Got, Got), (Got, Got)), Fail> {
-        let (Some(zero), Some(one)) = (self.take(0), self.take(1)) else {
-            return Err(Fail::new("a client is not there"));
-        };
-        let desk = &self.desk;
-        Ok(join(
-            rt,
-            || enqueue_and_dequeue(rt, desk, zero, 1),
-            || enqueue_and_dequeue(rt, desk, one, 2),
-        ))
-    }
+/// Each client is answered in a thread of its own, and takes out its own value, or that of the
+/// other.
+fn are_both_answered<R: Threads + Wait + Sync>(rt: &R, bench: &mut Bench) -> bool {
+    let (Some(zero), Some(one)) = (bench.take(0), bench.take(1)) else {
+        return false;
+    };
+    let desk = &bench.desk;
+    let ((is_zero, zero), (is_one, one)) = join(
+        rt,
+        || enqueue_and_dequeue(rt, desk, zero, 1),
+        || enqueue_and_dequeue(rt, desk, one, 2),
+    );
+    let own = zero == value(1) && one == value(2);
+    is_zero && is_one && (own || (zero == value(2) && one == value(1)))
 }
 
 #[test]
 fn two_threads_are_answered(rt: HostRuntime) -> Result<(), Fail> {
     for _ in 0..100 {
-        let mut bench = Bench::new(
-            rt.alloc(),
-            &Setup {
-                kinds: (Kind::Queue, None),
-                left: None,
-                clients: 2,
-                quota: 2,
-            },
-        )?;
-        let (zero, one) = bench.both_call(&rt)?;
-        let own = zero == (Value(1), Value(1)) && one == (Value(2), Value(2));
-        let crossed = zero == (Value(1), Value(2)) && one == (Value(2), Value(1));
-        assert!(rt; own || crossed);
+        let mut bench = Bench::new(rt.alloc(), &TWO)?;
+        assert!(rt; are_both_answered(&rt, &mut bench));
     }
     Ok(())
 }
 
-/// Tries row 0 until it has answered a request there.
-fn serve_when_posted<R: Wait>(rt: &R, desk: &Desk<Refusing>, pass: Pass<Refusing>) -> Pass<Refusing>
+/// Tries row 0 until it has answered two requests there.
+fn serve_twice<R: Wait>(rt: &R, desk: &Desk<Refusing>, pass: Pass<Refusing>)
     requires { pass.desk ≡ desk.now.id }
-    ensures { result.desk ≡ pass.desk }
 {
     let mut pass = pass;
+    let mut left = 2u32;
     for _ in rt.forever() {
         let (after, served) = serve_row(desk, pass, 0);
         pass = after;
-        if served {
-            return pass;
+        left = left.saturating_sub(u32::from(served));
+        if left == 0 {
+            let _ = pass.release(desk);
+            return;
         }
         yield_now();
     }
@@ -117,8 +112,7 @@ fn serve_two_calls<R: Wait>(rt: &R, desk: &Desk<Refusing>, client: Client<Refusi
         match desk.win(client, 0) {
             Win::Held(after) => client = after,
             Win::Won(pass) => {
-                let pass = serve_when_posted(rt, desk, pass);
-                serve_when_posted(rt, desk, pass).release(desk);
+                serve_twice(rt, desk, pass);
                 return;
             }
         }
@@ -149,58 +143,42 @@ fn wait_until_held<R: Wait>(
 }
 
 /// What a call gives that is made while object 0 is held. Once it is over, another one is posted.
-fn call_and_post<R: Wait>(rt: &R, desk: &Desk<Refusing>, client: Client<Refusing>, op: AnyOp) -> Got
+fn call_and_post<R: Wait>(rt: &R, desk: &Desk<Refusing>, client: Client<Refusing>) -> Got
     requires client { client.desk ≡ desk.now.id }
     requires object { 0 < length desk.now.id.kinds }
 {
     let client = wait_until_held(rt, desk, client);
-    let (mut client, called) = call(rt, desk, client, 0, op);
-    let _ = desk.post(&mut client, 0, op);
-    Got::of(called.ok())
-}
-
-impl Bench {
-    /// What a call of client 0 gives, while client 1 holds the object until that call is over.
-    fn call_on_held<R: Threads + Wait + Sync>(&mut self, rt: &R, op: AnyOp) -> Result<Got, Fail> {
-        let (Some(zero), Some(one)) = (self.take(0), self.take(1)) else {
-            return Err(Fail::new("a client is not there"));
-        };
-        let desk = &self.desk;
-        if desk.objects() == 0 {
-            return Err(Fail::new("there is no object"));
-        }
-        let (got, ()) = join(
-            rt,
-            || call_and_post(rt, desk, zero, op),
-            || serve_two_calls(rt, desk, one),
-        );
-        Ok(got)
-    }
+    let (mut client, called) = call(rt, desk, client, 0, AnyOp::Enqueue(3));
+    let _ = desk.post(&mut client, 0, AnyOp::Enqueue(3));
+    called.ok()
 }
 
 /// Client 1 holds the object until client 0 has posted its second call. So the first one is over
 /// before: its answer came by a poll, and not by a pass of its own.
 #[test]
 fn a_call_polls(rt: HostRuntime) -> Result<(), Fail> {
-    let mut bench = Bench::new(
-        rt.alloc(),
-        &Setup {
-            kinds: (Kind::Queue, None),
-            left: None,
-            clients: 2,
-            quota: 2,
-        },
-    )?;
-    let got = bench.call_on_held(&rt, AnyOp::Enqueue(3))?;
-    assert!(rt; got == Value(3));
+    let mut bench = Bench::new(rt.alloc(), &TWO)?;
+    let (Some(zero), Some(one)) = (bench.take(0), bench.take(1)) else {
+        return Err(Fail::new("a client is not there"));
+    };
+    let (desk, handle) = (&bench.desk, &rt);
+    if desk.objects() == 0 {
+        return Err(Fail::new("there is no object"));
+    }
+    let (got, ()) = join(
+        handle,
+        || call_and_post(handle, desk, zero),
+        || serve_two_calls(handle, desk, one),
+    );
+    assert!(rt; got == value(3));
     Ok(())
 }
 
-pub(crate) const PLAYS: [Play; 5] = [
+pub(crate) static PLAYS: [Play; 5] = [
     Play {
         name: "the call posted second may be served first",
         setup: Setup {
-            kinds: (Kind::Queue, None),
+            kinds: &[Kind::Queue],
             left: None,
             clients: 2,
             quota: 2,
@@ -209,11 +187,11 @@ pub(crate) const PLAYS: [Play; 5] = [
             (0, Posts(0, AnyOp::Enqueue(1))),
             (1, Posts(0, AnyOp::Enqueue(2))),
             (1, Serves(0, &[1, 0])),
-            (0, Polls(Value(1))),
-            (1, Polls(Value(2))),
+            (0, Gets(1)),
+            (1, Gets(2)),
             (0, Posts(0, AnyOp::Dequeue)),
             (0, Serves(0, &[0])),
-            (0, Polls(Value(2))),
+            (0, Gets(2)),
             (1, Retires),
         ],
         end: Some((0, SECOND_FIRST)),
@@ -221,7 +199,7 @@ pub(crate) const PLAYS: [Play; 5] = [
     Play {
         name: "a lone call is answered",
         setup: Setup {
-            kinds: (Kind::Queue, None),
+            kinds: &[Kind::Queue],
             left: None,
             clients: 1,
             quota: 1,
@@ -230,8 +208,8 @@ pub(crate) const PLAYS: [Play; 5] = [
             (0, Posts(0, AnyOp::Enqueue(4))),
             (0, IsRefused(0, AnyOp::Enqueue(4), Post::Outstanding)),
             (0, Combines(1, 1)),
-            (0, Polls(Value(4))),
-            (0, Polls(Nothing)),
+            (0, Gets(4)),
+            (0, Polls(NOTHING)),
             (0, IsRefused(0, AnyOp::Dequeue, Post::Spent)),
             (0, Combines(2, 0)),
         ],
@@ -240,7 +218,7 @@ pub(crate) const PLAYS: [Play; 5] = [
     Play {
         name: "what was put back is served later",
         setup: Setup {
-            kinds: (Kind::Mutex, None),
+            kinds: &[Kind::Mutex],
             left: None,
             clients: 2,
             quota: 2,
@@ -248,15 +226,15 @@ pub(crate) const PLAYS: [Play; 5] = [
         turns: &[
             (0, Posts(0, AnyOp::Acquire)),
             (0, Combines(1, 1)),
-            (0, Polls(Nil)),
+            (0, Polls(NIL)),
             (1, Posts(0, AnyOp::Acquire)),
             (1, Enlists(Enlist::Listed)),
             (1, Combines(2, 0)),
-            (1, Polls(Nothing)),
+            (1, Polls(NOTHING)),
             (0, Posts(0, AnyOp::Release)),
             (0, Combines(3, 2)),
-            (0, Polls(Nil)),
-            (1, Polls(Nil)),
+            (0, Polls(NIL)),
+            (1, Polls(NIL)),
             (1, Retires),
         ],
         end: Some((0, LOCKED_TWICE)),
@@ -264,7 +242,7 @@ pub(crate) const PLAYS: [Play; 5] = [
     Play {
         name: "the own row is tried again",
         setup: Setup {
-            kinds: (Kind::Mutex, None),
+            kinds: &[Kind::Mutex],
             left: None,
             clients: 2,
             quota: 2,
@@ -272,13 +250,13 @@ pub(crate) const PLAYS: [Play; 5] = [
         turns: &[
             (0, Posts(0, AnyOp::Acquire)),
             (0, Combines(1, 1)),
-            (0, Polls(Nil)),
+            (0, Polls(NIL)),
             (1, Posts(0, AnyOp::Acquire)),
             (0, Posts(0, AnyOp::Release)),
             (0, Enlists(Enlist::Listed)),
             (1, Combines(2, 2)),
-            (0, Polls(Nil)),
-            (1, Polls(Nil)),
+            (0, Polls(NIL)),
+            (1, Polls(NIL)),
             (1, Retires),
         ],
         end: Some((0, LOCKED_TWICE)),
@@ -286,7 +264,7 @@ pub(crate) const PLAYS: [Play; 5] = [
     Play {
         name: "a held object is busy",
         setup: Setup {
-            kinds: (Kind::Queue, None),
+            kinds: &[Kind::Queue],
             left: None,
             clients: 2,
             quota: 1,
@@ -296,7 +274,7 @@ pub(crate) const PLAYS: [Play; 5] = [
             (1, Enlists(Enlist::Listed)),
             (0, HoldsAgainst(1)),
             (0, Combines(1, 1)),
-            (1, Polls(Value(4))),
+            (1, Gets(4)),
         ],
         end: None,
     },

@@ -1,12 +1,12 @@
 //! The steps of a client, each with what it is to find, and plays, which are lists of steps.
 
-ghost use Rattle.std.specs.Prelude.{◌≡◌, ◌<◌, length};
+ghost use Rattle.std.specs.Prelude.{◌≡◌, ◌<◌, length, IfSome};
 
 use crate::bench::{Bench, Closing, Setup};
-use crate::lines::says;
+use crate::lines::has_lines;
 use crate::refusing::Refusing;
 use crate::{abandoned, desks, listing, many_rows, refused, serving, waiting};
-use combiner::{CallFault, Combined, call, combine};
+use combiner::{CallFault, Combined, call, combine, wait_for};
 use publication::{Answer, Client, Desk, Enlist, Pass, Picked, Post, Win};
 use seq_objects::{AnyOp, AnyReply};
 use std::process::Abort;
@@ -14,70 +14,65 @@ use std::sync::Wait;
 use std::test::Fail;
 
 /// An answer, or that there is none yet.
-#[derive(Clone, Copy, PartialEq, Eq)]
-pub(crate) enum Got {
-    Value(i64),
-    Nil,
-    Other,
-    Refused,
-    Nothing,
+pub(crate) type Got = Option<Answer<AnyReply>>;
+
+pub(crate) const NIL: Got = Some(Answer::Reply(AnyReply::Value(None)));
+
+pub(crate) const REFUSED: Got = Some(Answer::Refused);
+
+pub(crate) const NOTHING: Got = None;
+
+pub(crate) const fn value(v: i64) -> Got {
+    Some(Answer::Reply(AnyReply::Value(Some(v))))
 }
 
-impl Got {
-    pub(crate) fn of(answer: Option<Answer<AnyReply>>) -> Got {
-        match answer {
-            Some(Answer::Reply(AnyReply::Value(Some(v)))) => Got::Value(v),
-            Some(Answer::Reply(AnyReply::Value(None))) => Got::Nil,
-            Some(Answer::Reply(_)) => Got::Other,
-            Some(Answer::Refused) => Got::Refused,
-            None => Got::Nothing,
-        }
-    }
-}
-
-/// The result of a call.
-fn got_of(called: Result<Answer<AnyReply>, CallFault>) -> Result<Got, CallFault> {
-    match called {
-        Ok(answer) => Ok(Got::of(Some(answer))),
-        Err(fault) => Err(fault),
-    }
-}
-
-/// A step of a client.
+/// A step of a client. A step that names no object is on the one that the bench is told.
 #[derive(Clone, Copy)]
 pub(crate) enum Step {
+    /// The client has this number of itself.
+    IsNumber(u32),
     /// Posts a call on the object.
     Posts(u32, AnyOp),
     /// May not post the call.
     IsRefused(u32, AnyOp, Post),
-    /// Enlists its row with object 0.
     Enlists(Enlist),
-    /// Combines on object 0: the pass has this number, and answers this many requests.
+    /// The pass has this number, and answers this many requests.
     Combines(u64, u64),
-    /// Makes the passes on object 0 from the first to the last of these numbers. None answers a
-    /// request.
+    /// The pass gets no memory for the log.
+    LacksMemory,
+    /// Makes the passes from the first to the last of these numbers. None answers a request.
     CombinesInVain(u64, u64),
     /// Wins the object and answers the requests of these rows.
     Serves(u32, &'static [u32]),
     /// Wins the object and finds no request for it in this row.
     FindsNone(u32, u32),
     Polls(Got),
-    /// Makes a call on object 0.
+    /// Polls, and the answer is this value.
+    Gets(i64),
+    /// Polls, and the answer is this value, or that the object refused the call.
+    MayGet(i64),
+    /// Makes a call.
     Calls(AnyOp, Got),
-    /// Makes no call on object 0, since its quota is used.
+    /// Makes no call, since its quota is used.
     IsSpent(AnyOp),
     /// Has a call outstanding, or not.
     Waits(bool),
-    /// Wins object 0, and holds it while this client combines, which finds it busy.
+    /// Waits for the answer of the call that is outstanding.
+    WaitsFor(Got),
+    /// Wins the object and reserves more room than there can be, and then some, which is there.
+    ReservesTooMuch,
+    /// Wins the object, and holds it while this client combines, which finds it busy.
     HoldsAgainst(u64),
-    /// Wins object 0, serves row 0, whose client is this one, and before the answer that one
+    /// Wins the object, serves row 0, whose client is this one, and before the answer that one
     /// retires.
     ServesAsItRetires(u64),
-    /// Wins object 0 and reserves more room than there can be, and then some, which is there.
-    ReservesTooMuch,
+    /// Both have seen the log then.
+    Meets(u64),
+    /// This client retires, and leaves word with it.
+    SeesOut(u64),
     Retires,
-    /// Retires, and leaves word with this client.
-    RetiresBefore(u64),
+    /// Cannot close the desk, since this client has not retired.
+    ClosesTooEarly(u32),
 }
 
 /// The number of a client, and a step of it.
@@ -102,31 +97,6 @@ pub(crate) fn serve_row(
     }
 }
 
-/// Picks up the request of the row, retires its client, and only then answers the request.
-fn serve_late(
-    desk: &Desk<Refusing>,
-    pass: Pass<Refusing>,
-    row: u32,
-    retiring: Client<Refusing>,
-) -> (Pass<Refusing>, bool)
-    requires desk { pass.desk ≡ desk.now.id }
-    requires retiring { retiring.desk ≡ desk.now.id }
-    requires row { row < 32 }
-    ensures { result.0.desk ≡ pass.desk }
-{
-    match pass.pick(desk, row) {
-        Picked::Got(hand) => {
-            let _ = desk.retire(retiring);
-            if hand.possible() {
-                (hand.answer(desk).0, true)
-            } else {
-                (hand.put_back(desk), false)
-            }
-        }
-        Picked::Not(pass) => (pass, false),
-    }
-}
-
 /// Answers the requests of these rows, and counts them.
 fn serve_rows(desk: &Desk<Refusing>, pass: Pass<Refusing>, rows: &[u32]) -> (Pass<Refusing>, usize)
     requires desk { pass.desk ≡ desk.now.id }
@@ -142,217 +112,288 @@ fn serve_rows(desk: &Desk<Refusing>, pass: Pass<Refusing>, rows: &[u32]) -> (Pas
     (pass, count)
 }
 
-// Each of these answers whether the step found what it is to find.
+/// Takes a step that needs no object. True if it found what it is to find, here as below.
+fn takes(desk: &Desk<Refusing>, client: &mut Client<Refusing>, object: u32, step: Step) -> bool
+    requires client { client.old.desk ≡ desk.now.id }
+    requires object { object < length desk.now.id.kinds }
+    ensures { client.new.desk ≡ client.old.desk }
+{
+    match step {
+        Step::IsNumber(number) => client.number() == number,
+        Step::Posts(object, op) => desk.post(client, object, op).is_ok(),
+        Step::IsRefused(object, op, why) => desk.post(client, object, op).err() == Some(why),
+        Step::Enlists(wanted) => desk.enlist(client, object) == wanted,
+        Step::Polls(got) => desk.poll(client) == got,
+        Step::Gets(v) => desk.poll(client) == value(v),
+        Step::MayGet(v) => {
+            let got = desk.poll(client);
+            got == value(v) || got == REFUSED
+        }
+        Step::Waits(waits) => client.outstanding() == waits,
+        _ => false,
+    }
+}
+
+/// Takes a step with the object in its hands.
+fn holds(desk: &Desk<Refusing>, pass: Pass<Refusing>, step: Step) -> (Pass<Refusing>, bool)
+    requires { pass.desk ≡ desk.now.id }
+    ensures { result.0.desk ≡ pass.desk }
+{
+    match step {
+        Step::Serves(_, rows) => {
+            let (pass, count) = serve_rows(desk, pass, rows);
+            (pass, count == rows.len())
+        }
+        Step::FindsNone(_, row) => {
+            let (pass, served) = serve_row(desk, pass, row);
+            (pass, !served)
+        }
+        _ => {
+            let mut pass = pass;
+            let too_much = pass.reserve(usize::MAX).is_err();
+            let some = pass.reserve(3).is_ok() && pass.room() >= 3;
+            (pass, too_much && some)
+        }
+    }
+}
+
+/// Takes a step of one client.
+fn alone<R: Wait>(
+    rt: &R,
+    desk: &Desk<Refusing>,
+    client: Client<Refusing>,
+    object: u32,
+    step: Step,
+) -> (Client<Refusing>, bool)
+    requires client { client.desk ≡ desk.now.id }
+    requires object { object < length desk.now.id.kinds }
+    ensures { result.0.desk ≡ client.desk }
+{
+    match step {
+        Step::Combines(pass, count) => {
+            let (client, combined) = combine(desk, client, object);
+            (client, combined == Combined::Served { pass, count })
+        }
+        Step::LacksMemory => {
+            let (client, combined) = combine(desk, client, object);
+            (client, combined == Combined::NoMemory)
+        }
+        Step::Calls(op, got) => {
+            let (client, called) = call(rt, desk, client, object, op);
+            (client, called.ok() == got)
+        }
+        Step::IsSpent(op) => {
+            let (client, called) = call(rt, desk, client, object, op);
+            (client, called == Err(CallFault::Post(Post::Spent)))
+        }
+        Step::WaitsFor(got) => {
+            let (client, waited) = wait_for(rt, desk, client, object);
+            (client, waited.ok() == got)
+        }
+        Step::Serves(..) | Step::FindsNone(..) | Step::ReservesTooMuch => {
+            match desk.win(client, object) {
+                Win::Held(client) => (client, false),
+                Win::Won(pass) => {
+                    let (pass, found) = holds(desk, pass, step);
+                    (pass.release(desk), found)
+                }
+            }
+        }
+        _ => {
+            let mut client = client;
+            let found = takes(desk, &mut client, object, step);
+            (client, found)
+        }
+    }
+}
+
+/// Holds the object while the other client combines, which finds it busy.
+fn hold_against(
+    desk: &Desk<Refusing>,
+    client: Client<Refusing>,
+    other: Client<Refusing>,
+    object: u32,
+) -> (Client<Refusing>, Client<Refusing>, bool)
+    requires client { client.desk ≡ desk.now.id }
+    requires other { other.desk ≡ desk.now.id }
+    requires object { object < length desk.now.id.kinds }
+    ensures client { result.0.desk ≡ client.desk }
+    ensures other { result.1.desk ≡ other.desk }
+{
+    match desk.win(client, object) {
+        Win::Held(client) => (client, other, false),
+        Win::Won(pass) => {
+            let (other, combined) = combine(desk, other, object);
+            (pass.release(desk), other, combined == Combined::Busy)
+        }
+    }
+}
+
+/// Picks up the request of row 0, retires its client, and only then answers the request.
+fn serve_late(
+    desk: &Desk<Refusing>,
+    client: Client<Refusing>,
+    retiring: Client<Refusing>,
+    object: u32,
+) -> (Client<Refusing>, bool)
+    requires client { client.desk ≡ desk.now.id }
+    requires retiring { retiring.desk ≡ desk.now.id }
+    requires object { object < length desk.now.id.kinds }
+    ensures { result.0.desk ≡ client.desk }
+{
+    match desk.win(client, object) {
+        Win::Held(client) => (client, false),
+        Win::Won(pass) => match pass.pick(desk, 0) {
+            Picked::Got(hand) => {
+                let _ = desk.retire(retiring);
+                if hand.possible() {
+                    (hand.answer(desk).0.release(desk), true)
+                } else {
+                    (hand.put_back(desk).release(desk), false)
+                }
+            }
+            Picked::Not(pass) => (pass.release(desk), false),
+        },
+    }
+}
+
+/// Takes a step of two clients. The other one comes back if it has not retired.
+fn beside(
+    desk: &Desk<Refusing>,
+    client: Client<Refusing>,
+    other: Client<Refusing>,
+    object: u32,
+    step: Step,
+) -> (Client<Refusing>, Option<Client<Refusing>>, bool)
+    requires client { client.desk ≡ desk.now.id }
+    requires other { other.desk ≡ desk.now.id }
+    requires object { object < length desk.now.id.kinds }
+    ensures client { result.0.desk ≡ client.desk }
+    ensures other { IfSome result.1 (λ c. c.desk ≡ other.desk) }
+{
+    match step {
+        Step::HoldsAgainst(_) => {
+            let (client, other, found) = hold_against(desk, client, other, object);
+            (client, Some(other), found)
+        }
+        Step::ServesAsItRetires(_) => {
+            let (client, found) = serve_late(desk, client, other, object);
+            (client, None, found)
+        }
+        Step::Meets(_) => {
+            let (client, other) = desk.meet(client, other, object);
+            (client, Some(other), true)
+        }
+        _ => {
+            let mut client = client;
+            desk.tell(&mut client, desk.retire(other));
+            (client, None, true)
+        }
+    }
+}
+
 impl Bench {
-    /// Why the call may not be posted; nothing if it is posted.
-    fn post(&mut self, number: u64, object: u32, op: AnyOp) -> Result<Option<Post>, Fail> {
-        let Some(mut client) = self.take(number) else {
-            return Err(Fail::new("no client is left to post"));
-        };
-        let posted = self.desk.post(&mut client, object, op);
-        self.seat(number, client)?;
-        Ok(posted.err())
-    }
-
-    fn enlist(&mut self, number: u64, wanted: Enlist) -> Result<bool, Fail> {
-        let Some(mut client) = self.take(number) else {
-            return Err(Fail::new("no client is left to enlist"));
-        };
-        if self.desk.objects() == 0 {
-            return Err(Fail::new("there is no object"));
-        }
-        let enlisted = self.desk.enlist(&mut client, 0);
-        self.seat(number, client)?;
-        Ok(enlisted == wanted)
-    }
-
-    pub(crate) fn combine(&mut self, number: u64) -> Result<Combined, Fail> {
-        let Some(client) = self.take(number) else {
-            return Err(Fail::new("no client is left to combine"));
-        };
-        if self.desk.objects() == 0 {
-            return Err(Fail::new("there is no object"));
-        }
-        let (client, combined) = combine(&self.desk, client, 0);
-        self.seat(number, client)?;
-        Ok(combined)
-    }
-
-    fn combine_in_vain(&mut self, number: u64, first: u64, last: u64) -> Result<bool, Fail> {
-        for pass in first..last.saturating_add(1) {
-            if self.combine(number)? != (Combined::Served { pass, count: 0 }) {
-                return Ok(false);
-            }
-        }
-        Ok(true)
-    }
-
-    /// How many requests it answers; None if another client holds the object.
-    fn serve(&mut self, number: u64, object: u32, rows: &[u32]) -> Result<Option<usize>, Fail> {
-        let Some(client) = self.take(number) else {
-            return Err(Fail::new("no client is left to serve"));
-        };
+    /// The client and the other one take a step of two clients.
+    fn pair(&mut self, object: u32, number: u64, other: u64, step: Step) -> bool {
         if object >= self.desk.objects() {
-            return Err(Fail::new("there is no such object"));
+            return false;
         }
-        let (client, served) = match self.desk.win(client, object) {
-            Win::Held(client) => (client, None),
-            Win::Won(pass) => {
-                let (pass, count) = serve_rows(&self.desk, pass, rows);
-                (pass.release(&self.desk), Some(count))
-            }
+        let Some(second) = self.take(other) else {
+            return false;
         };
-        self.seat(number, client)?;
-        Ok(served)
-    }
-
-    pub(crate) fn poll(&mut self, number: u64) -> Result<Got, Fail> {
-        let Some(mut client) = self.take(number) else {
-            return Err(Fail::new("no client is left to poll"));
-        };
-        let answer = self.desk.poll(&mut client);
-        self.seat(number, client)?;
-        Ok(Got::of(answer))
-    }
-
-    pub(crate) fn call<R: Wait>(
-        &mut self,
-        rt: &R,
-        number: u64,
-        op: AnyOp,
-    ) -> Result<Result<Got, CallFault>, Fail> {
         let Some(client) = self.take(number) else {
-            return Err(Fail::new("no client is left to call"));
+            self.seat(other, second);
+            return false;
         };
-        let (client, called) = call(rt, &self.desk, client, 0, op);
-        self.seat(number, client)?;
-        Ok(got_of(called))
+        let (client, second, found) = beside(&self.desk, client, second, object, step);
+        self.seat(number, client);
+        if let Some(second) = second {
+            self.seat(other, second);
+        }
+        found
     }
 
-    pub(crate) fn is_waiting(&mut self, number: u64) -> Result<bool, Fail> {
+    /// Takes the step on this object. True if it found what it is to find.
+    pub(crate) fn step_on<R: Wait>(&mut self, rt: &R, object: u32, turn: &Turn) -> bool {
+        let (number, step) = *turn;
+        match step {
+            Step::HoldsAgainst(other)
+            | Step::ServesAsItRetires(other)
+            | Step::Meets(other)
+            | Step::SeesOut(other) => return self.pair(object, number, other, step),
+            Step::Retires => return self.retire(number),
+            _ => {}
+        }
+        if object >= self.desk.objects() {
+            return false;
+        }
         let Some(client) = self.take(number) else {
-            return Err(Fail::new("no client is left to wait"));
+            return false;
         };
-        let waits = client.outstanding();
-        self.seat(number, client)?;
-        Ok(waits)
+        let (client, found) = alone(rt, &self.desk, client, object, step);
+        self.seat(number, client);
+        found
     }
 
-    fn hold_against(&mut self, number: u64, other: u64) -> Result<bool, Fail> {
-        let (Some(holder), Some(one)) = (self.take(number), self.take(other)) else {
-            return Err(Fail::new("a client is not there"));
-        };
-        if self.desk.objects() == 0 {
-            return Err(Fail::new("there is no object"));
-        }
-        let (holder, one, is_busy) = match self.desk.win(holder, 0) {
-            Win::Held(holder) => (holder, one, false),
-            Win::Won(pass) => {
-                let (one, combined) = combine(&self.desk, one, 0);
-                let is_busy = combined == Combined::Busy;
-                (pass.release(&self.desk), one, is_busy)
-            }
-        };
-        self.seat(number, holder)?;
-        self.seat(other, one)?;
-        Ok(is_busy)
-    }
-
-    fn serve_as_it_retires(&mut self, number: u64, other: u64) -> Result<bool, Fail> {
-        let (Some(one), Some(retiring)) = (self.take(number), self.take(other)) else {
-            return Err(Fail::new("a client is not there"));
-        };
-        if self.desk.objects() == 0 {
-            return Err(Fail::new("there is no object"));
-        }
-        let (one, served) = match self.desk.win(one, 0) {
-            Win::Held(one) => (one, false),
-            Win::Won(pass) => {
-                let (pass, served) = serve_late(&self.desk, pass, 0, retiring);
-                (pass.release(&self.desk), served)
-            }
-        };
-        self.seat(number, one)?;
-        Ok(served)
-    }
-
-    fn reserve_too_much(&mut self, number: u64) -> Result<bool, Fail> {
-        let Some(client) = self.take(number) else {
-            return Err(Fail::new("no client is left to reserve"));
-        };
-        if self.desk.objects() == 0 {
-            return Err(Fail::new("there is no object"));
-        }
-        let (client, reserved) = match self.desk.win(client, 0) {
-            Win::Held(client) => (client, false),
-            Win::Won(mut pass) => {
-                let too_much = pass.reserve(usize::MAX).is_err();
-                let some = pass.reserve(3).is_ok() && pass.room() >= 3;
-                (pass.release(&self.desk), too_much && some)
-            }
-        };
-        self.seat(number, client)?;
-        Ok(reserved)
-    }
-
-    fn retire(&mut self, number: u64) -> bool {
+    pub(crate) fn retire(&mut self, number: u64) -> bool {
         match self.take(number) {
+            None => false,
             Some(client) => {
                 let _ = self.desk.retire(client);
                 true
             }
-            None => false,
         }
     }
 
-    fn retire_before(&mut self, number: u64, other: u64) -> Result<bool, Fail> {
-        let (Some(client), Some(mut told)) = (self.take(number), self.take(other)) else {
-            return Ok(false);
-        };
-        let retired = self.desk.retire(client);
-        self.desk.tell(&mut told, retired);
-        self.seat(other, told)?;
-        Ok(true)
+    /// Takes the step on its object, or on object 0. True if it found what it is to find.
+    pub(crate) fn step<R: Wait>(&mut self, rt: &R, turn: &Turn) -> bool {
+        match turn.1 {
+            Step::Serves(object, _) | Step::FindsNone(object, _) => self.step_on(rt, object, turn),
+            Step::CombinesInVain(first, last) => self.combine_in_vain(rt, turn.0, first, last),
+            _ => self.step_on(rt, 0, turn),
+        }
     }
 
-    /// Takes the step. True if it found what it is to find.
-    pub(crate) fn step<R: Wait>(&mut self, rt: &R, turn: &Turn) -> Result<bool, Fail> {
-        let (number, step) = *turn;
-        Ok(match step {
-            Step::Posts(object, op) => self.post(number, object, op)?.is_none(),
-            Step::IsRefused(object, op, why) => self.post(number, object, op)? == Some(why),
-            Step::Enlists(wanted) => self.enlist(number, wanted)?,
-            Step::Combines(pass, count) => {
-                self.combine(number)? == Combined::Served { pass, count }
+    /// Takes the step. None if it did not find what it is to find.
+    fn turn<R: Wait>(mut self, rt: &R, turn: &Turn) -> Option<Bench> {
+        if let Step::ClosesTooEarly(wanted) = turn.1 {
+            return match self.close(turn.0) {
+                Closing::Unretired(bench, client) if client == wanted => Some(bench),
+                _ => None,
+            };
+        }
+        if self.step(rt, turn) {
+            Some(self)
+        } else {
+            None
+        }
+    }
+
+    fn combine_in_vain<R: Wait>(&mut self, rt: &R, number: u64, first: u64, last: u64) -> bool {
+        for pass in first..last.saturating_add(1) {
+            if !self.step_on(rt, 0, &(number, Step::Combines(pass, 0))) {
+                return false;
             }
-            Step::CombinesInVain(first, last) => self.combine_in_vain(number, first, last)?,
-            Step::Serves(object, rows) => self.serve(number, object, rows)? == Some(rows.len()),
-            Step::FindsNone(object, row) => self.serve(number, object, &[row])? == Some(0),
-            Step::Polls(got) => self.poll(number)? == got,
-            Step::Calls(op, got) => self.call(rt, number, op)? == Ok(got),
-            Step::IsSpent(op) => { self.call(rt, number, op)? == Err(CallFault::Post(Post::Spent)) }
-            Step::Waits(waits) => self.is_waiting(number)? == waits,
-            Step::HoldsAgainst(other) => self.hold_against(number, other)?,
-            Step::ServesAsItRetires(other) => self.serve_as_it_retires(number, other)?,
-            Step::ReservesTooMuch => self.reserve_too_much(number)?,
-            Step::Retires => self.retire(number),
-            Step::RetiresBefore(other) => self.retire_before(number, other)?,
-        })
+        }
+        true
     }
 }
 
 /// Takes the steps, each of which finds what it is to find.
 pub(crate) fn take_turns<R: Wait + Abort>(
     rt: &R,
-    bench: &mut Bench,
+    bench: Bench,
     turns: &[Turn],
     name: &str,
-) -> Result<(), Fail> {
+) -> Bench {
+    let mut bench = bench;
     for (k, turn) in turns.iter().enumerate() {
-        let found = bench.step(rt, turn)?;
-        assert!(rt; found, "{name}: step {k}");
+        match bench.turn(rt, turn) {
+            Some(after) => bench = after,
+            None => panic!(rt; "{name}: step {k}"),
+        }
     }
-    Ok(())
+    bench
 }
 
 /// A list of steps on a new desk, and its result.
@@ -365,33 +406,16 @@ pub(crate) struct Play {
     pub(crate) end: Option<(u64, &'static str)>,
 }
 
-/// The client with this number closes the desk. The record's history, certificates and verdict are
-/// these lines.
-pub(crate) fn closes<R: AllocGlobal + Abort>(
-    rt: &R,
-    bench: Bench,
-    number: u64,
-    lines: &str,
-    name: &str,
-) -> Result<(), Fail> {
-    match bench.close(number)? {
-        Closing::Closed(record) => says(rt, &record, lines, name),
-        Closing::Unretired(_, client) => panic!(rt; "{name}: client {client} has not retired"),
-        Closing::NoClient => panic!(rt; "{name}: client {number} is not there"),
-    }
-    Ok(())
-}
-
 /// Plays each, and looks whether it goes as it says.
-pub(crate) fn check_plays<R: AllocGlobal + Wait + Abort>(
-    rt: &R,
-    plays: &[Play],
-) -> Result<(), Fail> {
+fn check_plays<R: AllocGlobal + Wait + Abort>(rt: &R, plays: &[Play]) -> Result<(), Fail> {
     for it in plays {
-        let mut bench = Bench::new(rt.alloc(), &it.setup)?;
-        take_turns(rt, &mut bench, it.turns, it.name)?;
+        let bench = Bench::new(rt.alloc(), &it.setup)?;
+        assert!(rt; bench.desk.clients() == it.setup.clients);
+        assert!(rt; bench.desk.objects() as usize == it.setup.kinds.len());
+        let bench = take_turns(rt, bench, it.turns, it.name);
         if let Some((number, lines)) = it.end {
-            closes(rt, bench, number, lines, it.name)?;
+            let closing = bench.close(number);
+            assert!(rt; has_lines(rt.alloc(), &closing, lines), "{}", it.name);
         }
     }
     Ok(())
