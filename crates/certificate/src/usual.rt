@@ -10,7 +10,7 @@ use edn::{after, after_line_feed, integer_at, natural_at};
 use edn_fields::object;
 use std::alloc::{AllocError, Global};
 
-/// After a space, if the text begins with one.
+/// The text without the space that it begins with, if it begins with one.
 #[inline(always)]
 fn after_space(text: &[u8]) -> &[u8]
     ensures { (text.entry.now ≡ result.now) ⊎ (text.entry.now ≡ 32 ∷ result.now) }

@@ -36,8 +36,8 @@ fn draw_calls(
     Ok(calls)
 }
 
-/// This many pairs of calls on objects of one kind: each takes one that was drawn, and frees it.
-/// Both draw their numbers.
+/// This many pairs of calls on objects of one kind. Each pair takes an object that was drawn, and
+/// frees it. Both calls draw four numbers, so that the stream goes on as for other kinds.
 fn draw_pairs(
     alloc: Global,
     take: AnyOp,

@@ -58,7 +58,8 @@ fn make_all<R: Wait, G: Gate>(
     client
 }
 
-/// Makes one call, which `post` cannot refuse. Whether it is over: if not, it is outstanding.
+/// Makes one call, which `post` cannot refuse. Returns whether the call is over: if not, it is
+/// outstanding.
 fn make<R: Wait>(
     rt: &R,
     desk: &Desk<AnyObject>,

@@ -52,7 +52,7 @@ pub fn call<S: SeqObject, R: Wait>(
 
 /// Polls, enlists the row and combines until the outstanding call is answered, or an allocation
 /// fails in a pass of its own. There is a yield after each try, also after a pass that served the
-/// call.
+/// call. The contract does not say at which object it combines.
 pub fn wait_for<S: SeqObject, R: Wait>(
     rt: &R,
     desk: &Desk<S>,
@@ -78,8 +78,8 @@ pub fn wait_for<S: SeqObject, R: Wait>(
         client = after;
         match combined {
             Combined::NoMemory => return (client, Err(AllocError)),
-            // Something was answered, its own call too unless it was put back: the next yields are
-            // short ones.
+            // The pass answered a request: this client's own, unless that was put back. So the next
+            // yields are short.
             Combined::Served { count, .. } if count > 0 => backoff.reset(),
             _ => {}
         }

@@ -52,45 +52,49 @@ pub type CommandRow = (
     &'static [OptionRow],
 );
 
+/// The values of `--workers`.
 pub const WORKERS: Bounds = Bounds {
     least: 1,
     most: 16,
     default: 1,
 };
 
-/// The most steps of a search.
+/// The values of `--steps`.
 pub const STEPS: Bounds = Bounds {
     least: 0,
     most: 1_000_000_000,
     default: 1_000_000,
 };
 
+/// The values of `--objects`.
 pub const OBJECTS: Bounds = Bounds {
     least: 1,
     most: 16,
     default: 1,
 };
 
+/// The values of `--clients`.
 pub const CLIENTS: Bounds = Bounds {
     least: 1,
     most: 32,
     default: 2,
 };
 
-/// The calls of each client.
+/// The values of `--calls`: how many calls each client makes.
 pub const CALLS: Bounds = Bounds {
     least: 0,
     most: 10_000,
     default: 100,
 };
 
+/// The values of `--seed`.
 pub const SEED: Bounds = Bounds {
     least: 0,
     most: 18_446_744_073_709_551_615,
     default: 0,
 };
 
-/// The shards that a history is divided into.
+/// The values of `--shards`.
 pub const SHARDS: Bounds = Bounds {
     least: 1,
     most: 10_000,

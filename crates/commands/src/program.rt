@@ -53,8 +53,8 @@ pub fn perform<R: Threads + Wait + Sync, S: Sink>(
         (S.sent sink.old) result (S.sent sink.new) (S.broken sink.new) }
 {
     match line {
-        // The program never takes this branch: it checks and verifies by `perform_over`. This is
-        // for a caller that has both texts in memory.
+        // The program does `Check` and `Verify` by `perform_over`. These two branches are for a
+        // caller that has both texts in memory.
         Line::Check { workers, .. } => check_bytes(rt, alloc, first, second, *workers, sink),
         Line::Search {
             steps,
@@ -62,8 +62,8 @@ pub fn perform<R: Threads + Wait + Sync, S: Sink>(
             ..
         } => write_output(search(alloc, first, *steps, *try_first), sink),
         Line::Refute { steps, .. } => write_output(refute(alloc, first, second, *steps), sink),
-        // Without the workers: the library for C, which may start no thread, calls this `verify`
-        // too.
+        // Without the workers: the library for C, which may start no thread, also calls this
+        // `verify`.
         Line::Verify { steps, .. } => write_output(verify(alloc, first, second, *steps), sink),
         Line::Run(options) => write_output(run(rt, alloc, *options), sink),
         Line::Simulate { .. } => write_output(play(alloc, first), sink),

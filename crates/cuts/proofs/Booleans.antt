@@ -14,7 +14,7 @@ use Rattle.std.proofs.lemmas.Bool.Decides.{nat_tests}
 pub false_is_not_true : false ≡ true → ⊥
 false_is_not_true e = absurd (cc e)
 
--- a test holds or not
+-- a test is true or false
 pub true_or_false : (b : Bool) → (b ≡ true) ⊎ (b ≡ false)
 true_or_false true = inl refl
 true_or_false false = inr refl
@@ -32,17 +32,17 @@ less_by_test a b e = grind (arith, nat_tests)
 pub same_by_test : (v a : ℤ) → int_eq v a ≡ true → v ≡ a
 same_by_test v a e = grind (arith, ints)
 
--- what holds of each step, as a fact of the step
+-- what holds of the value of an option, if it has one
 pub some_at : {T : Type 0} (P : T → Type 0) (o : Option T) → ((p : T) → o ≡ Some p → P p) → IfSome o P
 some_at P None f = tt
 some_at P (Some p) f = f p refl
 
--- what all elements pass each of them passes
+-- if a list passes a test, each element passes it
 pub passes_all : {X : Type 0} (p : X → Bool) (xs : List X) → list_all p xs ≡ true → (x : X) → In x xs → p x ≡ true
 passes_all p [] h x i = absurd i
 passes_all p (y ∷ ys) h x i = grind (arith, passes_all p ys)
 
--- what each element passes all pass
+-- if each element passes a test, the list passes it
 pub all_passes : {X : Type 0} (p : X → Bool) (xs : List X) → ((x : X) → In x xs → p x ≡ true) → list_all p xs ≡ true
 all_passes p [] f = refl
 all_passes p (x ∷ xs) f = ap (λ b. b && list_all p xs) (f x (inl refl)) ∙ all_passes p xs (λ y i. f y (inr i))

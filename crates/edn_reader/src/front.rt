@@ -18,7 +18,7 @@ pub fn after<'a, const N: usize>(text: &'a [u8], bytes: &[u8; N]) -> Option<&'a 
     if front == bytes { Some(rest) } else { None }
 }
 
-/// After a line feed, if the text begins with one.
+/// The text without the line feed that it begins with, if it begins with one.
 #[inline(always)]
 pub fn after_line_feed(text: &[u8]) -> &[u8]
     ensures { (text.entry.now ≡ result.now) ⊎ (text.entry.now ≡ 10 ∷ result.now) }
@@ -56,13 +56,14 @@ pub fn integer_at(text: &[u8]) -> Option<(i64, &[u8])>
     }
 }
 
-/// The same, as a number that is not negative.
+/// As `integer_at`, for a number that is not negative.
 #[inline(always)]
 pub fn natural_at(text: &[u8]) -> Option<(u64, &[u8])>
     ensures { IfSome result (λ x.
         BeginWith (leaf (atom (integer (pos x.0))) ∷ []) text.entry.now x.1.now) }
 {
     let (number, rest) = integer_at(text)?;
+    // Never so: the text has no sign. This is for the contract alone.
     if number < 0 {
         return None;
     }

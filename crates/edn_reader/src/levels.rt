@@ -94,7 +94,7 @@ impl<'a> Keys<'a> {
     ghost use Rattle.edn_reader.specs.Results.{Becomes};
     ghost use Rattle.edn_reader.specs.Levels.{keys_shape};
 
-    /// No keys. What the room holds is let go.
+    /// No keys yet. `room` is emptied, and its memory is used again.
     fn new(mut room: Vec<&'a str>) -> Keys<'a>
         ensures { keys_shape result ≡ spec.a_map false [] }
     {

@@ -16,7 +16,7 @@ fn is_decimal(digits: &[u8]) -> bool
     }
 }
 
-/// The value of digits, if it is at most so much.
+/// The value of digits, if it is at most `most`.
 #[tactic(auto, using(crate::proofs::Words::value_after_above))]
 fn value_within(digits: &[u8], most: u64) -> Option<u64>
     requires below { most < 2 ^ 64 }

@@ -6,7 +6,7 @@ ghost use Rattle.embedding.specs.Steps as spec;
 /// Means the program's default: `FCBENCH_STEPS` of the header.
 const PROGRAM_STEPS: u32 = u32::MAX;
 
-/// How many steps a search takes then.
+/// The program's default, the default of `STEPS` of the crate `command_line`.
 const DEFAULT_STEPS: u32 = 1_000_000;
 
 /// The steps of a search.

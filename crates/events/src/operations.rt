@@ -33,7 +33,7 @@ impl End {
         matches!(self, End::Returned { .. })
     }
 
-    /// Whether it returned, and another reply than this.
+    /// Whether it returned with another reply than `gives`.
     pub fn differs(&self, gives: AnyReply) -> bool
         ensures { MatchBool result (ReplyDiffers (return_of self.now) gives)
             (Agrees (return_of self.now) gives) }

@@ -55,10 +55,12 @@ fn report_failed<R: Print + Eprint>(
     Ok(Status::Failed.number())
 }
 
+/// Says that the file could not be read, or that an allocation failed.
 fn report_unreadable<R: Print + Eprint>(rt: &R, name: &str, lacks_memory: bool) -> io::Result<u8> {
     report_failed(rt, "read", name, lacks_memory)
 }
 
+/// Says that the file could not be written, or that an allocation failed.
 fn report_unwritten<R: Print + Eprint>(rt: &R, name: &str, lacks_memory: bool) -> io::Result<u8> {
     report_failed(rt, "write", name, lacks_memory)
 }
@@ -250,8 +252,8 @@ fn watch<R: Eprint + Clock>(rt: &R, is_done: &AtomicBool) {
     let _ = rt.eprintln("fcbench: under way");
 }
 
-/// Does the command. If standard error is a terminal, a second thread says after a second that it
-/// runs.
+/// Does the work and returns its status. If `may_watch`, a second thread says after a second that
+/// it is under way.
 fn watched<R: Host, F: FnOnce() -> u8 + Send>(rt: &R, may_watch: bool, work: F) -> u8
     requires { F.IsAlwaysCallable work }
 {

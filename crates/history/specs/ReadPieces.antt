@@ -22,7 +22,7 @@ use Rattle.history.specs.Views.{map_type}
 abbrev pub kept_after : {V : Type 0} → (ℕ → Option V) → (ℕ → Option V) → ℕ → Option V
 kept_after before own k = option_or (own k) (before k)
 
--- the process of this map may do what the map says, if so much is kept of each process
+-- the process of this map may do what the map says, by what is kept of each process
 abbrev pub IsAllowed : (ℕ → Option Process) → FirstMap → Type 0
 IsAllowed processes m =
     IsProcessFault (processes m.process) (map_type m.map_type) m.function m.object None

@@ -1,7 +1,6 @@
 //! The commands on a history that start no thread: they search for certificates, verify the history
 //! by claims, check reasons why it is not linearizable, or merge what is found of its shards. A
-//! command makes an `Output`, of its status and its lines. It also has the text of certificates as
-//! comments.
+//! command makes an `Output`: a status and lines. The crate also writes certificates as comments.
 #![tactic(auto)]
 
 mod answers;

@@ -15,13 +15,13 @@ pub enum Status {
     No,
     /// A text other than evidence is malformed, or a client of a schedule has not ended.
     Malformed,
-    /// Some object stays open, nothing is shown, the evidence is malformed, or a shard is too
-    /// large.
+    /// Some object stays open, no reason holds, the evidence is malformed, a shard is too large, or
+    /// more shards are needed.
     Undecided,
     OutOfMemory,
     /// A thread could not be started.
     NoThread,
-    /// The output failed, or a file could not be read.
+    /// The output failed, or a file could not be read or written.
     Failed,
     /// The command line is refused.
     Usage,

@@ -69,6 +69,6 @@ pub enum AnyReply {
     /// A compare-and-set that took place, with its two values.
     Swapped(i64, i64),
     NotSwapped,
-    /// Whether it was so, or took place.
+    /// The answer of a test, or whether a conditional change took place.
     Flag(bool),
 }

@@ -1,4 +1,5 @@
--- A client over a whole post, and over a whole poll: m before, and one seat after each step.
+-- What a client knows over a whole post, and over a whole poll. `m` is its seat before; there is one seat after each
+-- step.
 use Rattle.std.proofs.Common.{◌≡◌, ⊎_elim, inl, ℕ, ◌+◌, ◌<◌, ◌≤◌, Bool, true, false, List, [], ◌∷◌, ◌++◌, map, length}
 use Rattle.std.proofs.Common.{length-append, All, Option, Some, None, vec_len, vec_capacity, arith, refl, sym, ap}
 use Rattle.std.proofs.Common.{subst, ◌∙◌, get_or-set_same, length-set, append-nil}

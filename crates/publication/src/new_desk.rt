@@ -40,7 +40,7 @@ fn kinds_of<S: SeqObject>(alloc: Global, objects: &[S]) -> Result<Vec<Kind>, All
     Ok(kinds)
 }
 
-/// For each client no place yet, and room for one in the list of each object that there may be.
+/// An empty list of places for each client, with room for one place for each object.
 fn no_places(alloc: Global, clients: u32) -> Result<Vec<Vec<SharedPlace>>, AllocError>
     ensures { IfOk result (λ v. AreDealt 0 clients [] v.items) }
 {
@@ -102,7 +102,7 @@ fn cores<S: SeqObject>(
     Ok(slots)
 }
 
-/// All slots: after the objects there is nothing.
+/// All slots of the table: the cores of the objects, and then empty ones.
 fn lay<S: SeqObject>(
     alloc: Global,
     objects: Vec<S>,
@@ -160,7 +160,7 @@ fn journals<O: Drop, R: Drop>(
     Ok(journals)
 }
 
-/// What a client keeps itself, before its first call.
+/// What a client itself has before its first call.
 fn keep<O: Drop, R: Drop>(
     alloc: Global,
     journal: Journal<O, R>,

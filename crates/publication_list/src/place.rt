@@ -29,7 +29,7 @@ impl Model for Place {
     ghost invariant = { λ p. IsRowPlace p.row p.trying (tries_of p.seat.me.0) p.seat.me };
 }
 
-/// Wakes the row, if it is asleep. Whether it was.
+/// Wakes the row if it is asleep, and returns whether it was.
 pub(crate) fn wake(shared: &Words, seat: &mut Chair, row: u32) -> bool
     requires table { (seat.old.table_id ≡ shared.now.table_id)
         × (shared.now.table_id.words ≡ list_words) }

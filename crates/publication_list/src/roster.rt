@@ -83,8 +83,9 @@ impl Roster {
         Ok((Roster { table, rows }, places, walker))
     }
 
-    /// Tries once to put the row in front of the list, if it is not active. A try is an atomic
-    /// step, or some, and only such a step adds one to those of the place.
+    /// Tries once to put the row in front of the list, unless it is active. The place then knows
+    /// the result of this try (`tries`). Only an atomic step can add one, so a body without a step
+    /// does not meet the clause.
     pub fn enlist(&self, place: &mut Place) -> Enlist
         requires { place.old.roster ≡ self.now.id }
         ensures { place.new ≡ record place.old { tries = place.old.tries ++ result ∷ [] } }

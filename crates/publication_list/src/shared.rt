@@ -46,7 +46,7 @@ impl Model for SharedPlace {
 }
 
 impl SharedPlace {
-    /// `Roster::enlist` of its roster.
+    /// Calls `Roster::enlist` on the place's own roster.
     pub fn enlist(&mut self) -> Enlist
         ensures { self.new ≡ record self.old { tries = self.old.tries ++ result ∷ [] } }
     {
@@ -74,7 +74,7 @@ impl Model for SharedWalker {
 }
 
 impl SharedWalker {
-    /// `Walker::rows`.
+    /// Returns the rows of the walker, as `Walker::rows` does.
     pub fn rows(&self) -> &[u32]
         ensures rows { result.now ≡ self.now.rows }
         ensures places { (k : ℕ) → k < length self.now.rows
@@ -85,7 +85,7 @@ impl SharedWalker {
         self.walker.rows()
     }
 
-    /// `Roster::walk` of its roster.
+    /// Calls `Roster::walk` on the walker's own roster.
     pub fn walk(&mut self)
         ensures same { (self.new.roster ≡ self.old.roster) × (self.new.places ≡ self.old.places) }
         ensures met { WalkMeets self.old.rows self.new.rows }
@@ -94,7 +94,7 @@ impl SharedWalker {
         self.roster.walk(&mut self.walker);
     }
 
-    /// `Roster::unlink` of its roster.
+    /// Calls `Roster::unlink` on the walker's own roster.
     pub fn unlink(&mut self, at: usize)
         requires { (1 ≤ at) × (at < length self.old.rows) }
         ensures { self.new ≡ record self.old { rows = remove self.old.rows at } }
@@ -104,8 +104,8 @@ impl SharedWalker {
 }
 
 impl Roster {
-    /// One more roster, in which each of these owners has the place of its row, after the places
-    /// that it has. After an error some owners may have one place more.
+    /// Makes a roster, and gives each owner the place of its row, after the places that it has.
+    /// After an error some owners may have one place more.
     pub fn deal(
         alloc: Global,
         owners: &mut Vec<Vec<SharedPlace>>,

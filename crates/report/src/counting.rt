@@ -74,8 +74,7 @@ fn push_invoked(all: &mut Vec<Invoked>, event: &Event, failed: bool) -> Result<(
     }
 }
 
-/// Whether the next event of the process says that an operation failed. One that is not kept has
-/// none.
+/// Whether the next event of the process, if it has one, says that its operation failed.
 fn is_failing(failing: &NumberMap<bool>, process: u64) -> bool
     ensures { result ≡ unwrap_or (value_of failing.now process) false }
 {

@@ -104,7 +104,7 @@ impl Reversible {
         }
     }
 
-    /// The digest after this step of the operation, which the object has just done.
+    /// The digest of the search after the object has done this operation. Nothing is promised of it.
     pub(crate) fn digest(&self, digest: Digest, op: &AnyOp, step: &Step) -> Digest {
         match self {
             Reversible::Queue(values) => Queues::digest(values, digest, op, step),

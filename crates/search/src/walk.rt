@@ -83,7 +83,8 @@ fn owed_before(left: usize, end: &End) -> usize
     if end.has_returned() { left + 1 } else { left }
 }
 
-/// How many operations a pair that is remembered lists, if it lists all that are to return.
+/// A pair that lists all operations that are still to return is remembered only if these are at
+/// most this many.
 const MOST_LISTED: usize = 4096;
 
 /// The state of a search: the order that has begun, and the place that is looked at next.
@@ -165,7 +166,7 @@ impl State {
     }
 
     /// Puts the operation, which was done, into the order, if that leads to no pair that is dead;
-    /// else undoes it. Whether the order is done.
+    /// else undoes it. Returns whether the order is done.
     fn go_on(&mut self, trials: &Trials, step: Step) -> Result<bool, AllocError>
         requires trials { AreTrials trials.now }
         requires search { IsSearchingAt trials.now self.old (content_before self.old step) }
@@ -216,7 +217,7 @@ impl State {
         Ok(false)
     }
 
-    /// Tries the operation that is looked at. Whether the order is done.
+    /// Tries the operation that is looked at. Returns whether the order is done.
     fn attempt(&mut self, trials: &Trials) -> Result<bool, AllocError>
         requires trials { AreTrials trials.now }
         requires search { IsSearching trials.now self.old }
@@ -260,7 +261,7 @@ impl State {
         }))
     }
 
-    /// Remembers that the pair is dead, and goes back to the level before. Whether there
+    /// Remembers that the pair is dead, and goes back to the level before. Returns whether there
     /// is one.
     fn come_back(&mut self, alloc: Global, trials: &Trials) -> Result<bool, AllocError>
         requires trials { AreTrials trials.now }

@@ -39,7 +39,7 @@ pub enum Function {
 }
 
 impl Function {
-    /// All of them, kind by kind.
+    /// All of them, in the order of the declaration.
     pub const ALL: [Function; 27] = [
         Function::Enqueue,
         Function::Dequeue,
