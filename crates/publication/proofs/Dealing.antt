@@ -8,7 +8,7 @@ use Rattle.std.specs.declared.vec.Vec.{Vec}
 use Rattle.std.proofs.lemmas.List.{map-append}
 use Rattle.atomic_table.specs.Seated.{TableId}
 use Rattle.atomic_table.proofs.Lists.{at_map}
-use Rattle.publication_list.specs.declared.board.Enlist.{Enlist}
+use Rattle.publication_list.specs.declared.list_table.Enlist.{Enlist}
 use Rattle.publication_list.specs.Calls.{PlaceSeen, WalkerSeen}
 use Rattle.publication_list.specs.Dealing.{AreGrown, HaveRoom}
 use Rattle.publication.specs.Handles.{trying, fresh_places, ArePlacesOf}

@@ -13,7 +13,7 @@ use Rattle.model.specs.Objects.{Content, kind_of}
 use Rattle.desk_model.specs.declared.Request.{Request}
 use Rattle.desk_model.specs.World.{AnyEntry, AnyRequest, kind_at, calls_made, IsLegalLog}
 use Rattle.desk_model.specs.Images.{request_in, entry_in, event_in}
-use Rattle.publication_list.specs.declared.board.Enlist.{Enlist}
+use Rattle.publication_list.specs.declared.list_table.Enlist.{Enlist}
 use Rattle.publication_list.specs.Calls.{PlaceSeen, WalkerSeen}
 use Rattle.desk_invariant.specs.declared.board.Core.{Core}
 use Rattle.desk_invariant.specs.declared.board.Journal.{Journal}
@@ -57,9 +57,9 @@ pub record Known : Type 0 where
 
 -- one try more at the place in the list of x
 abbrev pub trying : ℕ → Enlist → List PlaceSeen → List PlaceSeen
-trying x came_to [] = []
-trying zero came_to (p ∷ ps) = record p { tries = p.tries ++ came_to ∷ [] } ∷ ps
-trying (suc x) came_to (p ∷ ps) = p ∷ trying x came_to ps
+trying x result [] = []
+trying zero result (p ∷ ps) = record p { tries = p.tries ++ result ∷ [] } ∷ ps
+trying (suc x) result (p ∷ ps) = p ∷ trying x result ps
 
 -- the client's place in the list of the object x is of its own row
 abbrev pub HasPlaceAt : Known → ℕ → Type 0

@@ -22,7 +22,7 @@ use seq_objects::SeqObject;
 use std::alloc::Global;
 use std::marker::Model;
 
-pub(crate) type Board<S, O, R> = Table<Slot<S, O, R>, DeskView, Plan, DeskRule, Global>;
+pub(crate) type DeskTable<S, O, R> = Table<Slot<S, O, R>, DeskView, Plan, DeskRule, Global>;
 
 /// Word x is the lock of object x, and slot x its core. This is the row of client 0, and the slot
 /// of its call.
@@ -46,7 +46,7 @@ pub(crate) const ANSWERED: u64 = 33;
 /// Objects that are served to clients.
 #[derive(Drop)]
 pub struct Desk<S: SeqObject> {
-    pub(crate) table: Board<S, S::Op, S::Reply>,
+    pub(crate) table: DeskTable<S, S::Op, S::Reply>,
     pub(crate) kinds: Vec<Kind>,
     // Which roster the publication list of each object is.
     pub(crate) lists: Vec<SharedRoster>,

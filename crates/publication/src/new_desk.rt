@@ -11,7 +11,7 @@ ghost use Rattle.desk_model.specs.Limits.{max_objects, max_clients, max_calls};
 ghost use Rattle.desk_invariant.specs.Views.{table_words, table_slots};
 
 use crate::client::{BoxedMember, Client, Member, Place, Places};
-use crate::desk::{Board, Desk, ROWS};
+use crate::desk::{DeskTable, Desk, ROWS};
 use crate::plays::{Begins, Makes};
 use atomic_table::Table;
 use desk_invariant::{BoxedCore, Core, Journal, Plan, Slot};
@@ -52,13 +52,13 @@ fn no_places(alloc: Global, clients: u32) -> Result<Vec<Vec<SharedPlace>>, Alloc
 }
 
 /// The publication lists, by the number of the object, and the walker of each.
-struct Dealt {
+struct Lists {
     rosters: Vec<SharedRoster>,
     walkers: Vec<SharedWalker>,
 }
 
 /// A publication list for each object that there may be, in which each client has a place.
-fn lists(alloc: Global, owners: &mut Vec<Vec<SharedPlace>>) -> Result<Dealt, AllocError>
+fn lists(alloc: Global, owners: &mut Vec<Vec<SharedPlace>>) -> Result<Lists, AllocError>
     requires few { (0 < length owners.old.items) × (length owners.old.items < 1 + max_clients) }
     requires owners { AreDealt 0 (length owners.old.items) [] owners.old.items }
     ensures lists { IfOk result (λ l. (vec_len l.rosters ≡ max_objects)
@@ -69,11 +69,11 @@ fn lists(alloc: Global, owners: &mut Vec<Vec<SharedPlace>>) -> Result<Dealt, All
     let mut rosters = Vec::with_capacity(alloc, OBJECTS)?;
     let mut walkers = Vec::with_capacity(alloc, OBJECTS)?;
     while rosters.len() < OBJECTS {
-        let (roster, walker) = Roster::deal(alloc, owners)?;
+        let (roster, walker) = Roster::new_with_places(alloc, owners)?;
         rosters.push_reserved(roster);
         walkers.push_reserved(walker);
     }
-    Ok(Dealt { rosters, walkers })
+    Ok(Lists { rosters, walkers })
 }
 
 /// A slot for each object, with an empty log, and its publication list.
@@ -103,7 +103,7 @@ fn cores<S: SeqObject>(
 }
 
 /// All slots of the table: the cores of the objects, and then empty ones.
-fn lay<S: SeqObject>(
+fn all_slots<S: SeqObject>(
     alloc: Global,
     objects: Vec<S>,
     lists: Vec<SharedWalker>,
@@ -118,15 +118,15 @@ fn lay<S: SeqObject>(
     Ok(slots)
 }
 
-type Opened<S, O, R> = (Board<S, O, R>, Place<S, O, R>);
+type TableAndMaker<S, O, R> = (DeskTable<S, O, R>, Place<S, O, R>);
 
-/// The table, and the seat that makes the clients.
-fn open<S: SeqObject>(
+/// A new table, and the seat that makes the clients.
+fn new_table<S: SeqObject>(
     alloc: Global,
     objects: Vec<S>,
     lists: Vec<SharedWalker>,
     plan: &Plan,
-) -> Result<Opened<S, S::Op, S::Reply>, AllocError>
+) -> Result<TableAndMaker<S, S::Op, S::Reply>, AllocError>
     requires objects { AreEmpty S.content objects.items }
     requires lists { (vec_len lists ≡ max_objects) × AreWalkersOf plan.now.lists.items lists.items }
     requires plan { (plan.now.kinds.items ≡ kinds_with S.content objects.items) × IsSmall plan.now }
@@ -135,7 +135,7 @@ fn open<S: SeqObject>(
         × (r.0.shared.table_id.slots ≡ table_slots) × (r.0.shared.key ≡ plan.now)
         × (r.1.me ≡ (maker_of plan.now.kinds.items plan.now.lists.items 0, []))) }
 {
-    let slots = lay(alloc, objects, lists)?;
+    let slots = all_slots(alloc, objects, lists)?;
     let words = [0; WORDS];
     match Table::new(alloc, &words, slots, plan) {
         Ok(opened) => Ok(opened),
@@ -161,7 +161,7 @@ fn journals<O: Drop, R: Drop>(
 }
 
 /// What a client itself has before its first call.
-fn keep<O: Drop, R: Drop>(
+fn new_member<O: Drop, R: Drop>(
     alloc: Global,
     journal: Journal<O, R>,
     places: Places,
@@ -181,9 +181,9 @@ fn keep<O: Drop, R: Drop>(
     Ok(BoxedMember { inside })
 }
 
-/// A client more.
-fn make<S: SeqObject>(
-    table: &Board<S, S::Op, S::Reply>,
+/// Makes the client with this number.
+fn new_client<S: SeqObject>(
+    table: &DeskTable<S, S::Op, S::Reply>,
     maker: &mut Place<S, S::Op, S::Reply>,
     member: BoxedMember<S::Op, S::Reply>,
     number: u32,
@@ -223,10 +223,10 @@ fn make<S: SeqObject>(
     }
 }
 
-/// The clients, each with a journal and its places.
+/// Makes the clients, each with a journal and its places.
 fn make_all<S: SeqObject>(
     alloc: Global,
-    table: &Board<S, S::Op, S::Reply>,
+    table: &DeskTable<S, S::Op, S::Reply>,
     mut maker: Place<S, S::Op, S::Reply>,
     mut journals: Vec<Journal<S::Op, S::Reply>>,
     mut owners: Vec<Vec<SharedPlace>>,
@@ -257,8 +257,8 @@ fn make_all<S: SeqObject>(
         let places = Places {
             all: owners.remove(0),
         };
-        let member = keep(alloc, journal, places, quota)?;
-        made.push_reserved(make(table, &mut maker, member, number, quota));
+        let member = new_member(alloc, journal, places, quota)?;
+        made.push_reserved(new_client(table, &mut maker, member, number, quota));
         number += 1;
     }
     Ok(())
@@ -292,14 +292,14 @@ impl<S: SeqObject> Desk<S> {
         let journals = Vec::with_capacity(alloc, clients as usize)?;
         let logs = Vec::with_capacity(alloc, objects.len())?;
         let mut owners = no_places(alloc, clients)?;
-        let Dealt { rosters, walkers } = lists(alloc, &mut owners)?;
+        let Lists { rosters, walkers } = lists(alloc, &mut owners)?;
         let plan = Plan {
             kinds,
             lists: rosters,
             clients,
             quota,
         };
-        let (table, maker) = open(alloc, objects, walkers, &plan)?;
+        let (table, maker) = new_table(alloc, objects, walkers, &plan)?;
         make_all(alloc, &table, maker, room, owners, &mut made, quota)?;
         let Plan { kinds, lists, .. } = plan;
         let desk = Desk {

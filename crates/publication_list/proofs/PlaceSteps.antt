@@ -11,12 +11,12 @@ use lib.ListN.{get_elem?}
 use prog.Atomic.{either}
 use Rattle.atomic_table.specs.Table.{Me, step, keeps, Allows}
 use Rattle.publication_list.specs.Inside.{IsRowPlace, tries_of}
-use Rattle.publication_list.specs.declared.board.Enlist.{Enlist}
-use Rattle.publication_list.specs.declared.board.Enlist.TheVariants.{Already, Listed, Missed}
-use Rattle.publication_list.specs.declared.board.RowKnowledge.{RowKnowledge}
-use Rattle.publication_list.specs.declared.board.RowKnowledge.TheVariants as own
-use Rattle.publication_list.specs.declared.board.ListView.{ListView}
-use Rattle.publication_list.specs.declared.board.ListView.TheVariants as view
+use Rattle.publication_list.specs.declared.list_table.Enlist.{Enlist}
+use Rattle.publication_list.specs.declared.list_table.Enlist.TheVariants.{Already, Listed, Missed}
+use Rattle.publication_list.specs.declared.list_table.RowKnowledge.{RowKnowledge}
+use Rattle.publication_list.specs.declared.list_table.RowKnowledge.TheVariants as own
+use Rattle.publication_list.specs.declared.list_table.ListView.{ListView}
+use Rattle.publication_list.specs.declared.list_table.ListView.TheVariants as view
 use Rattle.publication_list.specs.PublicationList.{Stage, asleep, awake, listed, unlinked, PublicationList, mark_of}
 use Rattle.publication_list.specs.Rule.{OwnRowAgrees, Kept}
 use Rattle.publication_list.specs.Plays as play

@@ -12,9 +12,9 @@ use Rattle.publication_list.specs.Plays as play
 use mathlib.Core.Logic.{dite}
 use native.Mathlib.Decide.{ℕ_discrete}
 use Rattle.atomic_table.proofs.Lists.{at_set, at_last, at_longer}
-use Rattle.publication_list.specs.declared.board.RowKnowledge.TheVariants as own
-use Rattle.publication_list.specs.declared.board.ListView.{ListView}
-use Rattle.publication_list.specs.declared.board.ListView.TheVariants as view
+use Rattle.publication_list.specs.declared.list_table.RowKnowledge.TheVariants as own
+use Rattle.publication_list.specs.declared.list_table.ListView.{ListView}
+use Rattle.publication_list.specs.declared.list_table.ListView.TheVariants as view
 use Rattle.publication_list.specs.PublicationList.{PublicationList, empty_list}
 use Rattle.publication_list.specs.Rule.{TakenOutAgrees, ListViewAgrees, Kept}
 use Rattle.publication_list.proofs.RuleKept.{St}

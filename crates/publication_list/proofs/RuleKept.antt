@@ -9,9 +9,9 @@ use lib.ListN.{get_elem?}
 use lib.Seq.{set-get_or}
 use Rattle.atomic_table.specs.Table.{State, keeps, stepped}
 use Rattle.atomic_table.proofs.Lists.{at_set}
-use Rattle.publication_list.specs.declared.board.RowKnowledge.{RowKnowledge}
-use Rattle.publication_list.specs.declared.board.ListView.{ListView}
-use Rattle.publication_list.specs.declared.board.ListView.TheVariants as view
+use Rattle.publication_list.specs.declared.list_table.RowKnowledge.{RowKnowledge}
+use Rattle.publication_list.specs.declared.list_table.ListView.{ListView}
+use Rattle.publication_list.specs.declared.list_table.ListView.TheVariants as view
 use Rattle.publication_list.specs.PublicationList.{Stage, asleep, awake, listed, unlinked, PublicationList, word_at}
 use Rattle.publication_list.specs.PublicationList.{mark_of}
 use Rattle.publication_list.specs.Rule.{OwnRowAgrees, TakenOutAgrees, ListViewAgrees, Sound, Tied, Kept}

@@ -13,9 +13,9 @@ use mathlib.Core.Logic.{dite}
 use mathlib.Mathlib.Logic.Function.Basic.{update_self}
 use native.Mathlib.Decide.{dec_le, ℕ_discrete}
 use Rattle.atomic_table.specs.Table.{Me, step, keeps, Allows}
-use Rattle.publication_list.specs.declared.board.RowKnowledge.{RowKnowledge}
-use Rattle.publication_list.specs.declared.board.ListView.{ListView}
-use Rattle.publication_list.specs.declared.board.ListView.TheVariants as view
+use Rattle.publication_list.specs.declared.list_table.RowKnowledge.{RowKnowledge}
+use Rattle.publication_list.specs.declared.list_table.ListView.{ListView}
+use Rattle.publication_list.specs.declared.list_table.ListView.TheVariants as view
 use Rattle.publication_list.specs.PublicationList.{Stage, asleep, listed, unlinked, PublicationList, IsDistinct}
 use Rattle.publication_list.specs.PublicationList.{word_at}
 use Rattle.publication_list.specs.Rule.{OwnRowAgrees, TakenOutAgrees, Tied, Kept}

@@ -3,7 +3,7 @@ use Rattle.std.specs.Prelude.{◌≡◌, ℕ, ◌<◌, List, [], length}
 use mathlib.Core.Option.{some}
 use lib.ListN.{get_elem?}
 use Rattle.atomic_table.specs.Seated.{TableId}
-use Rattle.publication_list.specs.declared.board.Enlist.{Enlist}
+use Rattle.publication_list.specs.declared.list_table.Enlist.{Enlist}
 
 -- a roster: which it is, and how many rows have a place
 pub record RosterSeen : Type 0 where

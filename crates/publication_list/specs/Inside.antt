@@ -3,12 +3,12 @@ use Rattle.std.specs.Prelude.{◌≡◌, ℕ, ◌<◌, ◌≤◌, Bool, true, fa
 use Rattle.std.specs.Prelude.{slice_index, take, None, vec_capacity}
 use Rattle.std.specs.declared.vec.Vec.{Vec}
 use Rattle.atomic_table.specs.Table.{Me}
-use Rattle.publication_list.specs.declared.board.Enlist.{Enlist}
-use Rattle.publication_list.specs.declared.board.Enlist.TheVariants.{Already, Listed, Missed}
-use Rattle.publication_list.specs.declared.board.RowKnowledge.{RowKnowledge}
-use Rattle.publication_list.specs.declared.board.RowKnowledge.TheVariants as own
-use Rattle.publication_list.specs.declared.board.ListView.{ListView}
-use Rattle.publication_list.specs.declared.board.ListView.TheVariants as view
+use Rattle.publication_list.specs.declared.list_table.Enlist.{Enlist}
+use Rattle.publication_list.specs.declared.list_table.Enlist.TheVariants.{Already, Listed, Missed}
+use Rattle.publication_list.specs.declared.list_table.RowKnowledge.{RowKnowledge}
+use Rattle.publication_list.specs.declared.list_table.RowKnowledge.TheVariants as own
+use Rattle.publication_list.specs.declared.list_table.ListView.{ListView}
+use Rattle.publication_list.specs.declared.list_table.ListView.TheVariants as view
 use Rattle.publication_list.specs.PublicationList.{WalkMeets, word_at}
 use Rattle.publication_list.specs.Limits.{max_rows}
 

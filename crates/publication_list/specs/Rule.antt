@@ -6,10 +6,10 @@ use Rattle.std.specs.Prelude.{Option, Some, None}
 use mathlib.Core.Option.{some}
 use lib.ListN.{get_elem?}
 use Rattle.atomic_table.specs.Table.{State}
-use Rattle.publication_list.specs.declared.board.RowKnowledge.{RowKnowledge}
-use Rattle.publication_list.specs.declared.board.RowKnowledge.TheVariants as own
-use Rattle.publication_list.specs.declared.board.ListView.{ListView}
-use Rattle.publication_list.specs.declared.board.ListView.TheVariants as view
+use Rattle.publication_list.specs.declared.list_table.RowKnowledge.{RowKnowledge}
+use Rattle.publication_list.specs.declared.list_table.RowKnowledge.TheVariants as own
+use Rattle.publication_list.specs.declared.list_table.ListView.{ListView}
+use Rattle.publication_list.specs.declared.list_table.ListView.TheVariants as view
 use Rattle.publication_list.specs.Limits.{max_rows, list_words, mark_place}
 use Rattle.publication_list.specs.PublicationList.{Stage, asleep, awake, listed, unlinked}
 use Rattle.publication_list.specs.PublicationList.{PublicationList, IsDistinct, word_at, mark_of}

@@ -5,14 +5,14 @@
 //! SPAA 2010.
 #![tactic(auto)]
 
-mod board;
+mod list_table;
 mod place;
 mod plays;
 mod roster;
 mod shared;
 mod walker;
 
-pub use board::Enlist;
+pub use list_table::Enlist;
 pub use place::Place;
 pub use roster::Roster;
 pub use shared::{SharedPlace, SharedRoster, SharedWalker};

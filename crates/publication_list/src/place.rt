@@ -4,14 +4,14 @@ ghost use Rattle.std.specs.Prelude.{◌≡◌, ◌∷◌, ◌++◌, [], true, fa
 ghost use Rattle.publication_list.specs.Inside.{IsRowPlace, after_look, is_missed, tries_of};
 ghost use Rattle.publication_list.specs.Limits.{list_words};
 
-use crate::board::{Chair, Enlist, HEAD, MARKS, NEXTS, Words};
+use crate::list_table::{ListSeat, Enlist, HEAD, MARKS, NEXTS, Words};
 use crate::plays::{Enlists, Links, Looks, Sees, Wakes};
 use std::marker::Model;
 
 /// The place of a row in the list, which the row's owner has.
 #[derive(Drop)]
 pub struct Place {
-    pub(crate) seat: Chair,
+    pub(crate) seat: ListSeat,
     pub(crate) row: u32,
     // The row is awake, and not listed.
     pub(crate) trying: bool,
@@ -30,7 +30,7 @@ impl Model for Place {
 }
 
 /// Wakes the row if it is asleep, and returns whether it was.
-pub(crate) fn wake(shared: &Words, seat: &mut Chair, row: u32) -> bool
+pub(crate) fn wake(shared: &Words, seat: &mut ListSeat, row: u32) -> bool
     requires table { (seat.old.table_id ≡ shared.now.table_id)
         × (shared.now.table_id.words ≡ list_words) }
     requires seat { IsRowPlace row false (tries_of seat.old.me.0) seat.old.me }
@@ -46,7 +46,7 @@ pub(crate) fn wake(shared: &Words, seat: &mut Chair, row: u32) -> bool
 }
 
 /// Tries to put the row in front of the list.
-pub(crate) fn list(shared: &Words, seat: &mut Chair, row: u32) -> Enlist
+pub(crate) fn try_to_link(shared: &Words, seat: &mut ListSeat, row: u32) -> Enlist
     requires table { (seat.old.table_id ≡ shared.now.table_id)
         × (shared.now.table_id.words ≡ list_words) }
     requires seat { IsRowPlace row true (tries_of seat.old.me.0) seat.old.me }

@@ -1,6 +1,6 @@
 //! What each step on the table tells who takes it.
 
-use crate::board::ListView;
+use crate::list_table::ListView;
 use atomic_table::{Play, Split};
 
 pub(crate) struct Sees;

@@ -2,13 +2,13 @@
 
 ghost use Rattle.std.specs.Prelude.{◌≡◌, ◌<◌, ◌≤◌, ◌∷◌, ◌++◌, [], length, remove, IfOk, None};
 ghost use Rattle.std.specs.Prelude.{vec_len, vec_capacity, ◌+◌};
-ghost use Rattle.publication_list.specs.declared.board.ListView.TheVariants as view;
+ghost use Rattle.publication_list.specs.declared.list_table.ListView.TheVariants as view;
 ghost use Rattle.publication_list.specs.PublicationList.{WalkMeets};
 ghost use Rattle.publication_list.specs.Calls.{AreRowPlaces};
 ghost use Rattle.publication_list.specs.Limits.{list_words, max_rows};
 
-use crate::board::{Board, Chair, Enlist, MARKS, NEXTS};
-use crate::place::{Place, list, wake};
+use crate::list_table::{ListTable, ListSeat, Enlist, MARKS, NEXTS};
+use crate::place::{Place, try_to_link, wake};
 use crate::plays::{Makes, Sleeps, Unlinks};
 use crate::walker::{Walker, meet, word_to};
 use atomic_table::Table;
@@ -21,7 +21,7 @@ const WORDS: usize = 65;
 /// The publication list of one object.
 #[derive(Drop)]
 pub struct Roster {
-    table: Board,
+    table: ListTable,
     rows: u32,
 }
 
@@ -39,7 +39,7 @@ impl Model for Roster {
 }
 
 /// The places of the first rows.
-fn make_all(table: &Board, seat: &mut Chair, rows: u32, made: &mut Vec<Place>)
+fn make_all(table: &ListTable, seat: &mut ListSeat, rows: u32, made: &mut Vec<Place>)
     requires table { (seat.old.table_id ≡ table.now.shared.table_id)
         × (table.now.shared.table_id.words ≡ list_words) }
     requires rows { rows < 1 + max_rows }
@@ -95,9 +95,9 @@ impl Roster {
         if !place.trying && !wake(shared, seat, place.row) {
             return Enlist::Already;
         }
-        let came_to = list(shared, seat, place.row);
-        place.trying = came_to == Enlist::Missed;
-        came_to
+        let tried = try_to_link(shared, seat, place.row);
+        place.trying = tried == Enlist::Missed;
+        tried
     }
 
     /// Walks the list: it meets newcomers, and then the rows that were left, in their order. They

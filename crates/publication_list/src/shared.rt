@@ -106,7 +106,7 @@ impl SharedWalker {
 impl Roster {
     /// Makes a roster, and gives each owner the place of its row, after the places that it has.
     /// After an error some owners may have one place more.
-    pub fn deal(
+    pub fn new_with_places(
         alloc: Global,
         owners: &mut Vec<Vec<SharedPlace>>,
     ) -> Result<(SharedRoster, SharedWalker), AllocError>

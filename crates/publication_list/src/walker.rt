@@ -6,14 +6,14 @@ ghost use Rattle.publication_list.specs.PublicationList.{WalkMeets, word_at};
 ghost use Rattle.publication_list.specs.Inside.{HasMetRows, list_left, made_of, walks_of};
 ghost use Rattle.publication_list.specs.Limits.{list_words};
 
-use crate::board::{Chair, HEAD, NEXTS, Words};
+use crate::list_table::{ListSeat, HEAD, NEXTS, Words};
 use crate::plays::{Follows, Meets};
 use std::marker::Model;
 
 /// Who walks the list and takes rows out.
 #[derive(Drop)]
 pub struct Walker {
-    pub(crate) seat: Chair,
+    pub(crate) seat: ListSeat,
     pub(crate) places: u32,
     pub(crate) rows: Vec<u32>,
 }
@@ -48,7 +48,7 @@ impl Walker {
 }
 
 /// Finds the list as it is now, from the head on.
-pub(crate) fn meet(shared: &Words, seat: &mut Chair, rows: &mut Vec<u32>)
+pub(crate) fn meet(shared: &Words, seat: &mut ListSeat, rows: &mut Vec<u32>)
     requires table { (seat.old.table_id ≡ shared.now.table_id)
         × (shared.now.table_id.words ≡ list_words) }
     requires seat { HasMetRows (list_left seat.old.me.0) (walks_of seat.old.me.0) seat.old.me }

@@ -5,8 +5,8 @@ use Rattle.publication.specs.Making.{rosters_of}
 use Rattle.publication.proofs.Dealing.{room_left, one_dealt}
 use Rattle.publication.proofs.new_desk.lists.Goals as goal
 
-pub deal-requires-clause-room : goal.deal-requires-clause-room
-deal-requires-clause-room c =
+pub new_with_places-requires-clause-room : goal.new_with_places-requires-clause-room
+new_with_places-requires-clause-room c =
     let low = c.loop-alloc-test.true in let n = c.len.ensures in let long = c.loop-alloc.rosters.ok.0 in
     room_left _ _ c.loop-alloc.owners.items (omega arith) c.loop-alloc.invariant.5
 

@@ -14,15 +14,15 @@ loop-journal-preserved g c = let i = c.loop-journal.invariant in let p = c.push_
     All-pop (HasRoom c.args.quota) c.loop-journal.journals.items c.pop.new.self.items c.pop.result
     c.pop.ensures.items i.3 in
     let long : length c.push_reserved.new.self.items ≡ length c.loop-journal.made.items + 1 =
-    ap length p.items ∙ length-append c.loop-journal.made.items (c.make.result ∷ []) in let n = p.len in
+    ap length p.items ∙ length-append c.loop-journal.made.items (c.new_client.result ∷ []) in let n = p.len in
     let count = i.2 in let one =
     c.in-Some.ensures.cases in let m = i.5 in let made = i.7 in let lists = c.args.table.now.shared.key.lists.items in
     let owners = first_gone c.loop-journal.number
     (vec_len c.pop.new.self) lists c.loop-journal.owners.items c.remove.new.self.items
     c.remove.ensures.items (subst (λ z. AreDealt c.loop-journal.number z lists c.loop-journal.owners.items)
     (let one = c.in-Some.ensures.cases in omega arith) i.4) in (
-      c.make.ensures.maker.0 ∙ i.0,
-      c.make.ensures.maker.1,
+      c.new_client.ensures.maker.0 ∙ i.0,
+      c.new_client.ensures.maker.1,
       omega arith,
       popped.0,
       owners,
@@ -34,13 +34,13 @@ loop-journal-preserved g c = let i = c.loop-journal.invariant in let p = c.push_
         quota = c.args.quota;
         kinds = c.args.table.now.shared.key.kinds.items;
         lists = c.args.table.now.shared.key.lists.items;
-      })) c.loop-journal.made.items c.push_reserved.new.self.items c.make.result p.items
+      })) c.loop-journal.made.items c.push_reserved.new.self.items c.new_client.result p.items
           (ap (begun (record {
             table = c.args.table.now.shared.table_id;
             quota = c.args.quota;
             kinds = c.args.table.now.shared.key.kinds.items;
             lists = c.args.table.now.shared.key.lists.items;
-          })) i.7 ∙ sym c.make.ensures.client) i.8,
+          })) i.7 ∙ sym c.new_client.ensures.client) i.8,
     )
 
 pub remove-requires : goal.remove-requires
@@ -54,15 +54,15 @@ invariant_of-places g c = let i = c.loop-journal.invariant in let count = i.4.0 
     let n = k.1 in let long =
     c.remove.result.ok.0 in let lists = c.requires.owners.1 in omega arith
 
-pub make-requires-clause-journal : goal.make-requires-clause-journal
-make-requires-clause-journal g c = λ κs bounds. let i = c.loop-journal.invariant in
+pub new_client-requires-clause-journal : goal.new_client-requires-clause-journal
+new_client-requires-clause-journal g c = λ κs bounds. let i = c.loop-journal.invariant in
     subst (HasRoom c.args.quota) (sym c.in_ok-member.ensures.1)
     (subst (λ r. IfSome r (HasRoom c.args.quota)) c.in-Some.is
     (All-pop (HasRoom c.args.quota) c.loop-journal.journals.items c.pop.new.self.items c.pop.result
     c.pop.ensures.items i.3).1)
 
-pub make-requires-clause-places : goal.make-requires-clause-places
-make-requires-clause-places g c = λ κs bounds. let i = c.loop-journal.invariant in let count = i.4.0 in
+pub new_client-requires-clause-places : goal.new_client-requires-clause-places
+new_client-requires-clause-places g c = λ κs bounds. let i = c.loop-journal.invariant in let count = i.4.0 in
     let one = c.in-Some.ensures.cases in
     let k = subst (HasPlaces _ _) (sym c.remove.ensures.value) (i.4.1 0 c.remove.result (omega arith)) in (
       c.in_ok-member.ensures.2

@@ -1,8 +1,8 @@
 -- `make_all`: places are made for the first rows, one for each. Each turn splits a place off the walker's seat,
 -- which has then made one row more.
 use Rattle.std.proofs.Common.{arith, ◌≡◌, ◌≤◌, ℕ, [], length, None, refl, sym, ap, ◌∙◌, subst}
-use Rattle.publication_list.specs.declared.board.ListView.TheVariants as view
-use Rattle.publication_list.specs.declared.board.RowKnowledge.TheVariants as own
+use Rattle.publication_list.specs.declared.list_table.ListView.TheVariants as view
+use Rattle.publication_list.specs.declared.list_table.RowKnowledge.TheVariants as own
 use Rattle.publication_list.specs.Plays.{Hands, after_making, new_place}
 use Rattle.publication_list.specs.Calls.{AreRowPlaces}
 use Rattle.publication_list.specs.Inside.{tries_of}

@@ -1,5 +1,5 @@
 use Rattle.std.proofs.Common.{◌≡◌, ◌≤◌, [], None, vec_len, vec_capacity}
-use Rattle.publication_list.specs.declared.board.ListView.TheVariants as view
+use Rattle.publication_list.specs.declared.list_table.ListView.TheVariants as view
 use Rattle.publication_list.specs.Calls.{AreRowPlaces}
 use Rattle.publication_list.proofs.roster.make_all.Given as goal
 

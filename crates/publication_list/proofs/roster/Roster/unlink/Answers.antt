@@ -5,7 +5,7 @@ use Rattle.std.proofs.Common.{◌∙◌, subst}
 use Rattle.std.proofs.lemmas.Grind.{get_or_default_zero}
 use Rattle.publication_list.specs.PublicationList.{word_at}
 use Rattle.publication_list.specs.Inside.{walks_of}
-use Rattle.publication_list.specs.declared.board.ListView.TheVariants as view
+use Rattle.publication_list.specs.declared.list_table.ListView.TheVariants as view
 use Rattle.publication_list.proofs.WalkerSteps.{unlink_allowed, unlink_leaves, sleep_allowed, sleep_leaves, less_one}
 use Rattle.publication_list.proofs.roster.Roster.unlink.Goals as goal
 use Rattle.publication_list.proofs.roster.Roster.unlink.Goals.{After-remove-row, After-store}

@@ -1,10 +1,10 @@
--- `deal`: each owner has one place more, on the new roster and with its own row. The loop takes the last place
+-- `new_with_places`: each owner has one place more, on the new roster and with its own row. The loop takes the last place
 -- first, and keeps that the owners from there on have theirs and those before are as they were (`one_grown`).
 use Rattle.std.proofs.Common.{arith, ◌≡◌, length, get_or, set, sym, ap, ◌∙◌, subst}
 use Rattle.publication_list.specs.Calls.{AreRowPlaces}
 use Rattle.publication_list.specs.Dealing.{AreGrown}
 use Rattle.publication_list.proofs.Dealt.{long, popped, none_grown, all_grown, still_room, one_grown}
-use Rattle.publication_list.proofs.roster.Roster.deal.Goals as goal
+use Rattle.publication_list.proofs.roster.Roster.new_with_places.Goals as goal
 
 pub loop-place-init : goal.loop-place-init
 loop-place-init c =

@@ -1,10 +1,10 @@
--- `lay`: the slots are the objects with their lists, and after them nothing. The slots so far have the objects in
+-- `all_slots`: the slots are the objects with their lists, and after them nothing. The slots so far have the objects in
 -- front; each turn adds one more that has nothing, up to the last.
 use Rattle.std.proofs.Common.{rules, arith, ◌≡◌, ◌+◌, ◌∷◌, [], length}
 use Rattle.desk_invariant.specs.declared.board.Slot.TheVariants as slot
 use Rattle.publication.specs.Making.{rosters_of}
 use Rattle.publication.proofs.Growing.{cores_longer, nothing_more}
-use Rattle.publication.proofs.new_desk.lay.Goals as goal
+use Rattle.publication.proofs.new_desk.all_slots.Goals as goal
 
 pub loop-slots-init : goal.loop-slots-init
 loop-slots-init g c = let e = c.in_ok-slots.ensures in let n = e.0 in let few = c.requires.0 in

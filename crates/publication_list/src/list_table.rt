@@ -55,16 +55,16 @@ pub struct RosterRule;
 impl TableRule<u64, ListView, u32> for RosterRule {
     ghost use Rattle.std.specs.Prelude.{[], None};
     ghost use Rattle.publication_list.specs.Rule.{Kept};
-    ghost use Rattle.publication_list.specs.declared.board.ListView.TheVariants as view;
+    ghost use Rattle.publication_list.specs.declared.list_table.ListView.TheVariants as view;
 
     ghost holds = { λ k. Kept };
 
     ghost first = { λ k. view.Walker 0 [] None [] };
 }
 
-pub(crate) type Board = Table<u64, ListView, u32, RosterRule, Global>;
+pub(crate) type ListTable = Table<u64, ListView, u32, RosterRule, Global>;
 
 /// The words of the table, which change in single atomic steps.
 pub(crate) type Words = Shared<u64, ListView, u32, RosterRule>;
 
-pub(crate) type Chair = Seat<u64, ListView>;
+pub(crate) type ListSeat = Seat<u64, ListView>;

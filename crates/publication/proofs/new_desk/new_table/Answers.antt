@@ -1,7 +1,7 @@
 use Rattle.std.proofs.Common.{subst}
 use Rattle.publication.specs.Making.{IsLaid}
 use Rattle.publication.proofs.NewClients.{opens_on}
-use Rattle.publication.proofs.new_desk.open.Goals as goal
+use Rattle.publication.proofs.new_desk.new_table.Goals as goal
 
 pub new-requires : goal.new-requires
 new-requires g c = opens_on g.S.SeqObject.content g.S.SeqObject.op_in g.S.SeqObject.reply_in c.args.plan.now

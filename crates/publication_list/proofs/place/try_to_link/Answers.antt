@@ -1,10 +1,10 @@
--- `list`: the seat knows whether the row was put in front or the try missed. Each of the three accesses is allowed
+-- `try_to_link`: the seat knows whether the row was put in front or the try missed. Each of the three accesses is allowed
 -- by what the seat knows then (`see_allowed`, `link_allowed`, `enlist_allowed`).
 use Rattle.std.proofs.Common.{arith, ◌∙◌, sym, subst, true}
 use Rattle.publication_list.specs.Inside.{IsRowPlace, tries_of}
 use Rattle.publication_list.proofs.PlaceSteps.{see_allowed, link_allowed, link_leaves_linked, enlist_allowed}
 use Rattle.publication_list.proofs.PlaceSteps.{enlist_leaves_missed}
-use Rattle.publication_list.proofs.place.list.Goals as goal
+use Rattle.publication_list.proofs.place.try_to_link.Goals as goal
 
 pub load-first-requires : goal.load-first-requires
 load-first-requires c = let t = c.requires.table in (t.0, omega arith, see_allowed _ _ _ _ _ c.requires.seat)

@@ -1,7 +1,7 @@
 use Rattle.std.proofs.Common.{◌≤◌, length, vec_len}
 use Rattle.publication_list.specs.Calls.{AreRowPlaces}
 use Rattle.publication_list.specs.Dealing.{AreGrownFrom}
-use Rattle.publication_list.proofs.roster.Roster.deal.Given as goal
+use Rattle.publication_list.proofs.roster.Roster.new_with_places.Given as goal
 
 abbrev pub invariant-loop-place : goal.invariant-loop-place
 invariant-loop-place l =

@@ -1,11 +1,11 @@
--- `make`: the client is at its beginning, and the maker is at the next number. Its next step may be to make a seat
+-- `new_client`: the client is at its beginning, and the maker is at the next number. Its next step may be to make a seat
 -- (`making_keeps_rule`), and the first step of that seat is to begin (`begin_keeps_rule`).
 use Rattle.std.proofs.Common.{arith, ℕ, Bool, refl, sym, ap, subst, ◌∙◌}
 use Rattle.desk_invariant.proofs.Beginnings.{making_keeps_rule, begin_keeps_rule}
 use Rattle.publication.specs.Handles.{IsClient}
 use Rattle.publication.proofs.Dealing.{own_still, fresh_own}
 use Rattle.publication.proofs.NewClients.{begun_ok, entered}
-use Rattle.publication.proofs.new_desk.make.Goals as goal
+use Rattle.publication.proofs.new_desk.new_client.Goals as goal
 
 pub split_seat-seat-requires : goal.split_seat-seat-requires
 split_seat-seat-requires g c =
