@@ -1,4 +1,5 @@
--- Certificates that were found for the objects of a history, one by one.
+-- Certificates that were found for the objects of a history, one by one, are certificates of all its objects: each is
+-- of its own object (`on_all`), no two are of one object (`distinct`), and together they are valid (`valid`).
 use Rattle.std.proofs.Common.{◌≡◌, ◌≢◌, ℕ, ◌<◌, inl, inr, List, [], ◌∷◌, ◌++◌, Option, Some, None, IsSome, map, ◌+◌}
 use Rattle.std.proofs.Common.{◌≤◌, length, take, get_or, All, AllPairs, Contains, refl, ap, sym, ◌∙◌, subst, arith}
 use Rattle.std.specs.Prelude.{◌↔◌}

@@ -1,4 +1,4 @@
--- Marks of operations that are in an order.
+-- The first unmarked operation that returned is the first that the order leaves out.
 use Rattle.std.proofs.Common.{◌≡◌, ℕ, ◌<◌, Bool, true, false, List, length, is_some, get_or, ap, ◌∙◌}
 use Rattle.std.proofs.lemmas.List.{get_or_default}
 use Rattle.events.specs.declared.operations.Invocation.{Invocation}

@@ -1,4 +1,4 @@
--- The calls of one client.
+-- The items of each vector of a list, at one place.
 use Rattle.std.proofs.Common.{◌≡◌, ℕ, zero, suc, ◌<◌, List, [], ◌∷◌, length, map, get_or, sym, ap, arith}
 use Rattle.std.specs.declared.vec.Vec.{Vec}
 

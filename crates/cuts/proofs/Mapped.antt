@@ -1,4 +1,4 @@
--- What becomes of each call of an order can be done in turn, where each step of the whole has its step in the part.
+-- What becomes of each call of an order can be done in turn, if each step of the whole gives a step of the part.
 use Rattle.std.proofs.Common.{◌≡◌, ◌≢◌, ◌⊎◌, inl, inr, ℤ, pos, Bool, true, false, List, [], ◌∷◌, Option, Some, None}
 use Rattle.std.proofs.Common.{IfSome, IsSome, is_some, map, Contains, refl, ap, sym, ◌∙◌}
 use Rattle.std.specs.List.{filter_map, cons_option}

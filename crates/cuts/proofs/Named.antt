@@ -1,5 +1,5 @@
--- Cuts name one part at most. Each call of a part is invoked, and returns if it does, where a call of the whole is
--- and does.
+-- Cuts name one part at most. Each call of a part has the number of a call of the whole and, if it returned, the
+-- number of its return.
 use Rattle.std.proofs.Common.{◌≡◌, ℕ, ℤ, ◌<◌, ◌==◌, Bool, true, false, cond, List, [], ◌∷◌, nat_lt, Option, Some, None}
 use Rattle.std.proofs.Common.{AllPairs, filter, refl, ap, sym, ◌∙◌, subst, arith}
 use Rattle.std.specs.Prelude.{option_map}

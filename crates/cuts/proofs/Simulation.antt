@@ -1,4 +1,4 @@
--- A part of the calls that an order has can be done in turn, where each call of the whole has its step in the part.
+-- A part of the calls that an order has can be done in turn, if each call of the whole gives a step of the part.
 use Rattle.std.proofs.Common.{◌≡◌, ◌⊎◌, inl, inr, ℕ, Bool, true, false, cond, List, [], ◌∷◌, Some, IfSome, IsSome}
 use Rattle.std.proofs.Common.{is_some, ap, sym, ◌∙◌}
 use Rattle.model.specs.declared.AnyOp.{AnyOp}

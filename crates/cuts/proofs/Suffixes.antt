@@ -1,5 +1,5 @@
--- What a valid order has from a call on after which it is known what the object contains is a valid order of the
--- suffix.
+-- If it is known what an object contains after some call, the rest of a valid order is a valid order of the suffix
+-- that begins there.
 use Rattle.std.proofs.lemmas.Bool.Decides.{nat_tests}
 use Rattle.std.proofs.Common.{◌≡◌, ◌≢◌, ◌⊎◌, inl, inr, ℕ, ℤ, pos, ◌<◌, Bool, true, false, List}
 use Rattle.std.proofs.Common.{[], ◌∷◌, ◌++◌, Option, Some, None}

@@ -1,5 +1,5 @@
--- The law of touches: where the part contains what the cell contains if that is kept, it does so after a touch and
--- after what the touch becomes. It is proved by cases of what the touch leaves and needs, and of what is kept.
+-- The law of touches. The part contains what the cell contains, if that is kept. This stays so when the cell does a
+-- touch and the part does what the touch becomes. By cases on what the touch leaves and needs, and on what is kept.
 use Rattle.std.proofs.Common.{◌≡◌, ◌≢◌, ◌⊎◌, inl, inr, ℤ, Bool, true, false, cond, Option, Some, None}
 use Rattle.std.proofs.Common.{refl, ap, sym, ◌∙◌, subst}
 use Rattle.std.specs.Prelude.{option_map}

@@ -29,8 +29,8 @@ abbrev pub first_put : ℤ → List Call → ℕ
 first_put v calls =
     option_map_or (λ (e : Call). e.number) (find (λ e. puts_in (int_eq v) e.op) calls) 0
 
--- A put counts only if it returned before this number. It is the number of the removal; of a
--- removal that found a value in a queue, at most that of the first put of this value.
+-- The number before which a put must have returned to count: the removal's own, or, if the removal
+-- found a value in a queue, the number of the first put of this value if that is less.
 abbrev pub ahead_before : Option ℤ → AnyOp → ℕ → List Call → ℕ
 ahead_before None op number calls = number
 ahead_before (Some b) op number calls =

@@ -17,14 +17,14 @@ use Rattle.cuts.specs.Kinds.{keeps_none, own_call, touch_at}
 use Rattle.cuts.specs.Kinds.Register.{setting, replacing, finding}
 use Rattle.cuts.specs.Recasts.{recast}
 
--- whether the part keeps this content, if `none` says it of no value
+-- whether the part keeps this content; `none` says whether it keeps having no value
 abbrev pub keeps_content : Bool → (ℤ → Bool) → Option ℤ → Bool
 keeps_content none keeps None = none
 keeps_content none keeps (Some v) = keeps v
 
--- What a touch becomes that leaves this content in the part. What the call found stays known only
--- if it is kept. If all that the call names is kept, and the call is one of a register, it
--- stays as it is (`own`).
+-- The call that a touch becomes, if it leaves this content in the part. What the call found stays
+-- known only if it is kept. If all that the call names is kept, and the call is one of a register,
+-- it stays as it is (`own`).
 abbrev pub change : (Option ℤ → Bool) → Option (AnyOp × AnyReply) → Need → Option ℤ
     → AnyOp × AnyReply
 change keeps (Some own) Any c = own

@@ -186,8 +186,8 @@ abbrev pub first_put_end : ℤ → List Invocation → ℕ
 first_put_end v ops = option_map_or (λ (o : Invocation). o.number)
     (find (λ o. is_put (int_eq v) o.op o.«end») ops) 0
 
--- A put counts only if it returned before this number. It is the number of the removal; of a
--- removal that found a value in a queue, at most that of the first put of this value.
+-- The number before which a put must have returned to count: the removal's own, or, if the removal
+-- found a value in a queue, the number of the first put of this value if that is less.
 abbrev pub ahead_before_end : Option ℤ → AnyOp → ℕ → List Invocation → ℕ
 ahead_before_end None op number ops = number
 ahead_before_end (Some b) op number ops =

@@ -100,8 +100,8 @@ abbrev pub ended_before : ℕ → Option Return → Bool
 ended_before from None = false
 ended_before from (Some r) = nat_lt r.at from
 
--- the value that a call left in a register, whatever the register contained, if the suffix
--- begins with an operation
+-- the value that a call left in a register, whatever the register contained; `None` if the suffix
+-- begins with no operation
 abbrev pub written_before : Option (AnyOp × AnyReply) → AnyOp → AnyReply → Option ℤ
 written_before None op reply = None
 written_before (Some first) op reply = written op reply

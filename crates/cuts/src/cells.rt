@@ -25,7 +25,7 @@ struct CellCut {
     other: i64,
 }
 
-/// Whether this content is kept, if `none` says it of no value.
+/// Whether this content is kept. `none` says whether having no value is kept.
 fn keeps(none: bool, values: &Values, content: Option<i64>) -> bool
     ensures { result ≡ spec.keeps_content none (keeps_value values.now) content }
 {
@@ -186,7 +186,7 @@ fn part_at(
 /// The part of a register's operations that can leave one of these values, or nothing, and of the
 /// others those with these numbers, which leave the other value in place of theirs. A read of a
 /// value that is not kept becomes a write of the other value, and so does a swap from such a value
-/// become a write. Of another kind of object nothing stays.
+/// become a write. For an object of another kind the part is empty.
 ///
 /// An error: an allocation failed.
 pub(crate) fn cell_part(
@@ -209,7 +209,7 @@ pub(crate) fn cell_part(
 /// The part of a map's operations on one key, as the operations of a register: those that can leave
 /// one of these values, and of the others those with these numbers. No value, and a value that is
 /// not kept, are one other value in the part: what shows or leaves one becomes a write of it, or a
-/// swap to it from a kept value. Of another kind of object nothing stays.
+/// swap to it from a kept value. For an object of another kind the part is empty.
 ///
 /// An error: an allocation failed.
 pub(crate) fn entry_part(

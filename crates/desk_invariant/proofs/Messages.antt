@@ -1,5 +1,5 @@
--- A view that only carries what one client tells another owes the truth of that, and nothing more. So the rule stays
--- where such a view comes and where a client takes it in: the views alone change (`kept_views`).
+-- A message's view must only be true. So the rule is kept when a message is sent and when it is received: only the
+-- views change (`kept_views`).
 use Rattle.std.proofs.Common.{arith, ◌≡◌, ℕ, List, [], ◌∷◌, ◌++◌, set, All, refl, sym, ap, ◌∙◌, subst, ◌⊎◌, inl, inr}
 use mathlib.Core.Option.{some}
 use lib.ListN.{get_elem?}

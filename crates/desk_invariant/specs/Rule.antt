@@ -128,7 +128,7 @@ pub record ViewAgrees (kinds : List Kind) (lists : List TableId) (w : World) (se
   pub lists_are : v.role ≡ role.Client → v.lists ≡ lists
   pub maker_lists : v.role ≡ role.Maker → v.lists ≡ lists
 
--- the maker is one, and has made every client, and no more than there are to be
+-- There is at most one maker. It made every client, and at most `clients` of them.
 pub record Makers (clients : ℕ) (views : List DeskView) : Type 0 where
   pub made : (j : ℕ) (v : DeskView) → get_elem? views j ≡ some v → v.role ≡ role.Maker
       → (i : ℕ) (u : DeskView) → get_elem? views i ≡ some u
@@ -199,7 +199,7 @@ module _ {S O R : Type 0} (content : S → Content) (op_in : O → AnyOp) (reply
         pub seats : (j : ℕ) (v : DeskView) → get_elem? s.views j ≡ some v
             → ViewAgrees kinds lists world seat_of j v
         pub makers : Makers clients s.views
-        -- who holds an object has not ended
+        -- a client that holds an object has not ended
         pub holders : (x c : ℕ) → world.holder x ≡ Some c → (c < clients) × (world.ended c ≡ false)
-        -- who has come is one of the clients
+        -- a client that has come has a number below `clients`
         pub come : (c : ℕ) → world.stage c ≢ absent → c < clients

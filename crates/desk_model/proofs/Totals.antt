@@ -1,4 +1,4 @@
--- Sums over the clients' numbers.
+-- Sums over the clients' numbers: equal for equal terms, one more if one term is one more, at most n times a bound.
 use Rattle.std.proofs.Common.{◌≡◌, ◌≢◌, ℕ, zero, suc, ◌+◌, ◌*◌, ◌<◌, ◌≤◌, refl, sym, ap, ◌∙◌, arith, suc-mul}
 use mathlib.Core.Logic.{dite}
 use native.Mathlib.Decide.{ℕ_discrete}

@@ -42,16 +42,25 @@ ended_by w c = record w { ended = changed w.ended c true }
 
 -- a step of a client
 pub data Step : Type 0 where
-  -- draw the ticket of a call on an object, or of a return
+  -- draws the ticket of a call on an object
   draw_call : ℕ → AnyOp → Step
+  -- draws the ticket of a return
   draw_return : Step
+  -- puts its request into its row
   post : Step
+  -- takes the lock of an object
   win : ℕ → Step
+  -- takes the request of a row into its hand
   pick : ℕ → Step
+  -- does the operation of the request in hand, and answers it
   answer : Step
+  -- puts the request in hand back into its row
   put_back : Step
+  -- takes the answer of its own request
   take : Step
+  -- frees the lock
   release : Step
+  -- ends: it makes no further step
   end : Step
 
 -- the client c holds no object

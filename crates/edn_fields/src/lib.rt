@@ -69,7 +69,7 @@ pub fn keyword<'a>(value: Option<&'a Form>) -> Option<&'a Name>
     }
 }
 
-/// The number as one of an object, if it is not too great for one.
+/// The number as the number of an object, if it is at most 65,535.
 pub fn object(number: Option<u64>) -> Option<u32>
     ensures { result ≡ spec.object_in number }
 {

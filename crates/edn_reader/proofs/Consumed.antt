@@ -1,4 +1,5 @@
--- The tokens that lead to a state: what is read is spelled so.
+-- A step of the reader adds its token to the tokens that the state has consumed (`step_tokens`): by cases on the token
+-- and on the innermost level.
 use Rattle.std.proofs.Common.{◌≡◌, ◌<◌, ℕ, Bool, true, false, cond, Option, Some, None, List, [], ◌∷◌, ◌++◌, length}
 use Rattle.std.proofs.Common.{refl, ap, append_assoc}
 use Rattle.std.specs.Prelude.{option_map, nat_lt}

@@ -27,7 +27,7 @@ digit_of d h =
     let high : nat_le (48 + d) 57 ≡ true = le-leb (48 + d) 57 (omega arith) in
     and_from (nat_le 48 (48 + d)) (nat_le (48 + d) 57) low high
 
--- what is shown of the digits of n
+-- the digits are a numeral with this value, and no zero leads
 pub record IsDecimal (n : ℕ) (ds : List ℕ) : Type 0 where
   pub spelled : is_decimal ds ≡ true
   pub value : value_after 0 ds ≡ n

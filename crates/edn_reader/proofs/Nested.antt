@@ -1,4 +1,4 @@
--- Levels as they are in a vector, and from the innermost out.
+-- The levels of a vector, from the innermost out, are as many as the vector has, and a push adds one.
 use Rattle.std.proofs.Common.{◌≡◌, ◌+◌, ℕ, zero, suc, List, [], ◌∷◌, ◌++◌, length, refl, ap, arith}
 use Rattle.edn_reader.specs.declared.levels.Level.{Level}
 use Rattle.edn_reader.specs.Shapes.{Shape, a_vector}

@@ -1,4 +1,4 @@
--- The datum of a map, by its pairs.
+-- The datum of a map is the dictionary of its pairs' data, and that of a vector has its elements' data.
 use Rattle.std.proofs.Common.{◌≡◌, List, [], ◌∷◌, refl, ap, ◌∙◌, rules}
 use Rattle.std.specs.Prelude.{map}
 use Rattle.std.specs.Global.{Vec}

@@ -1,4 +1,4 @@
--- Words and the values of digits.
+-- A text is its first word and what follows it, and the value of digits grows with them.
 use Rattle.std.proofs.Common.{◌≡◌, ℕ, ◌+◌, ◌-◌, ◌*◌, ◌≤◌, List, [], ◌∷◌, ◌++◌, length, take, refl, arith}
 use Rattle.edn_reader.specs.Reading.{word, after_word}
 use Rattle.edn_reader.specs.Spells.{value_after}

@@ -24,8 +24,8 @@ pub enum FaultKind {
     DuplicateKey,
     /// E6: a map is closed after a key without its value. At the `}`.
     OddMap,
-    /// E7: a map's key is an element, but no keyword. At its first byte. A vector, a map or a
-    /// string is so before anything in it is looked at.
+    /// E7: a map's key is an element, but no keyword. At its first byte. This comes before any
+    /// fault inside the key.
     KeyKind,
     /// E8: a 17th bracket is opened. At that bracket.
     TooDeep,

@@ -1,5 +1,5 @@
 -- One map more of a history of any length: its events, and its fault. That is the first fault, since the maps before it
--- have none, and one of the map itself is none of its place.
+-- have none, and a fault of the map is neither *too many maps* nor a failed allocation.
 use Rattle.std.proofs.Common.{◌≡◌, ◌+◌, inl, inr, List, [], ◌∷◌, ◌++◌, length, refl, subst}
 use Rattle.std.proofs.Common.{zero-add, arith}
 use Rattle.std.proofs.lemmas.List.{length-append}

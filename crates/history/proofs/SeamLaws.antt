@@ -1,5 +1,5 @@
--- One more piece that fits after the joined ones is joined to them (`joined_more`): what it was first to say of a
--- process or an object is taken over once for each (`taken_more`). By cases on whether the key was met.
+-- One more piece that fits after the joined ones is joined to them (`joined_more`): what the piece says of a process
+-- or an object that no earlier piece named is added (`taken_more`). By cases on whether the key was met.
 use Rattle.std.proofs.Common.{◌≡◌, ℕ, ◌+◌, ◌<◌, ◌≤◌, ◌⊎◌, inl, inr, false}
 use Rattle.std.proofs.Common.{List, [], ◌∷◌, ◌++◌, map, length, take, get_or}
 use Rattle.std.proofs.Common.{Option, Some, None, All, refl, ap, sym, ◌∙◌}

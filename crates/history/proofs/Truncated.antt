@@ -1,4 +1,4 @@
--- What a form says is what is kept of it says: no value that is looked at is cut, by cases of each.
+-- A form says what its truncated form says: no value that is looked at is cut, by cases on each.
 use Rattle.std.proofs.Common.{arith, ◌≡◌, ℕ, Option, Some, None, List, codes, refl, sym, ap, subst, ◌∙◌}
 use Rattle.std.specs.Prelude.{option_map, is_some}
 use Rattle.edn_reader.specs.Truncation.{most_items, truncated_item, truncated_items, truncated_value, truncated_entries}

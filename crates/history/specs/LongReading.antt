@@ -14,6 +14,6 @@ pub record AreReadAtAnyLength (reader : LongReader) (ds : List Datum) : Type 0 w
   pub faultless : IsFaultlessAtAnyLength ds
   pub count : length ds ≡ reader.maps
 
--- no fault of the map itself: it is one too many, or an allocation failed
+-- the fault is not in the map: there is one map too many, or an allocation failed
 abbrev pub IsOfPlace : HistoryFaultKind → Type 0
 IsOfPlace kind = (kind ≡ TooMany) ⊎ (kind ≡ NoMemory)

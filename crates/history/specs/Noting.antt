@@ -12,7 +12,7 @@ use Rattle.history.specs.declared.piece.FirstMap.{FirstMap}
 use Rattle.history.specs.Seen.{IsProcessFault, IsNoOther, doing_after}
 use Rattle.history.specs.Views.{map_type}
 
--- the map is put down as the first of its process, or is allowed after those before it
+-- the map is recorded as the first of its process, or is allowed after those before it
 abbrev pub IsFirstOrAllowed : Option Process → List FirstMap → List FirstMap → FirstMap → Type 0
 IsFirstOrAllowed None old new m = new ≡ old ++ m ∷ []
 IsFirstOrAllowed (Some p) old new m =

@@ -22,7 +22,7 @@ impl Attempts {
         }
     }
 
-    /// Whether the next map is to be tried. One that is not counts as passed over.
+    /// Whether the next map is to be tried. A map that is not tried is counted as passed over.
     #[inline(always)]
     pub fn is_due(&mut self) -> bool {
         if self.passed == 0 {

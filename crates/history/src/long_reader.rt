@@ -16,8 +16,8 @@ use events::Event;
 use std::alloc::Global;
 
 /// What the maps so far say of each process and of each object, and the number of the maps. Their
-/// events are not kept, so the memory that is taken goes by the processes and objects that they
-/// name, and not by their number.
+/// events are not kept, so the memory depends on the processes and objects that they name, and not
+/// on their number.
 #[derive(Drop)]
 pub struct LongReader {
     seen: Seen,

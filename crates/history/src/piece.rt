@@ -158,10 +158,10 @@ impl ReadPiece {
         }
     }
 
-    /// Takes in the maps of these lines, in which each form is one operation map. None says nothing
-    /// of the lines, and then nothing is known of the piece: the lines spell no forms, a map of
-    /// them has a fault after those of the piece before it, they are too many, or an allocation
-    /// failed.
+    /// Takes in the maps of these lines, in which each form is one operation map. `None` is no
+    /// verdict on the lines, and then nothing is known of the piece: the lines spell no forms, a
+    /// map of them has a fault after those of the piece before it, they are too many, or an
+    /// allocation failed.
     pub fn read_lines(&mut self, alloc: Global, lines: &[u8]) -> Option<()>
         ensures { OnSome result ((ds : List Datum) → IsOfForms self.old ds
             → (es : List Datum) × Spells es lines.now × IsOfForms self.new (ds ++ es)) }

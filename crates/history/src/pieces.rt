@@ -36,8 +36,8 @@ fn cut_at_feed(text: &[u8], from: usize) -> Option<(&[u8], &[u8])>
     Some((&text[..feed], &text[feed + 1..]))
 }
 
-/// Reads a piece of a history's text by itself. None says nothing of the text: a line is unusual,
-/// or an allocation failed.
+/// Reads a piece of a history's text by itself. `None` is no verdict on the text: a line is
+/// unusual, or an allocation failed.
 pub fn read_piece(alloc: Global, piece: &[u8]) -> Option<ReadPiece>
     ensures { IfSome result (IsReadFrom piece.now) }
 {

@@ -136,8 +136,8 @@ impl Seams {
         }
     }
 
-    /// Joins one more piece to those before it. None says nothing of the pieces: a map of this one
-    /// has a fault after theirs, their maps are too many, or an allocation failed.
+    /// Joins one more piece to those before it. `None` is no verdict on the pieces: a map of this
+    /// one has a fault after theirs, their maps are too many, or an allocation failed.
     pub fn add(self, read: ReadPiece) -> Option<Seams>
         ensures { IfSome result (λ s. (ds es : List Datum) → AreJoined self ds → IsOfForms read es
             → AreJoined s (ds ++ es)) }

@@ -41,7 +41,7 @@ impl Reading {
         }
     }
 
-    /// Reads one more map from what it says, if none was faulty.
+    /// Reads one more map from what it says. No map so far may be faulty.
     fn take_said(&mut self, said: OperationMap)
         requires { self.old.fault ≡ None }
         ensures { (ds : List Datum) (d : Datum) → Says said d
@@ -54,7 +54,7 @@ impl Reading {
         }
     }
 
-    /// Reads one more map from what it says, unless an earlier one is faulty.
+    /// Reads one more map from what it says, or keeps the fault of an earlier one.
     fn take(&mut self, said: OperationMap)
         ensures { (ds : List Datum) (d : Datum) → Says said d
             → IsHistoryReading self.old ds → IsHistoryReading self.new (ds ++ d ∷ []) }

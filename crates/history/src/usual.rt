@@ -1,5 +1,5 @@
-//! The parts of an operation map in a usual form, from the front of a text. What is written in
-//! another way is none of them, though it may be well formed.
+//! The parts of an operation map in a usual form, from the front of a text. A text that is written
+//! in another way is not read here, even if it is well formed.
 
 ghost use Rattle.std.specs.Prelude.{◌≡◌, true, [], ◌∷◌, ◌++◌, codes, pos, IfSome};
 ghost use Rattle.edn_reader.specs.Datum.{integer, keyword, atom};

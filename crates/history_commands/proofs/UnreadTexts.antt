@@ -1,4 +1,4 @@
--- A text that could not be read.
+-- If the text of a history could not be read, a command says so and nothing else.
 use Rattle.std.proofs.Common.{ℕ, List}
 use Rattle.judging.specs.declared.texts.TextFailure.{TextFailure}
 use Rattle.judging.specs.declared.texts.TextFailure.TheVariants.{Faulty, NoMemory}

@@ -115,7 +115,7 @@ fn answer_claims(
     ensures { IfOk result (λ a. AnswersClaims (object_named shard.count shard.number) history.now
         claims.items steps (answer_seen a)) }
 {
-    // These two do nothing: they say that valid certificates suffice.
+    // Two calls for their contracts alone: valid certificates suffice.
     history.events();
     named_objects();
     let decisions = decide_by_claims(alloc, history, claims, u64::from(steps))?;

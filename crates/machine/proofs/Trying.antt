@@ -1,4 +1,5 @@
--- What a step that was tried says.
+-- A step that is not possible now is impossible in the world, and after a step that was tried, done or refused, the
+-- state is still that of a run.
 use Rattle.std.proofs.Common.{◌≡◌, ℕ, Result, Ok, Err, IfErr, IsErrAnd, sym, subst, ◌∙◌}
 use Rattle.model.specs.declared.AnyReply.{AnyReply}
 use Rattle.desk_model.specs.Transitions.{Step}

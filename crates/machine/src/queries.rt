@@ -115,7 +115,7 @@ impl<S: SeqObject> Machine<S> {
         }
     }
 
-    /// Whether no two steps of the client's call that follow each other have it between them.
+    /// Whether the client may end: its call is not between two of its own steps.
     pub(crate) fn may_end(&self, client: u32) -> bool
         requires { client < clients_of self.now }
         ensures { IsTrue result ↔ MayEnd ((world_of self.now).stage client) }

@@ -1,4 +1,4 @@
--- Laws of the objects.
+-- The empty content of a kind is of this kind.
 use Rattle.std.proofs.Common.{◌≡◌, refl}
 use Rattle.model.specs.declared.Kind.{Kind}
 use Rattle.model.specs.declared.Kind.TheVariants as kind

@@ -1,4 +1,4 @@
--- What orders of calls are compared by.
+-- Small laws of numbers and returns, by which orders of calls are compared.
 use Rattle.std.proofs.Common.{◌≡◌, ◌⊎◌, ℕ, Option, Some, None, IsSome, max, refl, arith}
 use Rattle.std.specs.Prelude.{pos}
 use Rattle.std.proofs.lemmas.Int.{ints}

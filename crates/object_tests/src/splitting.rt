@@ -5,7 +5,7 @@ use seq_objects::{AnyOp, AnyReply, Kind};
 use std::alloc::Global;
 use std::test::Fail;
 
-/// An enqueue that fails, an acquire that may have happened, and a dequeue that answers nil.
+/// An enqueue that fails, an acquire that may have happened, and a dequeue that returned nil.
 fn three_operations(alloc: Global) -> Result<History, Fail> {
     let events = [
         Event {
@@ -51,7 +51,7 @@ fn three_operations(alloc: Global) -> Result<History, Fail> {
     Ok(History::new(events))
 }
 
-/// What the acquire did.
+/// The acquire, which stayed pending.
 const ACQUIRE: Invocation = Invocation {
     number: 3,
     op: AnyOp::Acquire,

@@ -16,7 +16,6 @@ pub grown : {A Z : Type 0} (old new : List (Vec A Z)) (v : Vec A Z) → new ≡ 
 grown old new v e = ap items_of_each e ∙ map-append (λ v. v.items) old (v ∷ [])
 
 module _ {X : Type 0} where
-  -- with one more row there is one row more
   pub one_longer : (rows rows' : List (List X)) (row : List X) (n : ℕ) → rows' ≡ rows ++ row ∷ [] → length rows ≡ n
       → length rows' ≡ n + 1
   one_longer rows rows' row n e long =

@@ -1,4 +1,5 @@
--- The reply that an operation gives has the shape of its replies.
+-- The reply that an operation gives has the shape of its replies: by cases on the operation (`shape_next`), and along
+-- a valid order by induction (`shape_ordered`).
 use Rattle.std.proofs.Common.{◌≡◌, ℤ, ◌+ℤ◌, Bool, true, false, cond, not, int_eq, inl, inr, List, [], ◌∷◌, Option}
 use Rattle.std.proofs.Common.{Some, None, IsSome, IfSome, Contains, refl, sym, ap, subst, ◌∙◌}
 use Rattle.std.proofs.lemmas.Option.{same_Some}

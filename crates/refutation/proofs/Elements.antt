@@ -1,4 +1,4 @@
--- Sets read element by element.
+-- A set is read element by element: one more form adds its integer to the keys.
 use Rattle.std.proofs.Common.{◌≡◌, ℕ, ◌+◌, ◌<◌, List, ◌∷◌, length, drop, get_or, Option, Some, ap, sym, ◌∙◌}
 use Rattle.std.specs.Prelude.{ℤ, option_and_then}
 use Rattle.std.specs.Ordering.{int_cmp}

@@ -63,8 +63,8 @@ pub fn search_all_by(
     ensures valid { IfOk result (λ v. All (λ a. IsFound a.1) v.items
         → AreValid history.now (certificates_found v.items)) }
 {
-    // These two do nothing. The first says that the events denote a well-formed history, the second
-    // that each object of a linearizable one has a valid order.
+    // Two calls for their contracts alone: the events denote a well-formed history, and each object
+    // of a linearizable one has a valid order.
     history.events();
     linearizable_has_orders();
     let objects = split(alloc, history)?;

@@ -1,4 +1,4 @@
-//! The library by its one crate: a history is searched, and what was found is judged.
+//! A history is searched, and the certificates that were found are judged.
 
 use certificate::write_certificates;
 use edn::Out;

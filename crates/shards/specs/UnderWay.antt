@@ -58,7 +58,8 @@ EndsInsideForm (piece.FewShards x) = ⊥
 abbrev pub too_long_at : ℕ → TextFault
 too_long_at start = Text (record { kind = edn_kind.TooLong; place = start })
 
--- the fault of a piece that begins at this place, if the place of the fault is that in the text
+-- a fault found in a piece that begins at `start`, as a fault of the whole: its place is moved by
+-- `start`
 abbrev pub IsFaultFrom : ℕ → PieceFault → SplitFault → Type 0
 IsFaultFrom start fault (Malformed (Text e)) = (place : ℕ) × (e.place ≡ start + place)
     × (fault ≡ piece.Malformed (Text (record e { place = place }))) × (e.kind ≢ edn_kind.NoMemory)
@@ -78,7 +79,7 @@ IsFaultIn count text left Read = ⊤
 IsFaultIn count text left Write = ⊤
 IsFaultIn count text left NoMemory = ⊤
 
--- nothing is wrong with the text
+-- the source or the folder failed, or an allocation did: nothing is said of the text
 abbrev pub IsOfHost : SplitFault → Type 0
 IsOfHost (Malformed fault) = ⊥
 IsOfHost (FewShards x) = ⊥

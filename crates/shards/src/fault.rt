@@ -40,7 +40,8 @@ pub(crate) enum PieceFault {
     FewShards(u32),
 }
 
-/// Whether the text ends inside a form. More text may end the form, and mends no other fault.
+/// Whether the text ends inside a form. More text can complete the form; it can repair no other
+/// fault.
 pub(crate) fn ends_inside_form(fault: PieceFault) -> bool
     ensures { IsTrue result ↔ EndsInsideForm fault }
 {

@@ -87,7 +87,7 @@ impl Pieces {
         self.text.as_slice()
     }
 
-    /// How many bytes of the whole are before that.
+    /// The byte of the whole at which `text` begins.
     pub fn start(&self) -> usize
         ensures { result ≡ self.now.start }
     {

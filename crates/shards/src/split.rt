@@ -107,7 +107,7 @@ pub fn split_by_pieces<F: Source, D: Folder>(
             return Err(SplitFault::Write);
         };
     }
-    // The pieces are more than can be counted.
+    // Unreachable in practice, after 2^64 pieces. A `loop` would need a measure.
     Err(SplitFault::NoMemory)
 }
 

@@ -39,7 +39,8 @@ impl Waiting {
             (self.new.places.items ≡ self.old.places.items ++ (decimal place ++ 10 ∷ [])) }
         ensures count { OnOk result (self.new.count ≡ self.old.count + 1) }
     {
-        // A history has no more maps than can be counted.
+        // Cannot happen: a history has fewer than 2^32 maps. It would be reported as a failed
+        // allocation.
         let Some(count) = self.count.checked_add(1) else {
             return Err(AllocError);
         };
