@@ -18,7 +18,7 @@ use Rattle.seq_objects.specs.Kinds.{kind_in}
 use Rattle.model.specs.Objects.{kind_of}
 use Rattle.clients.specs.declared.call_numbers.Draws.{Draws}
 use Rattle.clients.specs.declared.kinds.Operations.{Operations}
-use Rattle.clients.specs.declared.kinds.Operations.TheVariants.{Two, Three, Pair}
+use Rattle.clients.specs.declared.kinds.Operations.TheVariants.{Either, AnyOfThree, InTurn}
 use Rattle.clients.specs.Kinds.{operations_with}
 use Rattle.clients.specs.Workloads.{WorkCall}
 
@@ -42,16 +42,16 @@ draws_from objects s =
 
 -- the operations are of this kind
 abbrev pub AreOf : Kind → Operations → Type 0
-AreOf kind (Two a b) = (kind_of a ≡ kind) × (kind_of b ≡ kind)
-AreOf kind (Three a b c) = (kind_of a ≡ kind) × (kind_of b ≡ kind) × (kind_of c ≡ kind)
-AreOf kind (Pair take free) = (kind_of take ≡ kind) × (kind_of free ≡ kind)
+AreOf kind (Either a b) = (kind_of a ≡ kind) × (kind_of b ≡ kind)
+AreOf kind (AnyOfThree a b c) = (kind_of a ≡ kind) × (kind_of b ≡ kind) × (kind_of c ≡ kind)
+AreOf kind (InTurn take free) = (kind_of take ≡ kind) × (kind_of free ≡ kind)
 
 -- the operation at a place, counted around
 abbrev pub operation_drawn : Operations → ℕ → AnyOp
-operation_drawn (Two a b) place = if place % 2 == 0 then a else b
-operation_drawn (Three a b c) place =
+operation_drawn (Either a b) place = if place % 2 == 0 then a else b
+operation_drawn (AnyOfThree a b c) place =
     if place % 3 == 0 then a else if place % 3 == 1 then b else c
-operation_drawn (Pair take free) place = if place % 2 == 0 then take else free
+operation_drawn (InTurn take free) place = if place % 2 == 0 then take else free
 
 -- the operation of an object of this kind that these numbers choose
 abbrev pub op_for : Kind → Draws → AnyOp
@@ -79,7 +79,7 @@ stream_for seed client = stream_at (started 64 multiplier_64 seed (increment_of 
 
 -- the operations that take and free an object, if these are such a pair
 abbrev pub pair_in : Operations → Option (AnyOp × AnyOp)
-pair_in (Pair take free) = Some (take, free)
+pair_in (InTurn take free) = Some (take, free)
 pair_in operations = None
 
 -- the pair that a client calls on objects of one kind that has pairs: both values are its number

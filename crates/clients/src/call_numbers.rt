@@ -52,9 +52,9 @@ pub(crate) fn operation(kind: Kind, draws: Draws) -> AnyOp
 {
     let (first, second) = (i64::from(draws.first), i64::from(draws.second));
     match operations_of(kind, first, second) {
-        Operations::Two(a, _) | Operations::Pair(a, _) if draws.choice % 2 == 0 => a,
-        Operations::Two(_, b) | Operations::Pair(_, b) => b,
-        Operations::Three(a, b, c) => match draws.choice % 3 {
+        Operations::Either(a, _) | Operations::InTurn(a, _) if draws.choice % 2 == 0 => a,
+        Operations::Either(_, b) | Operations::InTurn(_, b) => b,
+        Operations::AnyOfThree(a, b, c) => match draws.choice % 3 {
             0 => a,
             1 => b,
             _ => c,

@@ -75,8 +75,8 @@ fn pair_for(kinds: Kinds, client: u32) -> Option<(AnyOp, AnyOp)>
     };
     let owner = i64::from(client);
     match operations_of(kind, owner, owner) {
-        Operations::Pair(take, free) => Some((take, free)),
-        Operations::Two(_, _) | Operations::Three(_, _, _) => None,
+        Operations::InTurn(take, free) => Some((take, free)),
+        Operations::Either(_, _) | Operations::AnyOfThree(_, _, _) => None,
     }
 }
 

@@ -20,8 +20,8 @@ use Rattle.command_line.specs.Lines.{verb_named}
 use Rattle.command_line.specs.declared.asking.Line.{Line}
 use Rattle.command_line.specs.declared.asking.LineFault.{LineFault}
 use Rattle.command_line.specs.declared.asking.LineFault.TheVariants as said
-use Rattle.command_line.specs.declared.lines.NoLine.{NoLine}
-use Rattle.command_line.specs.declared.lines.NoLine.TheVariants.{NoMemory, Words, Value}
+use Rattle.command_line.specs.declared.lines.Unfit.{Unfit}
+use Rattle.command_line.specs.declared.lines.Unfit.TheVariants.{NoMemory, NoCommand, Value}
 use Rattle.command_line.specs.declared.table.Verb.{Verb}
 
 -- ---- what was found
@@ -64,11 +64,11 @@ module _ (m : Option (Text × List Row)) (name : Text) (rows : List Row) (entere
         let v : f.verb ≡ verb = cc (n, named) in
         none l (subst (λ w. IsLine w rows l) v (subst (λ rs. IsLine f.verb rs l) s.1 f.line_is))
 
-    pub finds : (r : Result Line NoLine) → IsLineRead verb rows r → IfOk r (Finds m)
+    pub finds : (r : Result Line Unfit) → IsLineRead verb rows r → IfOk r (Finds m)
     finds (Ok l) is = record { name = name; rows = rows; entered = entered; verb = verb; named = named; line_is = is }
     finds (Err u) none = tt
 
-    pub finds_none : (r : Result Line NoLine) → IsLineRead verb rows r
+    pub finds_none : (r : Result Line Unfit) → IsLineRead verb rows r
         → IfErr r (λ u. u ≢ NoMemory → (l : Line) → Finds m l → ⊥)
     finds_none (Ok l) is = tt
     finds_none (Err u) none = λ other. no_line (none other)
@@ -116,9 +116,9 @@ module _ (a : App) (words : List Text) (is : a ≡ command) where
           { faultless = faultless; none = λ l f. none l (subst (λ o. Finds o l) (sym found) f); refused = tt }))
       unfit said.NoMemory none refuses = inl refl
 
-      pub not_read : (u : NoLine) (f : LineFault) → (u ≡ NoMemory → f ≡ said.NoMemory)
+      pub not_read : (u : Unfit) (f : LineFault) → (u ≡ NoMemory → f ≡ said.NoMemory)
           → (f ≢ said.NoMemory → AreWordsRefused f)
           → (u ≢ NoMemory → (l : Line) → Finds (subcommand_rows_of m) l → ⊥) → IsLineFault words f
       not_read NoMemory f memory refuses none = inl (memory refl)
-      not_read Words f memory refuses none = unfit f (none (λ e. cc)) refuses
+      not_read NoCommand f memory refuses none = unfit f (none (λ e. cc)) refuses
       not_read (Value name takes) f memory refuses none = unfit f (none (λ e. cc)) refuses

@@ -7,7 +7,7 @@ use Rattle.clap.specs.declared.builder.action.ArgAction.TheVariants.{SetTrue}
 use Rattle.clap.specs.declared.builder.value_parser.ValueParser.{ValueParser}
 use Rattle.clap.specs.declared.builder.value_parser.ValueParser.TheVariants.{Unsigned}
 use Rattle.command_line.specs.declared.table.Takes.{Takes}
-use Rattle.command_line.specs.declared.table.Takes.TheVariants.{Number, Kind, First, Nothing}
+use Rattle.command_line.specs.declared.table.Takes.TheVariants.{Number, Kind, TryFirst, Nothing}
 use Rattle.command_line.specs.declared.table.TheConstants.{COMMANDS}
 
 -- a file is a required argument
@@ -18,14 +18,14 @@ file_rule name = record (new_rule name) { required = true }
 abbrev pub parser_of : Takes → Option ValueParser
 parser_of (Number bounds) = Some (Unsigned bounds.least bounds.most)
 parser_of Kind = None
-parser_of First = None
+parser_of TryFirst = None
 parser_of Nothing = None
 
 -- a flag takes no value; other options have one, as is the default
 abbrev pub action_of : Takes → Option ArgAction
 action_of (Number bounds) = None
 action_of Kind = None
-action_of First = None
+action_of TryFirst = None
 action_of Nothing = Some SetTrue
 
 -- `--name`, with a value or as a flag

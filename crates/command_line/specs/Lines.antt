@@ -23,8 +23,8 @@ use Rattle.command_line.specs.declared.asking.Line.TheVariants.{Check, Search, R
 use Rattle.command_line.specs.declared.asking.Line.TheVariants.{Run, Simulate, OnFolder}
 use Rattle.command_line.specs.declared.asking.LineFault.{LineFault}
 use Rattle.command_line.specs.declared.asking.LineFault.TheVariants.{Help, Refused, NoMemory}
-use Rattle.command_line.specs.declared.lines.NoLine.{NoLine}
-use Rattle.command_line.specs.declared.lines.NoLine.TheVariants as unread
+use Rattle.command_line.specs.declared.lines.Unfit.{Unfit}
+use Rattle.command_line.specs.declared.lines.Unfit.TheVariants as unread
 use Rattle.command_line.specs.declared.asking.RunOptions.{RunOptions}
 use Rattle.command_line.specs.declared.on_folder.FolderLine.{FolderLine}
 use Rattle.command_line.specs.declared.on_folder.FolderLine.TheVariants.{Split, Merge}
@@ -112,7 +112,7 @@ abbrev pub rows_in : ArgMatches → List Row
 rows_in m = rows_of (found_of m)
 
 -- the line of this command that was read, or there is none, unless an allocation failed
-abbrev pub IsLineRead : Verb → List Row → Result Line NoLine → Type 0
+abbrev pub IsLineRead : Verb → List Row → Result Line Unfit → Type 0
 IsLineRead v rows r =
     MatchResult r (IsLine v rows)
     (λ u. u ≢ unread.NoMemory → (line : Line) → IsLine v rows line → ⊥)

@@ -30,7 +30,7 @@ fn with_values<'a>(option: Arg<'a>, takes: Takes) -> Arg<'a>
         Takes::Number(bounds) => {
             option.value_parser(ValueParser::unsigned(bounds.least, bounds.most))
         }
-        Takes::Kind | Takes::First => option,
+        Takes::Kind | Takes::TryFirst => option,
         Takes::Nothing => option.action(ArgAction::SetTrue),
     }
 }

@@ -5,7 +5,7 @@ ghost use Rattle.clap.specs.Values.{kind_of};
 ghost use Rattle.command_line.specs.Lines as spec;
 
 use crate::asking::LineFault;
-use crate::lines::NoLine;
+use crate::lines::Unfit;
 use crate::table::Takes;
 use clap::Error;
 use clap::error::ErrorKind;
@@ -15,7 +15,7 @@ use std::alloc::{AllocError, Global};
 const KINDS: &str = "queue, stack, heap, register, map, mutex, set, counter, lock, mixed";
 
 /// What `--first` takes.
-const FIRSTS: &str = "number, return";
+const TRY_FIRST_WORDS: &str = "number, return";
 
 /// What `clap` says: help, or what is wrong.
 pub(crate) fn fault_of(alloc: Global, error: &Error) -> LineFault
@@ -32,13 +32,13 @@ pub(crate) fn fault_of(alloc: Global, error: &Error) -> LineFault
 }
 
 /// Why a value that `clap` accepted is refused.
-fn reason_of(alloc: Global, unread: &NoLine) -> Result<String, AllocError> {
-    let NoLine::Value(name, takes) = unread else {
+fn reason_of(alloc: Global, unread: &Unfit) -> Result<String, AllocError> {
+    let Unfit::Value(name, takes) = unread else {
         return String::from_str(alloc, "error: these words are no command\n");
     };
     match takes {
         Takes::Kind => format!(in alloc; "error: --{name} takes one of the words {KINDS}\n"),
-        Takes::First => format!(in alloc; "error: --{name} takes one of the words {FIRSTS}\n"),
+        Takes::TryFirst => format!(in alloc; "error: --{name} takes one of the words {TRY_FIRST_WORDS}\n"),
         Takes::Number(bounds) => format!(in alloc;
             "error: --{name} takes a number from {} to {}\n",
             bounds.least, bounds.most
@@ -48,11 +48,11 @@ fn reason_of(alloc: Global, unread: &NoLine) -> Result<String, AllocError> {
 }
 
 /// Says why what was found fits no line.
-pub(crate) fn explain(alloc: Global, unread: &NoLine) -> LineFault
-    ensures memory { unread.now ≡ NoLine.NoMemory → result ≡ LineFault.NoMemory }
+pub(crate) fn explain(alloc: Global, unread: &Unfit) -> LineFault
+    ensures memory { unread.now ≡ Unfit.NoMemory → result ≡ LineFault.NoMemory }
     ensures refused { result ≢ LineFault.NoMemory → spec.AreWordsRefused result }
 {
-    if matches!(unread, NoLine::NoMemory) {
+    if matches!(unread, Unfit::NoMemory) {
         return LineFault::NoMemory;
     }
     match reason_of(alloc, unread) {

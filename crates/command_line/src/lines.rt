@@ -7,7 +7,7 @@ ghost use Rattle.clap.specs.Words.{first_of, subcommand_rows_of};
 ghost use Rattle.command_line.specs.Lines.{rows_in};
 ghost use Rattle.command_line.specs.declared.asking.Line.{Line};
 ghost use Rattle.command_line.specs.declared.asking.RunOptions.{RunOptions};
-ghost use Rattle.command_line.specs.declared.lines.NoLine.TheVariants.{NoMemory};
+ghost use Rattle.command_line.specs.declared.lines.Unfit.TheVariants.{NoMemory};
 ghost use Rattle.search.specs.declared.trials.TryFirst.{TryFirst};
 ghost use Rattle.seq_objects.specs.declared.kinds.Kinds.{Kinds};
 
@@ -23,19 +23,19 @@ use std::alloc::{AllocError, Global};
 
 /// Why the words give no command.
 #[derive(Drop)]
-pub(crate) enum NoLine {
+pub(crate) enum Unfit {
     NoMemory,
-    /// They are not those of a command.
-    Words,
+    /// They name no command.
+    NoCommand,
     /// The option with this name takes no such value.
     Value(&'static str, Takes),
 }
 
-impl From<AllocError> for NoLine {
+impl From<AllocError> for Unfit {
     ghost from_gives = { λ _ u. u ≡ NoMemory };
 
-    fn from(_e: AllocError) -> NoLine {
-        NoLine::NoMemory
+    fn from(_e: AllocError) -> Unfit {
+        Unfit::NoMemory
     }
 }
 
@@ -57,7 +57,7 @@ fn is_given(found: &ArgMatches<'_>, name: &str) -> bool
 }
 
 /// The number of the option with this name and these bounds.
-fn number_of(found: &ArgMatches<'_>, name: &'static str, bounds: Bounds) -> Result<u64, NoLine>
+fn number_of(found: &ArgMatches<'_>, name: &'static str, bounds: Bounds) -> Result<u64, Unfit>
     requires { (bounds.least ≤ bounds.default) × (bounds.default ≤ bounds.most) }
     ensures is { IfOk result (spec.IsNumber bounds (first_of name.entry.now (rows_in found.now))) }
     ensures within { IfOk result (λ n. (bounds.least ≤ n) × (n ≤ bounds.most)) }
@@ -68,13 +68,13 @@ fn number_of(found: &ArgMatches<'_>, name: &'static str, bounds: Bounds) -> Resu
         None => Ok(bounds.default),
         Some(text) => match text.parse::<u64>() {
             Ok(number) if bounds.least <= number && number <= bounds.most => Ok(number),
-            _ => Err(NoLine::Value(name, Takes::Number(bounds))),
+            _ => Err(Unfit::Value(name, Takes::Number(bounds))),
         },
     }
 }
 
 /// Which operation a search is to try first.
-fn try_first_of(found: &ArgMatches<'_>) -> Result<TryFirst, NoLine>
+fn try_first_of(found: &ArgMatches<'_>) -> Result<TryFirst, Unfit>
     ensures is { IfOk result (spec.IsFirst (first_of (codes "first") (rows_in found.now))) }
     ensures none { IfErr result (λ _. (first : TryFirst) →
         spec.IsFirst (first_of (codes "first") (rows_in found.now)) first → ⊥) }
@@ -83,12 +83,12 @@ fn try_first_of(found: &ArgMatches<'_>) -> Result<TryFirst, NoLine>
         None => Ok(TryFirst::LeastNumber),
         Some("number") => Ok(TryFirst::LeastNumber),
         Some("return") => Ok(TryFirst::LeastReturn),
-        Some(_) => Err(NoLine::Value("first", Takes::First)),
+        Some(_) => Err(Unfit::Value("first", Takes::TryFirst)),
     }
 }
 
 /// The kinds that a run is to have.
-fn kinds_of(found: &ArgMatches<'_>) -> Result<Kinds, NoLine>
+fn kinds_of(found: &ArgMatches<'_>) -> Result<Kinds, Unfit>
     ensures is { IfOk result (spec.IsKinds (first_of (codes "kind") (rows_in found.now))) }
     ensures none { IfErr result (λ _. (kinds : Kinds) →
         spec.IsKinds (first_of (codes "kind") (rows_in found.now)) kinds → ⊥) }
@@ -97,29 +97,29 @@ fn kinds_of(found: &ArgMatches<'_>) -> Result<Kinds, NoLine>
         None => Ok(default_kinds()),
         Some(name) => match kinds_named(name.as_bytes()) {
             Some(kinds) => Ok(kinds),
-            None => Err(NoLine::Value("kind", Takes::Kind)),
+            None => Err(Unfit::Value("kind", Takes::Kind)),
         },
     }
 }
 
 /// The file of this argument.
-fn file_of(alloc: Global, found: &ArgMatches<'_>, name: &str) -> Result<String, NoLine>
+fn file_of(alloc: Global, found: &ArgMatches<'_>, name: &str) -> Result<String, Unfit>
     ensures is { IfOk result (λ s. spec.IsFile name.now (rows_in found.now) (string_bytes s)) }
-    ensures none { IfErr result (λ u. u ≢ NoLine.NoMemory →
+    ensures none { IfErr result (λ u. u ≢ Unfit.NoMemory →
         (t : List ℕ) → spec.IsFile name.now (rows_in found.now) t → ⊥) }
 {
     match value_of(found, name) {
         Some(file) => Ok(String::from_str(alloc, file)?),
-        None => Err(NoLine::Words),
+        None => Err(Unfit::NoCommand),
     }
 }
 
 /// The history's file, and the file of this argument.
-fn files_of(alloc: Global, found: &ArgMatches<'_>, second: &str) -> Result<(String, String), NoLine>
+fn files_of(alloc: Global, found: &ArgMatches<'_>, second: &str) -> Result<(String, String), Unfit>
     ensures is { IfOk result (λ r.
         spec.IsFile (codes "HISTORY") (rows_in found.now) (string_bytes r.0)
         × spec.IsFile second.now (rows_in found.now) (string_bytes r.1)) }
-    ensures none { IfErr result (λ u. u ≢ NoLine.NoMemory →
+    ensures none { IfErr result (λ u. u ≢ Unfit.NoMemory →
         (t v : List ℕ) → spec.IsFile (codes "HISTORY") (rows_in found.now) t →
         spec.IsFile second.now (rows_in found.now) v → ⊥) }
 {
@@ -128,7 +128,7 @@ fn files_of(alloc: Global, found: &ArgMatches<'_>, second: &str) -> Result<(Stri
     Ok((history, file))
 }
 
-fn check_of(alloc: Global, found: &ArgMatches<'_>) -> Result<Line, NoLine>
+fn check_of(alloc: Global, found: &ArgMatches<'_>) -> Result<Line, Unfit>
     ensures { spec.IsLineRead Verb.Check (rows_in found.now) result }
 {
     let (history, certificates) = files_of(alloc, found, "CERTS")?;
@@ -140,7 +140,7 @@ fn check_of(alloc: Global, found: &ArgMatches<'_>) -> Result<Line, NoLine>
     })
 }
 
-fn search_of(alloc: Global, found: &ArgMatches<'_>) -> Result<Line, NoLine>
+fn search_of(alloc: Global, found: &ArgMatches<'_>) -> Result<Line, Unfit>
     ensures { spec.IsLineRead Verb.Search (rows_in found.now) result }
 {
     let history = file_of(alloc, found, "HISTORY")?;
@@ -153,7 +153,7 @@ fn search_of(alloc: Global, found: &ArgMatches<'_>) -> Result<Line, NoLine>
     })
 }
 
-fn refute_of(alloc: Global, found: &ArgMatches<'_>) -> Result<Line, NoLine>
+fn refute_of(alloc: Global, found: &ArgMatches<'_>) -> Result<Line, Unfit>
     ensures { spec.IsLineRead Verb.Refute (rows_in found.now) result }
 {
     let (history, reasons) = files_of(alloc, found, "REASONS")?;
@@ -165,7 +165,7 @@ fn refute_of(alloc: Global, found: &ArgMatches<'_>) -> Result<Line, NoLine>
     })
 }
 
-fn verify_of(alloc: Global, found: &ArgMatches<'_>) -> Result<Line, NoLine>
+fn verify_of(alloc: Global, found: &ArgMatches<'_>) -> Result<Line, Unfit>
     ensures { spec.IsLineRead Verb.Verify (rows_in found.now) result }
 {
     let (history, evidence) = files_of(alloc, found, "EVIDENCE")?;
@@ -180,7 +180,7 @@ fn verify_of(alloc: Global, found: &ArgMatches<'_>) -> Result<Line, NoLine>
 }
 
 /// The options of `run`.
-fn options_of(found: &ArgMatches<'_>) -> Result<RunOptions, NoLine>
+fn options_of(found: &ArgMatches<'_>) -> Result<RunOptions, Unfit>
     ensures is { IfOk result (spec.AreRunOptions (rows_in found.now)) }
     ensures none { IfErr result (λ _. (o : RunOptions) →
         spec.AreRunOptions (rows_in found.now) o → ⊥) }
@@ -199,20 +199,20 @@ fn options_of(found: &ArgMatches<'_>) -> Result<RunOptions, NoLine>
     })
 }
 
-fn run_of(found: &ArgMatches<'_>) -> Result<Line, NoLine>
+fn run_of(found: &ArgMatches<'_>) -> Result<Line, Unfit>
     ensures { spec.IsLineRead Verb.Run (rows_in found.now) result }
 {
     Ok(Line::Run(options_of(found)?))
 }
 
-fn simulate_of(alloc: Global, found: &ArgMatches<'_>) -> Result<Line, NoLine>
+fn simulate_of(alloc: Global, found: &ArgMatches<'_>) -> Result<Line, Unfit>
     ensures { spec.IsLineRead Verb.Simulate (rows_in found.now) result }
 {
     let schedule = file_of(alloc, found, "SCHEDULE")?;
     Ok(Line::Simulate { schedule })
 }
 
-fn split_of(alloc: Global, found: &ArgMatches<'_>) -> Result<Line, NoLine>
+fn split_of(alloc: Global, found: &ArgMatches<'_>) -> Result<Line, Unfit>
     ensures { spec.IsLineRead Verb.Split (rows_in found.now) result }
 {
     let (history, folder) = files_of(alloc, found, "FOLDER")?;
@@ -224,7 +224,7 @@ fn split_of(alloc: Global, found: &ArgMatches<'_>) -> Result<Line, NoLine>
     })))
 }
 
-fn merge_of(alloc: Global, found: &ArgMatches<'_>) -> Result<Line, NoLine>
+fn merge_of(alloc: Global, found: &ArgMatches<'_>) -> Result<Line, Unfit>
     ensures { spec.IsLineRead Verb.Merge (rows_in found.now) result }
 {
     let folder = file_of(alloc, found, "FOLDER")?;
@@ -238,7 +238,7 @@ fn merge_of(alloc: Global, found: &ArgMatches<'_>) -> Result<Line, NoLine>
 }
 
 /// The line of this command with what is given.
-fn line_of(alloc: Global, verb: Verb, found: &ArgMatches<'_>) -> Result<Line, NoLine>
+fn line_of(alloc: Global, verb: Verb, found: &ArgMatches<'_>) -> Result<Line, Unfit>
     ensures { spec.IsLineRead verb (rows_in found.now) result }
 {
     match verb {
@@ -254,16 +254,16 @@ fn line_of(alloc: Global, verb: Verb, found: &ArgMatches<'_>) -> Result<Line, No
 }
 
 /// The line of the command that was found.
-pub(crate) fn read_line(alloc: Global, matches: &ArgMatches<'_>) -> Result<Line, NoLine>
+pub(crate) fn read_line(alloc: Global, matches: &ArgMatches<'_>) -> Result<Line, Unfit>
     ensures is { IfOk result (spec.Finds (subcommand_rows_of matches.now)) }
-    ensures none { IfErr result (λ u. u ≢ NoLine.NoMemory →
+    ensures none { IfErr result (λ u. u ≢ Unfit.NoMemory →
         (l : Line) → spec.Finds (subcommand_rows_of matches.now) l → ⊥) }
 {
     let Some((name, found)) = matches.subcommand() else {
-        return Err(NoLine::Words);
+        return Err(Unfit::NoCommand);
     };
     match verb_named(name) {
         Some(verb) => line_of(alloc, verb, found),
-        None => Err(NoLine::Words),
+        None => Err(Unfit::NoCommand),
     }
 }

@@ -32,7 +32,7 @@ pub enum Takes {
     /// The name of a kind, or `mixed`.
     Kind,
     /// The name of what is tried first.
-    First,
+    TryFirst,
     /// It is a flag.
     Nothing,
 }
@@ -139,7 +139,7 @@ pub const COMMANDS: [CommandRow; 8] = [
             (
                 "first",
                 "try operations by their number or by their return: number, return (default number)",
-                Takes::First,
+                Takes::TryFirst,
             ),
         ],
     ),

@@ -92,15 +92,15 @@ fn perform_on_sources<R: Threads + Wait + Sync, F: Source, G: Source, S: Sink>(
         G.remaining G.broken G.refuses first.old first.new second.old second.new
         sink.old sink.new) }
 {
-    let one = match file_text(alloc, has_first(line), first) {
+    let first_text = match file_text(alloc, has_first(line), first) {
         Ok(text) => text,
         Err(fault) => return end_unread(fault, Unread::First, sink),
     };
-    let other = match file_text(alloc, has_second(line), second) {
+    let second_text = match file_text(alloc, has_second(line), second) {
         Ok(text) => text,
         Err(fault) => return end_unread(fault, Unread::Second, sink),
     };
-    Ok(perform(rt, alloc, line, &one, &other, sink))
+    Ok(perform(rt, alloc, line, &first_text, &second_text, sink))
 }
 
 /// Runs the command on its files, in order, writes its output and returns the exit status, as

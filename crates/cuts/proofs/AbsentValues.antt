@@ -9,7 +9,7 @@ use Rattle.events.specs.declared.operations.Invocation.{Invocation}
 use Rattle.events.specs.Operations.{call_with, call_of, calls_of, ObjectCalls, IsObjectHistory}
 use Rattle.cuts.specs.Absent.{is_put_before, is_taken_before, IsAbsent, calls_without}
 use Rattle.cuts.specs.Cuts.{IsPart}
-use Rattle.cuts.specs.CutOperations.{has_failed, is_put_before_end, is_taken_before_end, is_cut_out, stays}
+use Rattle.cuts.specs.CutOperations.{has_failed, op_is_put_before, op_is_taken_before, is_cut_out, stays}
 use Rattle.cuts.proofs.Absences.{without_valid}
 use Rattle.cuts.proofs.CountedCalls.{passes, count_calls}
 use Rattle.cuts.proofs.Kept.{own, own_is, own_call, as_filter, filter_lives}
@@ -24,7 +24,7 @@ operation_call v before o = own_call (stays v before) o ∙ sym (part o.«end»)
   where
     part : (e : End) → bind (call_with o.number o.op e) (own (late_call v before))
         ≡ cond (not (has_failed e)
-        && not (is_put_before_end v before o.number o.op e || is_taken_before_end v before o.op e))
+        && not (op_is_put_before v before o.number o.op e || op_is_taken_before v before o.op e))
         (call_with o.number o.op e) None
     part e = grind arith
 
@@ -44,35 +44,35 @@ late_calls_of v before ops = ap calls_of (sym (as_filter (stays v before) ops))
 -- ---- how many
 
 put_counts : (v : ℤ) (before : ℕ) (ops : List Invocation)
-    → count_by (λ o. is_put_before_end v before o.number o.op o.«end») ops
+    → count_by (λ o. op_is_put_before v before o.number o.op o.«end») ops
     ≡ count_by (is_put_before v before) (calls_of ops)
 put_counts v before ops =
-    count_calls (λ o. is_put_before_end v before o.number o.op o.«end») (is_put_before v before) (λ o. go o o.«end») ops
+    count_calls (λ o. op_is_put_before v before o.number o.op o.«end») (is_put_before v before) (λ o. go o o.«end») ops
   where
     go : (o : Invocation) (e : End)
-        → is_put_before_end v before o.number o.op e ≡ passes (is_put_before v before) (call_with o.number o.op e)
+        → op_is_put_before v before o.number o.op e ≡ passes (is_put_before v before) (call_with o.number o.op e)
     go o e = search rules
 
 taken_counts : (v : ℤ) (before : ℕ) (ops : List Invocation)
-    → count_by (λ o. is_taken_before_end v before o.op o.«end») ops ≡ count_by (is_taken_before v before) (calls_of ops)
+    → count_by (λ o. op_is_taken_before v before o.op o.«end») ops ≡ count_by (is_taken_before v before) (calls_of ops)
 taken_counts v before ops =
-    count_calls (λ o. is_taken_before_end v before o.op o.«end») (is_taken_before v before) (λ o. go o o.«end») ops
+    count_calls (λ o. op_is_taken_before v before o.op o.«end») (is_taken_before v before) (λ o. go o o.«end») ops
   where
     go : (o : Invocation) (e : End)
-        → is_taken_before_end v before o.op e ≡ passes (is_taken_before v before) (call_with o.number o.op e)
+        → op_is_taken_before v before o.op e ≡ passes (is_taken_before v before) (call_with o.number o.op e)
     go o e = grind arith
 
 pub absent_from : (v : ℤ) (before : ℕ) (ops : List Invocation) (put taken : ℕ)
-    → put ≡ count_by (λ o. is_put_before_end v before o.number o.op o.«end») ops
-    → taken ≡ count_by (λ o. is_taken_before_end v before o.op o.«end») ops → nat_le put taken ≡ true
+    → put ≡ count_by (λ o. op_is_put_before v before o.number o.op o.«end») ops
+    → taken ≡ count_by (λ o. op_is_taken_before v before o.op o.«end») ops → nat_le put taken ≡ true
     → IsAbsent v before (calls_of ops)
 absent_from v before ops put taken e f le = record {
   taken = let p = put_counts v before ops in let t = taken_counts v before ops in grind (arith, nat_tests);
 }
 
 pub absent_to : (v : ℤ) (before : ℕ) (ops : List Invocation) (put taken : ℕ)
-    → put ≡ count_by (λ o. is_put_before_end v before o.number o.op o.«end») ops
-    → taken ≡ count_by (λ o. is_taken_before_end v before o.op o.«end») ops → IsAbsent v before (calls_of ops)
+    → put ≡ count_by (λ o. op_is_put_before v before o.number o.op o.«end») ops
+    → taken ≡ count_by (λ o. op_is_taken_before v before o.op o.«end») ops → IsAbsent v before (calls_of ops)
     → nat_le put taken ≡ true
 absent_to v before ops put taken e f h =
     let p = put_counts v before ops in

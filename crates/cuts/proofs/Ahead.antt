@@ -32,7 +32,7 @@ use Rattle.cuts.proofs.Emptied.{pairs_beyond, put_by, may_by, spent}
 use Rattle.cuts.proofs.InFront.{every, queue_spent, until_put, fresh_until, in_until}
 use Rattle.cuts.proofs.InFront.{first_least, stack_spent, since_put, since_none, since_along}
 use Rattle.cuts.proofs.InFront.{since_tally, in_since}
-use Rattle.cuts.proofs.Booleans.{passes_all, false_is_not_true, both_true}
+use Rattle.cuts.proofs.Booleans.{each_passes, false_is_not_true, both_true}
 
 -- ---- the calls, and those in an order
 
@@ -241,7 +241,7 @@ stack_case kind calls n s r b from before is_stack pop returned value l settled 
     (λ z j w.
     let t = ended from z.returned
     (either (puts_in (int_eq b) z.op) (ended_before from z.returned) w
-    (passes_all (λ (e : Call). not (puts_in (int_eq b) e.op) || ended_before from e.returned) calls settled
+    (each_passes (λ (e : Call). not (puts_in (int_eq b) e.op) || ended_before from e.returned) calls settled
     z (s.known z j))) in
     (t.0, t.1, reach t.0.at from e.number t.2 q.2))
     (λ w. turned e.number w.0.at

@@ -17,9 +17,9 @@ use Rattle.cuts.specs.Kinds.Containers.{puts_in}
 use Rattle.events.specs.declared.operations.End.{End}
 use Rattle.events.specs.declared.operations.Invocation.{Invocation}
 use Rattle.events.specs.Operations.{call_with, call_of, calls_of, return_of, ObjectCalls, IsObjectHistory}
-use Rattle.cuts.specs.CutOperations.{is_put, is_over, found_end, first_put_end, ahead_before_end}
-use Rattle.cuts.specs.CutOperations.{is_settled_end, are_settled, is_put_ahead_end, may_take_end}
-use Rattle.cuts.specs.CutOperations.{may_precede_end, IsRemoval}
+use Rattle.cuts.specs.CutOperations.{is_put, is_over, op_found, op_first_put, op_ahead_before}
+use Rattle.cuts.specs.CutOperations.{op_is_settled, are_settled, op_is_put_ahead, op_may_take}
+use Rattle.cuts.specs.CutOperations.{op_may_precede, IsRemoval}
 use Rattle.cuts.proofs.CutOperations.{rising_calls, calls_end, call_cases}
 use Rattle.cuts.proofs.Sequences.{in_filter_map, in_filter_map_from, one_number}
 use Rattle.cuts.proofs.CountedCalls.{passes, count_calls}
@@ -31,52 +31,52 @@ use Rattle.cuts.proofs.Booleans.{false_is_not_true}
 
 -- ---- operations and calls
 
-put_count : (keeps : ℤ → Bool) (from before : ℕ) (ops : List Invocation)
-    → count_by (λ o. is_put_ahead_end keeps from before o.number o.op o.«end») ops ≡ count_by
+is_put_ahead-calls : (keeps : ℤ → Bool) (from before : ℕ) (ops : List Invocation)
+    → count_by (λ o. op_is_put_ahead keeps from before o.number o.op o.«end») ops ≡ count_by
     (is_put_ahead keeps from before) (calls_of ops)
-put_count keeps from before ops = count_calls
-    (λ o. is_put_ahead_end keeps from before o.number o.op o.«end») (is_put_ahead keeps from before)
+is_put_ahead-calls keeps from before ops = count_calls
+    (λ o. op_is_put_ahead keeps from before o.number o.op o.«end») (is_put_ahead keeps from before)
     (λ o. go o o.«end») ops
   where
-    go : (o : Invocation) (e : End) → is_put_ahead_end keeps from before o.number o.op e ≡ passes
+    go : (o : Invocation) (e : End) → op_is_put_ahead keeps from before o.number o.op e ≡ passes
         (is_put_ahead keeps from before) (call_with o.number o.op e)
     go o e = grind arith
 
-may_count : (keeps : ℤ → Bool) (number at : ℕ) (ops : List Invocation)
-    → count_by (may_precede_end keeps number at) ops ≡ count_by (may_precede keeps number at) (calls_of ops)
-may_count keeps number at ops = count_calls (may_precede_end keeps number at) (may_precede keeps number at)
+may_precede-calls : (keeps : ℤ → Bool) (number at : ℕ) (ops : List Invocation)
+    → count_by (op_may_precede keeps number at) ops ≡ count_by (may_precede keeps number at) (calls_of ops)
+may_precede-calls keeps number at ops = count_calls (op_may_precede keeps number at) (may_precede keeps number at)
     (λ o. go o o.«end») ops
   where
     go : (o : Invocation) (e : End)
-        → (may_take_end keeps o.op e && not (o.number == number || nat_lt at o.number)) ≡ passes
+        → (op_may_take keeps o.op e && not (o.number == number || nat_lt at o.number)) ≡ passes
         (may_precede keeps number at) (call_with o.number o.op e)
     go o e = search rules
 
-first_calls : (b : ℤ) (ops : List Invocation) → first_put_end b ops ≡ first_put b (calls_of ops)
-first_calls b [] = refl
-first_calls b (o ∷ os) = go o.«end» (first_calls b os)
+first_put-calls : (b : ℤ) (ops : List Invocation) → op_first_put b ops ≡ first_put b (calls_of ops)
+first_put-calls b [] = refl
+first_put-calls b (o ∷ os) = go o.«end» (first_put-calls b os)
   where
-    go : (e : End) → first_put_end b os ≡ first_put b (calls_of os)
+    go : (e : End) → op_first_put b os ≡ first_put b (calls_of os)
         → option_map_or (λ (o : Invocation). o.number)
         (cond (is_put (int_eq b) o.op e) (Some o) (find (λ o. is_put (int_eq b) o.op o.«end») os)) 0
         ≡ first_put b (cons_option (call_with o.number o.op e) (calls_of os))
     go e h = grind arith
 
-before_calls : (found : Option ℤ) (op : AnyOp) (number : ℕ) (ops : List Invocation)
-    → ahead_before_end found op number ops ≡ ahead_before found op number (calls_of ops)
-before_calls found op number ops = grind (arith, first_calls)
+ahead_before-calls : (found : Option ℤ) (op : AnyOp) (number : ℕ) (ops : List Invocation)
+    → op_ahead_before found op number ops ≡ ahead_before found op number (calls_of ops)
+ahead_before-calls found op number ops = grind (arith, first_put-calls)
 
-found_return : (op : AnyOp) (e : End) → found_end op e ≡ found_by op (return_of e)
+found_return : (op : AnyOp) (e : End) → op_found op e ≡ found_by op (return_of e)
 found_return op e = grind arith
 
-call_removal : (op : AnyOp) (number : ℕ) (e : End) (x : ℕ × Option ℤ) → found_end op e ≡ Some x
+call_removal : (op : AnyOp) (number : ℕ) (e : End) (x : ℕ × Option ℤ) → op_found op e ≡ Some x
     → call_with number op e ≡ Some (record { number = number; op = op; returned = return_of e })
 call_removal op number e x q = grind arith
 
-settled_calls : (found : Option ℤ) (op : AnyOp) (from : ℕ) (ops : List Invocation)
+is_settled-calls : (found : Option ℤ) (op : AnyOp) (from : ℕ) (ops : List Invocation)
     → are_settled found op from ops ≡ is_settled found op from (calls_of ops)
-settled_calls None op from ops = refl
-settled_calls (Some b) Pop from ops = each ops
+is_settled-calls None op from ops = refl
+is_settled-calls (Some b) Pop from ops = each ops
   where
     one_more : (o : Invocation) (es : List Call) (e : End) (t : Bool)
         → t ≡ list_all (λ e. not (puts_in (int_eq b) e.op) || ended_before from e.returned) es
@@ -85,30 +85,30 @@ settled_calls (Some b) Pop from ops = each ops
         (cons_option (call_with o.number o.op e) es)
     one_more o es e t h = grind arith
 
-    each : (ops : List Invocation) → list_all (is_settled_end b from) ops ≡ list_all
+    each : (ops : List Invocation) → list_all (op_is_settled b from) ops ≡ list_all
         (λ e. not (puts_in (int_eq b) e.op) || ended_before from e.returned) (calls_of ops)
     each [] = refl
-    each (o ∷ os) = one_more o (calls_of os) o.«end» (list_all (is_settled_end b from) os) (each os)
-settled_calls (Some b) op from ops = refl
+    each (o ∷ os) = one_more o (calls_of os) o.«end» (list_all (op_is_settled b from) os) (each os)
+is_settled-calls (Some b) op from ops = refl
 
 -- ---- a blocked removal as an operation
 
 -- the removal of a number, as a call
 blocked_from : (ops : List Invocation) (number from : ℕ) (op : AnyOp) (at : ℕ) (found : Option ℤ)
     (t : IsRemoval ops number op at found) → are_settled found op from ops ≡ true
-    → count_by (may_precede_end (is_value_ahead found op) number at) ops < count_by
-    (λ o. is_put_ahead_end (is_value_ahead found op) from (ahead_before_end found op number ops) o.number
+    → count_by (op_may_precede (is_value_ahead found op) number at) ops < count_by
+    (λ o. op_is_put_ahead (is_value_ahead found op) from (op_ahead_before found op number ops) o.number
     o.op o.«end») ops → IsBlocked number from (calls_of ops)
 blocked_from ops number from op at found t settled l =
     let o = t.operation in
-    let told : found_end o.op o.«end» ≡ Some (at, found) = subst
-    (λ (z : AnyOp). ◌≡◌ {A = Option (ℕ × Option ℤ)} (found_end z o.«end») (Some (at, found))) (sym t.same) t.told in
+    let told : op_found o.op o.«end» ≡ Some (at, found) = subst
+    (λ (z : AnyOp). ◌≡◌ {A = Option (ℕ × Option ℤ)} (op_found z o.«end») (Some (at, found))) (sym t.same) t.told in
     let c : Call = record { number = o.number; op = o.op; returned = return_of o.«end» } in
     let keeps = is_value_ahead found op in
     let here : count_by (may_precede keeps number at) (calls_of ops) < count_by
     (is_put_ahead keeps from (ahead_before found op number (calls_of ops))) (calls_of ops) =
-    less _ _ _ _ (may_count keeps number at ops) (put_count keeps from (ahead_before_end found op number ops) ops
-    ∙ ap (λ (z : ℕ). count_by (is_put_ahead keeps from z) (calls_of ops)) (before_calls found op number ops)) l in
+    less _ _ _ _ (may_precede-calls keeps number at ops) (is_put_ahead-calls keeps from (op_ahead_before found op number ops) ops
+    ∙ ap (λ (z : ℕ). count_by (is_put_ahead keeps from z) (calls_of ops)) (ahead_before-calls found op number ops)) l in
     record {
       removal = c;
       known = contains_from_in (calls_of ops) c
@@ -119,7 +119,7 @@ blocked_from ops number from op at found t settled l =
       found = found;
       told = sym (found_return o.op o.«end») ∙ told;
       settled = subst (λ (z : AnyOp). is_settled found z from (calls_of ops) ≡ true) (sym t.same)
-          (sym (settled_calls found op from ops) ∙ settled);
+          (sym (is_settled-calls found op from ops) ∙ settled);
       more = subst
           (λ (z : AnyOp). count_by (may_precede (is_value_ahead found z) number at) (calls_of ops) <
           count_by (is_put_ahead (is_value_ahead found z) from (ahead_before found z number (calls_of ops)))
@@ -143,18 +143,18 @@ blocked_operation ops number from b =
       told = found_return b.removal.op o.0.«end» ∙ ap (found_by b.removal.op) (sym k.2) ∙ b.told;
     }
 
-same_removal : (ops : List Invocation) (number : ℕ) (op op' : AnyOp) (at at' : ℕ) (found found' : Option ℤ)
+one_removal : (ops : List Invocation) (number : ℕ) (op op' : AnyOp) (at at' : ℕ) (found found' : Option ℤ)
     → AllPairs (λ a b. a.number < b.number) ops → IsRemoval ops number op at found
     → IsRemoval ops number op' at' found'
     → (op ≡ op') × (at ≡ at') × (found ≡ found')
-same_removal ops number op op' at at' found found' rising t u =
+one_removal ops number op op' at at' found found' rising t u =
     let own : t.operation ≡ u.operation = one_number (λ (z : Invocation). z.number) t.operation u.operation
     ops (pairs_from_all (λ a b. a.number < b.number) ops rising)
     (in_from_contains ops t.operation t.known) (in_from_contains ops u.operation u.known) (t.named ∙ sym u.named) in
     let ops_same : op ≡ op' = sym t.same ∙ ap (λ (z : Invocation). z.op) own ∙ u.same in
     let told : ◌≡◌ {A = Option (ℕ × Option ℤ)} (Some (at, found)) (Some (at', found')) =
-    sym t.told ∙ ap (λ (z : AnyOp). found_end z t.operation.«end») ops_same
-    ∙ ap (λ (z : Invocation). found_end op' z.«end») own ∙ u.told in
+    sym t.told ∙ ap (λ (z : AnyOp). op_found z t.operation.«end») ops_same
+    ∙ ap (λ (z : Invocation). op_found op' z.«end») own ∙ u.told in
     let p = pair_first at at' found found' told in
     (ops_same, p.0, p.1)
 
@@ -164,8 +164,8 @@ same_removal ops number op op' at at' found found' rising t u =
 ahead_decided : (h : ObjectCalls) (number from : ℕ) (op : AnyOp) (at : ℕ) (found : Option ℤ)
     (ahead takes : ℕ) → IsObjectHistory h → IsRemoval h.ops number op at found
     → ahead ≡ count_by
-    (λ o. is_put_ahead_end (is_value_ahead found op) from (ahead_before_end found op number h.ops) o.number
-    o.op o.«end») h.ops → takes ≡ count_by (may_precede_end (is_value_ahead found op) number at) h.ops
+    (λ o. op_is_put_ahead (is_value_ahead found op) from (op_ahead_before found op number h.ops) o.number
+    o.op o.«end») h.ops → takes ≡ count_by (op_may_precede (is_value_ahead found op) number at) h.ops
     → MatchBool (are_settled found op from h.ops && nat_lt takes ahead)
     (IsBlocked number from (calls_of h.ops)) (IsBlocked number from (calls_of h.ops) → ⊥)
 ahead_decided h number from op at found ahead takes is t e f = go (are_settled found op from h.ops)
@@ -182,19 +182,19 @@ ahead_decided h number from op at found ahead takes is t e f = go (are_settled f
     go true true p q = blocked_from h.ops number from op at found t p (less _ _ _ _ f e q)
     go true false p q = λ b.
         let u = blocked_operation h.ops number from b in
-        let s = same_removal h.ops number op b.removal.op at b.at found b.found is.rising t u in
+        let s = one_removal h.ops number op b.removal.op at b.at found b.found is.rising t u in
         let calls = calls_of h.ops in
         let counted_takes : takes ≡ count_by (may_precede (is_value_ahead b.found b.removal.op) number b.at) calls =
-        f ∙ may_count (is_value_ahead found op) number at h.ops
+        f ∙ may_precede-calls (is_value_ahead found op) number at h.ops
         ∙ ap (λ (z : AnyOp). count_by (may_precede (is_value_ahead found z) number at) calls) s.0
         ∙ ap (λ (z : ℕ). count_by (may_precede (is_value_ahead found b.removal.op) number z) calls) s.1
         ∙ ap (λ (z : Option ℤ). count_by (may_precede (is_value_ahead z b.removal.op) number b.at) calls) s.2 in
         let counted_puts : ahead ≡ count_by
         (is_put_ahead (is_value_ahead b.found b.removal.op) from
         (ahead_before b.found b.removal.op number calls)) calls =
-        e ∙ put_count (is_value_ahead found op) from (ahead_before_end found op number h.ops) h.ops
+        e ∙ is_put_ahead-calls (is_value_ahead found op) from (op_ahead_before found op number h.ops) h.ops
         ∙ ap (λ (z : ℕ). count_by (is_put_ahead (is_value_ahead found op) from z) calls)
-        (before_calls found op number h.ops)
+        (ahead_before-calls found op number h.ops)
         ∙ ap (λ (z : AnyOp). count_by
         (is_put_ahead (is_value_ahead found z) from (ahead_before found z number calls)) calls) s.0
         ∙ ap (λ (z : Option ℤ). count_by
@@ -203,8 +203,8 @@ ahead_decided h number from op at found ahead takes is t e f = go (are_settled f
         not_less _ _ _ _ counted_takes counted_puts q b.more
     go false z p q = λ b.
         let u = blocked_operation h.ops number from b in
-        let s = same_removal h.ops number op b.removal.op at b.at found b.found is.rising t u in
-        false_is_not_true (sym p ∙ settled_calls found op from h.ops
+        let s = one_removal h.ops number op b.removal.op at b.at found b.found is.rising t u in
+        false_is_not_true (sym p ∙ is_settled-calls found op from h.ops
         ∙ ap (λ (z : AnyOp). is_settled found z from (calls_of h.ops)) s.0
         ∙ ap (λ (z : Option ℤ). is_settled z b.removal.op from (calls_of h.ops)) s.2 ∙ b.settled)
 
@@ -232,22 +232,22 @@ pub decided_of : (h : ObjectCalls) (ops : List Invocation) (number own from : �
     (found : Option ℤ) (ahead takes : ℕ) → IsObjectHistory h → ops ≡ h.ops → own ≡ number
     → IsRemoval ops number op at found
     → ahead ≡ count_by
-    (λ o. is_put_ahead_end (is_value_ahead found op) from (ahead_before_end found op own ops) o.number o.op
+    (λ o. op_is_put_ahead (is_value_ahead found op) from (op_ahead_before found op own ops) o.number o.op
     o.«end») ops
-    → takes ≡ count_by (may_precede_end (is_value_ahead found op) own at) ops
+    → takes ≡ count_by (op_may_precede (is_value_ahead found op) own at) ops
     → MatchBool (are_settled found op from ops && nat_lt takes ahead)
     (IsBlocked number from (calls_of h.ops)) (IsBlocked number from (calls_of h.ops) → ⊥)
 decided_of h ops number own from op at found ahead takes is same named t e f =
     let e' = e
     ∙ ap (λ (os : List Invocation). count_by
-    (λ o. is_put_ahead_end (is_value_ahead found op) from (ahead_before_end found op own os) o.number o.op
+    (λ o. op_is_put_ahead (is_value_ahead found op) from (op_ahead_before found op own os) o.number o.op
     o.«end») os) same
     ∙ ap (λ (k : ℕ). count_by
-    (λ o. is_put_ahead_end (is_value_ahead found op) from (ahead_before_end found op k h.ops) o.number
+    (λ o. op_is_put_ahead (is_value_ahead found op) from (op_ahead_before found op k h.ops) o.number
     o.op o.«end») h.ops) named in
     let f' = f
-    ∙ ap (λ (os : List Invocation). count_by (may_precede_end (is_value_ahead found op) own at) os) same
-    ∙ ap (λ (k : ℕ). count_by (may_precede_end (is_value_ahead found op) k at) h.ops) named in
+    ∙ ap (λ (os : List Invocation). count_by (op_may_precede (is_value_ahead found op) own at) os) same
+    ∙ ap (λ (k : ℕ). count_by (op_may_precede (is_value_ahead found op) k at) h.ops) named in
     subst (λ (os : List Invocation). MatchBool (are_settled found op from os && nat_lt takes ahead)
     (IsBlocked number from (calls_of h.ops)) (IsBlocked number from (calls_of h.ops) → ⊥)) (sym same)
     (ahead_decided h number from op at found ahead takes is

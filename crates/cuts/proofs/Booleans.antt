@@ -38,11 +38,11 @@ some_at P None f = tt
 some_at P (Some p) f = f p refl
 
 -- if a list passes a test, each element passes it
-pub passes_all : {X : Type 0} (p : X → Bool) (xs : List X) → list_all p xs ≡ true → (x : X) → In x xs → p x ≡ true
-passes_all p [] h x i = absurd i
-passes_all p (y ∷ ys) h x i = grind (arith, passes_all p ys)
+pub each_passes : {X : Type 0} (p : X → Bool) (xs : List X) → list_all p xs ≡ true → (x : X) → In x xs → p x ≡ true
+each_passes p [] h x i = absurd i
+each_passes p (y ∷ ys) h x i = grind (arith, each_passes p ys)
 
 -- if each element passes a test, the list passes it
-pub all_passes : {X : Type 0} (p : X → Bool) (xs : List X) → ((x : X) → In x xs → p x ≡ true) → list_all p xs ≡ true
-all_passes p [] f = refl
-all_passes p (x ∷ xs) f = ap (λ b. b && list_all p xs) (f x (inl refl)) ∙ all_passes p xs (λ y i. f y (inr i))
+pub all_pass : {X : Type 0} (p : X → Bool) (xs : List X) → ((x : X) → In x xs → p x ≡ true) → list_all p xs ≡ true
+all_pass p [] f = refl
+all_pass p (x ∷ xs) f = ap (λ b. b && list_all p xs) (f x (inl refl)) ∙ all_pass p xs (λ y i. f y (inr i))

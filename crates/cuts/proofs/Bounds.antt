@@ -33,7 +33,7 @@ use Rattle.cuts.proofs.Ordered.{calls_apart, in_calls, in_entries, entries_apart
 use Rattle.cuts.proofs.Conserved.{one, tally, count_tally, size_after, size_cons, size_with_value, one_le}
 use Rattle.cuts.proofs.Conserved.{tally_le, count_among}
 use Rattle.cuts.proofs.Booleans.{false_is_not_true, true_or_false, same_by_test, both_true}
-use Rattle.cuts.proofs.Tables.{got, gone}
+use Rattle.cuts.proofs.Tables.{get-insert, get-remove}
 
 -- ---- how often an object contains it
 
@@ -64,16 +64,16 @@ swapped v a w x after false e h = rw e (omega arith)
 
 replaced : (k v q a w : ℤ) (m : map.FinMap int_cmp ℤ) (t : Bool) → has_value m q a ≡ t
     → Bounded (Entry k v) (Replace q a w) (table m) (table (inserted_if t m q w)) (reply.Flag t)
-replaced k v q a w m true h = swapped v a w (map.get m k) (map.get (map.insert m q w) k) (int_eq q k) (got m q w k)
+replaced k v q a w m true h = swapped v a w (map.get m k) (map.get (map.insert m q w) k) (int_eq q k) (get-insert m q w k)
     (λ e. ap (λ z. contains_value (map.get m z) a) (sym (same_by_test q k e)) ∙ h)
 replaced k v q a w m false h = omega arith
 
 bounded : (what : Counted) (c : Content) (op : AnyOp) → IfSome (next c op) (λ p. Bounded what op c p.0 p.1)
 bounded (Value v) c op = grind (arith, ints, size_after, size_cons, size_with_value)
 bounded (Entry k v) (table m) (Replace q a w) = replaced k v q a w m (has_value m q a) refl
-bounded (Entry k v) (table m) op = grind (arith, ints, got, gone)
+bounded (Entry k v) (table m) op = grind (arith, ints, get-insert, get-remove)
 bounded (Entry k v) c op = search rules
-bounded (NoEntry k) c op = grind (arith, ints, got, gone)
+bounded (NoEntry k) c op = grind (arith, ints, get-insert, get-remove)
 bounded what c op = search rules
 
 -- a pending call may set what it sets with some reply, and tells nothing that it takes away

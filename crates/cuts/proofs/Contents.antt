@@ -26,7 +26,7 @@ use Rattle.cuts.specs.Kinds.Keeping.{is_same, fits, fits_removal, fits_read, fit
 use Rattle.cuts.specs.Kinds.Keeping.{fits_change}
 use Rattle.cuts.specs.Parts.{takes_out}
 use Rattle.cuts.proofs.Simulation.{Stepped}
-use Rattle.cuts.proofs.Tables.{got, gone, added, taken}
+use Rattle.cuts.proofs.Tables.{get-insert, get-remove, contains-insert, contains-remove}
 use Rattle.cuts.proofs.Steps.{adds, frees}
 use Rattle.cuts.proofs.Booleans.{false_is_not_true, true_or_false}
 use Rattle.model.proofs.Bags.{with_value-more, with_value-front}
@@ -337,23 +337,23 @@ IsTableShadow keeps m n = (k : ℤ) → keeps k ≡ true → map.get n k ≡ map
 
 put_shadow : (keeps : ℤ → Bool) (m n : map.FinMap int_cmp ℤ) (k v : ℤ) → IsTableShadow keeps m n
     → IsTableShadow keeps (map.insert m k v) (map.insert n k v)
-put_shadow keeps m n k v s q a = let same = s q a in grind (arith, ints, got)
+put_shadow keeps m n k v s q a = let same = s q a in grind (arith, ints, get-insert)
 
 put_other : (keeps : ℤ → Bool) (m n : map.FinMap int_cmp ℤ) (k v : ℤ) → keeps k ≡ false → IsTableShadow keeps m n
     → IsTableShadow keeps (map.insert m k v) n
-put_other keeps m n k v b s q a = let same = s q a in grind (arith, ints, got)
+put_other keeps m n k v b s q a = let same = s q a in grind (arith, ints, get-insert)
 
 del_shadow : (keeps : ℤ → Bool) (m n : map.FinMap int_cmp ℤ) (k : ℤ) → IsTableShadow keeps m n
     → IsTableShadow keeps (map.remove m k) (map.remove n k)
-del_shadow keeps m n k s q a = let same = s q a in grind (arith, ints, gone)
+del_shadow keeps m n k s q a = let same = s q a in grind (arith, ints, get-remove)
 
 del_other : (keeps : ℤ → Bool) (m n : map.FinMap int_cmp ℤ) (k : ℤ) → keeps k ≡ false → IsTableShadow keeps m n
     → IsTableShadow keeps (map.remove m k) n
-del_other keeps m n k b s q a = let same = s q a in grind (arith, ints, gone)
+del_other keeps m n k b s q a = let same = s q a in grind (arith, ints, get-remove)
 
 del_nothing : (keeps : ℤ → Bool) (m n : map.FinMap int_cmp ℤ) (k : ℤ) → map.get m k ≡ None → IsTableShadow keeps m n
     → IsTableShadow keeps (map.remove m k) n
-del_nothing keeps m n k o s q a = let same = s q a in grind (arith, ints, gone)
+del_nothing keeps m n k o s q a = let same = s q a in grind (arith, ints, get-remove)
 
 del_step : (keeps : ℤ → Bool) (m n : map.FinMap int_cmp ℤ) (k : ℤ) (kept b : Bool) (o : Option ℤ) → map.get m k ≡ o
     → IsTableShadow keeps m n
@@ -457,19 +457,19 @@ elements_step all keeps s t (Add v) h kept b =
     (λ a. (
       elements (set.insert t v),
       ap (λ (z : Bool). Some (elements (set.insert t v), Flag (not z))) (h v a),
-      λ q k. let same = h q k in grind (arith, ints, added),
+      λ q k. let same = h q k in grind (arith, ints, contains-insert),
     ))
-    (λ a q k. let same = h q k in grind (arith, ints, added))
-    (λ e q k. let same = h q k in grind (arith, ints, added))
+    (λ a q k. let same = h q k in grind (arith, ints, contains-insert))
+    (λ e q k. let same = h q k in grind (arith, ints, contains-insert))
 elements_step all keeps s t (Remove v) h kept b =
     λ f g. by_change keeps (Remove v) v kept b (set.contains s v) (elements t) (elements (set.remove s v)) f
     (λ a. (
       elements (set.remove t v),
       ap (λ (z : Bool). Some (elements (set.remove t v), Flag z)) (h v a),
-      λ q k. let same = h q k in grind (arith, ints, taken),
+      λ q k. let same = h q k in grind (arith, ints, contains-remove),
     ))
-    (λ a q k. let same = h q k in grind (arith, ints, taken))
-    (λ e q k. let same = h q k in grind (arith, ints, taken))
+    (λ a q k. let same = h q k in grind (arith, ints, contains-remove))
+    (λ e q k. let same = h q k in grind (arith, ints, contains-remove))
 elements_step all keeps s t (Has v) h true b =
     λ f g. inr (refl, elements t, ap (λ (z : Bool). Some (elements t, Flag z)) (h v f), h)
 elements_step all keeps s t (Has v) h false b = λ f g. inl (inl refl, h)

@@ -134,8 +134,8 @@ not_returned e r h q = false_is_not_true (sym (open_returned e h) ∙ ap is_some
 closed_removal : (e : Call) → is_open e ≡ false → is_some e.returned ≡ false → is_removal e.op ≡ false
 closed_removal e h p = grind arith
 
-same_removal : (a b : AnyOp) → is_removal a ≡ true → is_removal b ≡ true → kind_of a ≡ kind_of b → a ≡ b
-same_removal a b h k e = search rules
+same_removal_op : (a b : AnyOp) → is_removal a ≡ true → is_removal b ≡ true → kind_of a ≡ kind_of b → a ≡ b
+same_removal_op a b h k e = search rules
 
 fits_open : (all : Bool) (keeps : ℤ → Bool) (kept : Bool) (op : AnyOp) → is_removal op ≡ true
     → fits all keeps kept op None ≡ true
@@ -417,7 +417,7 @@ walk calls kind all keeps kept s (e ∷ es) i xs c d r h t =
             (let one_more = ap one took in omega arith)
 
         same_op : p.call.op ≡ e.op
-        same_op = same_removal p.call.op e.op (open_removal p.call p.pending) (open_removal e o)
+        same_op = same_removal_op p.call.op e.op (open_removal p.call p.pending) (open_removal e o)
             (s.of_kind p.call p.known ∙ sym (s.of_kind e (t.later_known e (inl refl))))
 
         kept_one : kept p.call.number ≡ true

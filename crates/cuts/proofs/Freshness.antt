@@ -22,7 +22,7 @@ use Rattle.cuts.specs.Kinds.Keeping.{fits}
 use Rattle.cuts.specs.Kinds.Starts.{key_of, leaves, leaves_count}
 use Rattle.cuts.proofs.Contents.{IsShadow}
 use Rattle.cuts.proofs.Booleans.{false_is_not_true, same_by_test}
-use Rattle.cuts.proofs.Tables.{got, gone, added, taken}
+use Rattle.cuts.proofs.Tables.{get-insert, get-remove, contains-insert, contains-remove}
 use Rattle.cuts.proofs.Steps.{adds, frees}
 
 -- the keys that a part on one key keeps: that key; and no kind but a map has keys
@@ -63,12 +63,12 @@ begun_put k v = ap (λ (z : Option ℤ). Some (table (map.insert map.empty k v),
 tells_get : (m : map.FinMap int_cmp ℤ) (k : ℤ) (o : Option ℤ) → map.get m k ≡ o → Tells (Get k) (Value o) (table m)
 tells_get m k None e = at_key m map.empty k (map.get-empty {X = ℤ} int_cmp k ∙ sym e)
 tells_get m k (Some v) e =
-    (table (map.insert map.empty k v), begun_put k v, at_key m (map.insert map.empty k v) k (grind (arith, ints, got)))
+    (table (map.insert map.empty k v), begun_put k v, at_key m (map.insert map.empty k v) k (grind (arith, ints, get-insert)))
 
 -- a removal
 tells_gone : (m : map.FinMap int_cmp ℤ) (k : ℤ) → IsShadow (on_key (Some k)) (table (map.remove m k)) (table map.empty)
 tells_gone m k =
-    at_key (map.remove m k) map.empty k (map.get-empty {X = ℤ} int_cmp k ∙ grind (arith, ints, gone))
+    at_key (map.remove m k) map.empty k (map.get-empty {X = ℤ} int_cmp k ∙ grind (arith, ints, get-remove))
 
 -- a put that took place, and one that did not
 tells_put : (m : map.FinMap int_cmp ℤ) (k v : ℤ)
@@ -76,7 +76,7 @@ tells_put : (m : map.FinMap int_cmp ℤ) (k v : ℤ)
 tells_put m k v = (
   table (map.insert map.empty k v),
   begun_put k v,
-  at_key (map.insert m k v) (map.insert map.empty k v) k (grind (arith, ints, got)),
+  at_key (map.insert m k v) (map.insert map.empty k v) k (grind (arith, ints, get-insert)),
 )
 
 tells_absent : (m : map.FinMap int_cmp ℤ) (k v : ℤ) (t : Bool)
@@ -103,7 +103,7 @@ tells_there : (s : set.FinSet int_cmp) (v : ℤ) → set.contains s v ≡ true
 tells_there s v e = (
   elements (set.insert set.empty v),
   ap (λ (z : Bool). Some (elements (set.insert set.empty v), Flag (not z))) (without v),
-  at_element s (set.insert set.empty v) v (grind (arith, ints, added)),
+  at_element s (set.insert set.empty v) v (grind (arith, ints, contains-insert)),
 )
 
 tells_has : (s : set.FinSet int_cmp) (v : ℤ) (t : Bool) → set.contains s v ≡ t → Tells (Has v) (Flag t) (elements s)
@@ -147,8 +147,8 @@ tells (table m) (PutIfAbsent k v) = tells_absent m k v (is_absent m k)
 tells (table m) (Replace k v w) = tells_replace m k v w (has_value m k v)
 tells (table m) (Assoc k v) = tells_put m k v
 tells (table m) (Dissoc k) = tells_gone m k
-tells (elements s) (Add v) = tells_there (set.insert s v) v (grind (arith, ints, added))
-tells (elements s) (Remove v) = at_element (set.remove s v) set.empty v (without v ∙ grind (arith, ints, taken))
+tells (elements s) (Add v) = tells_there (set.insert s v) v (grind (arith, ints, contains-insert))
+tells (elements s) (Remove v) = at_element (set.remove s v) set.empty v (without v ∙ grind (arith, ints, contains-remove))
 tells (elements s) (Has v) = tells_has s v (set.contains s v) refl
 tells (count c) (FetchAdd n) = adds (λ p. Tells (FetchAdd n) p.1 p.0) c n (λ does. tells_count (c +ℤ n))
 tells (count c) GetCount = tells_count c

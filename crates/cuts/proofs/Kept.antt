@@ -23,14 +23,14 @@ use Rattle.cuts.specs.Kinds.Containers.{puts_in}
 use Rattle.cuts.specs.declared.keeping.Values.{Values}
 use Rattle.cuts.specs.declared.keeping.Values.TheVariants as values
 use Rattle.cuts.specs.Cuts.{keeps_all, keeps_value, IsPart, NoneFailed}
-use Rattle.cuts.specs.CutOperations.{has_failed, fits_end, is_kept_call, is_put, is_taken, is_open_removal}
+use Rattle.cuts.specs.CutOperations.{has_failed, op_fits, is_kept_call, is_put, is_taken, is_open_removal}
 use Rattle.cuts.specs.CutOperations.{keeps_first}
 use Rattle.cuts.proofs.Conserved.{one, tally, count_tally, and_false}
 use Rattle.cuts.proofs.Closed.{projection_valid}
 use Rattle.cuts.proofs.Sequences.{in_filter_map_from}
 use Rattle.cuts.proofs.CutOperations.{bind, filter_map-filter, map-same, IsCutOperation, cut_history}
 use Rattle.cuts.proofs.CutOperations.{cut_calls, cut_lives, did_not_fail, rising_calls, all_calls}
-use Rattle.cuts.proofs.Booleans.{false_is_not_true, both_true, passes_all, all_passes}
+use Rattle.cuts.proofs.Booleans.{false_is_not_true, both_true, each_passes, all_pass}
 use Rattle.cuts.proofs.CountedCalls.{passes, tally_calls, count_calls}
 
 -- the element itself, if it passes the test
@@ -202,14 +202,14 @@ all_keeps (values.Only s) e v = absurd (cc e)
 pub closed_calls : (vs : Values) (kept : ℕ → Bool) (ops : List Invocation) → AllPairs (λ a b. a.number < b.number) ops
     → keeps_first kept (count_by (λ o. is_put (keeps_value vs) o.op o.«end») ops - count_by
     (λ o. is_taken (keeps_value vs) o.op o.«end») ops) ops
-    ≡ true → list_all (λ o. fits_end (keeps_all vs) (keeps_value vs) (kept o.number) o.op o.«end») ops ≡ true
+    ≡ true → list_all (λ o. op_fits (keeps_all vs) (keeps_value vs) (kept o.number) o.op o.«end») ops ≡ true
     → IsClosed (keeps_all vs) (keeps_value vs) kept (calls_of ops)
 closed_calls vs kept ops rising first h = record {
   every = all_keeps vs;
   each = all_calls (λ number op returned. fits (keeps_all vs) (keeps_value vs) (kept number) op (reply_of returned)
       ≡ true) ops
       (λ o i c e. go o.number o.op o.«end» c e
-      (passes_all (λ o. fits_end (keeps_all vs) (keeps_value vs) (kept o.number) o.op o.«end») ops h o i));
+      (each_passes (λ o. op_fits (keeps_all vs) (keeps_value vs) (kept o.number) o.op o.«end») ops h o i));
   pending = all_calls (λ number op returned. is_pending_removal op returned ≡ true → kept number ≡ false
       → put_count (keeps_value vs) (calls_of ops)
       ≤ taken_count (keeps_value vs) (calls_of ops) + pending_before number (calls_of ops)) ops
@@ -220,7 +220,7 @@ closed_calls vs kept ops rising first h = record {
 }
   where
     go : (number : ℕ) (op : AnyOp) (e : End) (c : Call) → call_with number op e ≡ Some c
-        → fits_end (keeps_all vs) (keeps_value vs) (kept number) op e ≡ true
+        → op_fits (keeps_all vs) (keeps_value vs) (kept number) op e ≡ true
         → fits (keeps_all vs) (keeps_value vs) (kept number) op (reply_of (return_of e)) ≡ true
     go number op e c q f = grind arith
 
@@ -233,9 +233,9 @@ closed_calls vs kept ops rising first h = record {
 
 pub closed_fits : (vs : Values) (kept : ℕ → Bool) (ops : List Invocation)
     → IsClosed (keeps_all vs) (keeps_value vs) kept (calls_of ops)
-    → list_all (λ o. fits_end (keeps_all vs) (keeps_value vs) (kept o.number) o.op o.«end») ops ≡ true
+    → list_all (λ o. op_fits (keeps_all vs) (keeps_value vs) (kept o.number) o.op o.«end») ops ≡ true
 closed_fits vs kept ops h =
-    all_passes (λ o. fits_end (keeps_all vs) (keeps_value vs) (kept o.number) o.op o.«end») ops
+    all_pass (λ o. op_fits (keeps_all vs) (keeps_value vs) (kept o.number) o.op o.«end») ops
     (λ o i. go o i o.«end» refl)
   where
     at : (o : Invocation) → In o ops → (c : Call) → call_of o ≡ Some c
@@ -244,7 +244,7 @@ closed_fits vs kept ops h =
         (calls_of ops) h.each c (in_filter_map_from call_of o c ops i e)
 
     go : (o : Invocation) → In o ops → (e : End) → o.«end» ≡ e
-        → fits_end (keeps_all vs) (keeps_value vs) (kept o.number) o.op e ≡ true
+        → op_fits (keeps_all vs) (keeps_value vs) (kept o.number) o.op e ≡ true
     go o i (Returned when r) q =
         at o i (record { number = o.number; op = o.op; returned = Some (record { at = when; reply = r }) })
         (ap (call_with o.number o.op) q)

@@ -8,7 +8,7 @@ use Rattle.model.specs.declared.Kind.TheVariants as kind
 use Rattle.model.specs.Objects.{Content, table, Table, next, kind_of}
 use Rattle.cuts.specs.Kinds.Map.{map_touch}
 use Rattle.cuts.proofs.RegisterTouches.{contains_it, contains_other}
-use Rattle.cuts.proofs.Tables.{got, gone}
+use Rattle.cuts.proofs.Tables.{get-insert, get-remove}
 use Rattle.std.proofs.lemmas.Int.{ints}
 use Rattle.cuts.proofs.Touched.{Did, MayDo, OwnDid}
 
@@ -23,7 +23,7 @@ Touches key m op p = Did (map_touch key op (Some p.1)) (map.get m key) (in_map k
     × MayDo (map_touch key op None) (map.get m key) (in_map key p.0)
 
 pub map_touches : (key : ℤ) (m : Table) (op : AnyOp) → IfSome (next (table m) op) (λ p. Touches key m op p)
-map_touches key m op = grind (arith, ints, got, gone, contains_it, contains_other)
+map_touches key m op = grind (arith, ints, get-insert, get-remove, contains_it, contains_other)
 
 pub map_touch_kind : (key : ℤ) (op : AnyOp) (reply : Option AnyReply)
     → IfSome (map_touch key op reply) (λ t. kind_of op ≡ kind.Map)

@@ -14,7 +14,7 @@ use Rattle.events.specs.declared.operations.End.TheVariants.{Returned, Pending, 
 use Rattle.events.specs.declared.operations.Invocation.{Invocation}
 use Rattle.events.specs.Operations.{call_of}
 use Rattle.cuts.specs.Recasts.{recast}
-use Rattle.cuts.specs.CutOperations.{as_pending, as_returned, recast_end}
+use Rattle.cuts.specs.CutOperations.{as_pending, as_returned, op_recast}
 use Rattle.cuts.specs.Parts.{pending_call, returned_call}
 use Rattle.cuts.proofs.CutOperations.{bind, IsCutOperationOf}
 use Rattle.cuts.proofs.Overlaps.{IsTimed}
@@ -113,7 +113,7 @@ pub record IsInto (done : Done) (pending : Open) (into : AnyOp → Kind) : Type 
 
 pub recast_operation : (done : Done) (pending : Open) (into : AnyOp → Kind) → IsInto done pending into
     → (kept : Bool) (o p : Invocation)
-    → recast_end (done kept) pending o.number o.op o.«end» ≡ Some p → IsCutOperationOf (into o.op) o p
+    → op_recast (done kept) pending o.number o.op o.«end» ≡ Some p → IsCutOperationOf (into o.op) o p
 recast_operation done pending into is kept o p e = go o.«end» refl e
   where
     finished : (at : ℕ) (r : AnyReply) → o.«end» ≡ Returned at r → (f : Option (AnyOp × AnyReply))
@@ -134,17 +134,17 @@ recast_operation done pending into is kept o p e = go o.«end» refl e
         subst (IsCutOperationOf (into o.op) o) (same_Some (as_pending o.number op) p e)
         (record { number = refl; kind = l; returned = λ when reply w. absurd (cc w) })
 
-    go : (h : End) → o.«end» ≡ h → recast_end (done kept) pending o.number o.op h ≡ Some p
+    go : (h : End) → o.«end» ≡ h → op_recast (done kept) pending o.number o.op h ≡ Some p
         → IsCutOperationOf (into o.op) o p
     go (Returned at r) q e = finished at r q (done kept o.op r) (is.returned kept o.op r) e
     go Pending q e = unfinished (pending o.op) (is.unfinished o.op) e
     go Failed q e = absurd (cc e)
 
 pub recast_lives : (done : Done) (pending : Open) (kept : Bool) (o p : Invocation)
-    → recast_end (done kept) pending o.number o.op o.«end» ≡ Some p → p.«end» ≢ Failed
+    → op_recast (done kept) pending o.number o.op o.«end» ≡ Some p → p.«end» ≢ Failed
 recast_lives done pending kept o p e = grind arith
 
 pub recast_call : (done : Done) (pending : Open) (kept : ℕ → Bool) (o : Invocation)
-    → bind (recast_end (done (kept o.number)) pending o.number o.op o.«end») call_of
+    → bind (op_recast (done (kept o.number)) pending o.number o.op o.«end») call_of
     ≡ bind (call_of o) (λ e. recast (done (kept e.number)) pending e.number e.op e.returned)
 recast_call done pending kept o = grind arith

@@ -11,20 +11,20 @@ same_key : (k q : ℤ) → eq_by_cmp int_cmp k q ≡ int_eq q k
 same_key k q = grind (arith, ints)
 
 -- what a table has for a key after an insert
-pub got : (m : map.FinMap int_cmp ℤ) (q w k : ℤ)
+pub get-insert : (m : map.FinMap int_cmp ℤ) (q w k : ℤ)
     → map.get (map.insert m q w) k ≡ cond (int_eq q k) (Some w) (map.get m k)
-got m q w k = map.get-insert int_cmp_total m q w k ∙ ap (λ b. cond b (Some w) (map.get m k)) (same_key k q)
+get-insert m q w k = map.get-insert int_cmp_total m q w k ∙ ap (λ b. cond b (Some w) (map.get m k)) (same_key k q)
 
 -- what a table has for a key after a removal
-pub gone : (m : map.FinMap int_cmp ℤ) (q k : ℤ)
+pub get-remove : (m : map.FinMap int_cmp ℤ) (q k : ℤ)
     → map.get (map.remove m q) k ≡ cond (int_eq q k) None (map.get m k)
-gone m q k = map.get-remove int_cmp_total m q k ∙ ap (λ b. cond b None (map.get m k)) (same_key k q)
+get-remove m q k = map.get-remove int_cmp_total m q k ∙ ap (λ b. cond b None (map.get m k)) (same_key k q)
 
 -- which elements a set has after an insert
-pub added : (s : set.FinSet int_cmp) (v q : ℤ) → set.contains (set.insert s v) q ≡ (int_eq v q || set.contains s q)
-added s v q = set.contains-insert int_cmp_total s v q ∙ ap (λ b. b || set.contains s q) (same_key q v)
+pub contains-insert : (s : set.FinSet int_cmp) (v q : ℤ) → set.contains (set.insert s v) q ≡ (int_eq v q || set.contains s q)
+contains-insert s v q = set.contains-insert int_cmp_total s v q ∙ ap (λ b. b || set.contains s q) (same_key q v)
 
 -- which elements a set has after a removal
-pub taken : (s : set.FinSet int_cmp) (v q : ℤ)
+pub contains-remove : (s : set.FinSet int_cmp) (v q : ℤ)
     → set.contains (set.remove s v) q ≡ (not (int_eq v q) && set.contains s q)
-taken s v q = set.contains-remove int_cmp_total s v q ∙ ap (λ b. not b && set.contains s q) (same_key q v)
+contains-remove s v q = set.contains-remove int_cmp_total s v q ∙ ap (λ b. not b && set.contains s q) (same_key q v)

@@ -30,10 +30,10 @@ has_failed Failed = true
 -- ---- projection
 
 -- whether an operation may be kept, or left out; a failed one may be either
-abbrev pub fits_end : Bool → (ℤ → Bool) → Bool → AnyOp → End → Bool
-fits_end all keeps kept op (Returned at reply) = fits all keeps kept op (Some reply)
-fits_end all keeps kept op Pending = fits all keeps kept op None
-fits_end all keeps kept op Failed = true
+abbrev pub op_fits : Bool → (ℤ → Bool) → Bool → AnyOp → End → Bool
+op_fits all keeps kept op (Returned at reply) = fits all keeps kept op (Some reply)
+op_fits all keeps kept op Pending = fits all keeps kept op None
+op_fits all keeps kept op Failed = true
 
 -- whether an operation is a removal that is pending; one that failed is not
 abbrev pub is_open_removal : AnyOp → End → Bool
@@ -85,24 +85,24 @@ operation_before until o =
 -- ---- a value that is absent
 
 -- whether an operation that did not fail puts in the value, and was invoked before this number
-abbrev pub is_put_before_end : ℤ → ℕ → ℕ → AnyOp → End → Bool
-is_put_before_end v before number op (Returned at reply) =
+abbrev pub op_is_put_before : ℤ → ℕ → ℕ → AnyOp → End → Bool
+op_is_put_before v before number op (Returned at reply) =
     puts_in (int_eq v) op && nat_lt number before
-is_put_before_end v before number op Pending = puts_in (int_eq v) op && nat_lt number before
-is_put_before_end v before number op Failed = false
+op_is_put_before v before number op Pending = puts_in (int_eq v) op && nat_lt number before
+op_is_put_before v before number op Failed = false
 
 -- whether an operation took out the value, and returned before this number
-abbrev pub is_taken_before_end : ℤ → ℕ → AnyOp → End → Bool
-is_taken_before_end v before op (Returned at reply) =
+abbrev pub op_is_taken_before : ℤ → ℕ → AnyOp → End → Bool
+op_is_taken_before v before op (Returned at reply) =
     takes_out (int_eq v) op (Some reply) && nat_lt at before
-is_taken_before_end v before op Pending = false
-is_taken_before_end v before op Failed = false
+op_is_taken_before v before op Pending = false
+op_is_taken_before v before op Failed = false
 
 -- whether an operation put in the value and was invoked before this number, or took it out and
 -- returned before it
 abbrev pub is_cut_out : ℤ → ℕ → Invocation → Bool
 is_cut_out v before o =
-    is_put_before_end v before o.number o.op o.«end» || is_taken_before_end v before o.op o.«end»
+    op_is_put_before v before o.number o.op o.«end» || op_is_taken_before v before o.op o.«end»
 
 -- whether an operation did not fail, and did neither of these before this number: put in the value,
 -- or take it out
@@ -176,53 +176,53 @@ is_gone what from number op Failed = false
 
 -- the number of the return of a removal, and what it found: a value, or nothing; `None` of any
 -- other operation, and of a removal that is pending or failed
-abbrev pub found_end : AnyOp → End → Option (ℕ × Option ℤ)
-found_end op (Returned at reply) = if is_removal op then found_in at reply else None
-found_end op Pending = None
-found_end op Failed = None
+abbrev pub op_found : AnyOp → End → Option (ℕ × Option ℤ)
+op_found op (Returned at reply) = if is_removal op then found_in at reply else None
+op_found op Pending = None
+op_found op Failed = None
 
 -- the number of the first operation that did not fail and puts in the value; 0: there is none
-abbrev pub first_put_end : ℤ → List Invocation → ℕ
-first_put_end v ops = option_map_or (λ (o : Invocation). o.number)
+abbrev pub op_first_put : ℤ → List Invocation → ℕ
+op_first_put v ops = option_map_or (λ (o : Invocation). o.number)
     (find (λ o. is_put (int_eq v) o.op o.«end») ops) 0
 
 -- The number before which a put must have returned to count: the removal's own, or, if the removal
 -- found a value in a queue, the number of the first put of this value if that is less.
-abbrev pub ahead_before_end : Option ℤ → AnyOp → ℕ → List Invocation → ℕ
-ahead_before_end None op number ops = number
-ahead_before_end (Some b) op number ops =
-    if takes_first op then min number (first_put_end b ops) else number
+abbrev pub op_ahead_before : Option ℤ → AnyOp → ℕ → List Invocation → ℕ
+op_ahead_before None op number ops = number
+op_ahead_before (Some b) op number ops =
+    if takes_first op then min number (op_first_put b ops) else number
 
 -- whether an operation put in one of these values, was invoked at the first number or later, and
 -- returned before the second
-abbrev pub is_put_ahead_end : (ℤ → Bool) → ℕ → ℕ → ℕ → AnyOp → End → Bool
-is_put_ahead_end keeps from before number op (Returned at reply) =
+abbrev pub op_is_put_ahead : (ℤ → Bool) → ℕ → ℕ → ℕ → AnyOp → End → Bool
+op_is_put_ahead keeps from before number op (Returned at reply) =
     puts_in keeps op && (nat_lt at before && not (nat_lt number from))
-is_put_ahead_end keeps from before number op Pending = false
-is_put_ahead_end keeps from before number op Failed = false
+op_is_put_ahead keeps from before number op Pending = false
+op_is_put_ahead keeps from before number op Failed = false
 
 -- whether an operation failed, or puts in another value, or returned before this number
-abbrev pub is_settled_end : ℤ → ℕ → Invocation → Bool
-is_settled_end b from o = not (is_put (int_eq b) o.op o.«end») || is_over from o.«end»
+abbrev pub op_is_settled : ℤ → ℕ → Invocation → Bool
+op_is_settled b from o = not (is_put (int_eq b) o.op o.«end») || is_over from o.«end»
 
 -- If a removal found a value in a stack: whether each put of this value returned before this
 -- number. Otherwise it is true.
 abbrev pub are_settled : Option ℤ → AnyOp → ℕ → List Invocation → Bool
 are_settled None op from ops = true
 are_settled (Some b) op from ops =
-    if takes_last op then list_all (is_settled_end b from) ops else true
+    if takes_last op then list_all (op_is_settled b from) ops else true
 
 -- whether an operation took out one of these values, or is a pending removal
-abbrev pub may_take_end : (ℤ → Bool) → AnyOp → End → Bool
-may_take_end keeps op (Returned at reply) = takes_out keeps op (Some reply)
-may_take_end keeps op Pending = is_removal op
-may_take_end keeps op Failed = false
+abbrev pub op_may_take : (ℤ → Bool) → AnyOp → End → Bool
+op_may_take keeps op (Returned at reply) = takes_out keeps op (Some reply)
+op_may_take keeps op Pending = is_removal op
+op_may_take keeps op Failed = false
 
 -- whether another operation than the removal of this number took out one of these values, or may
 -- have, and was not invoked after `at`, where the removal returned
-abbrev pub may_precede_end : (ℤ → Bool) → ℕ → ℕ → Invocation → Bool
-may_precede_end keeps number at o =
-    may_take_end keeps o.op o.«end» && not (o.number == number || nat_lt at o.number)
+abbrev pub op_may_precede : (ℤ → Bool) → ℕ → ℕ → Invocation → Bool
+op_may_precede keeps number at o =
+    op_may_take keeps o.op o.«end» && not (o.number == number || nat_lt at o.number)
 
 -- the operation of this number is a removal that returned at `at`, and this is what it found
 pub record IsRemoval (ops : List Invocation) (number : ℕ) (op : AnyOp) (at : ℕ)
@@ -231,20 +231,20 @@ pub record IsRemoval (ops : List Invocation) (number : ℕ) (op : AnyOp) (at : �
   pub known : Contains ops operation
   pub named : operation.number ≡ number
   pub same : operation.op ≡ op
-  pub told : found_end op operation.«end» ≡ Some (at, found)
+  pub told : op_found op operation.«end» ≡ Some (at, found)
 
 -- ---- cells
 
 -- what an operation becomes if one that returned becomes what `done` says, and a pending one what
 -- `pending` says; `None`: it failed, or the part leaves it out
-abbrev pub recast_end : (AnyOp → AnyReply → Option (AnyOp × AnyReply)) → (AnyOp → Option AnyOp)
+abbrev pub op_recast : (AnyOp → AnyReply → Option (AnyOp × AnyReply)) → (AnyOp → Option AnyOp)
     → ℕ → AnyOp → End → Option Invocation
-recast_end done pending number op (Returned at reply) =
+op_recast done pending number op (Returned at reply) =
     option_map (as_returned number at) (done op reply)
-recast_end done pending number op Pending = option_map (as_pending number) (pending op)
-recast_end done pending number op Failed = None
+op_recast done pending number op Pending = option_map (as_pending number) (pending op)
+op_recast done pending number op Failed = None
 
 -- what an operation becomes in the part at this cell; `None`: it failed, or the part leaves it out
 abbrev pub operation_at : Place → (ℤ → Bool) → ℤ → (ℕ → Bool) → Invocation → Option Invocation
-operation_at place keeps other kept o = recast_end (done_at place keeps other (kept o.number))
+operation_at place keeps other kept o = op_recast (done_at place keeps other (kept o.number))
     (opened_at place keeps other) o.number o.op o.«end»

@@ -3,9 +3,9 @@
 
 ghost use Rattle.std.specs.Prelude.{◌≡◌, true, IfOk, IfSome, None, count_by, filter, not};
 ghost use Rattle.events.specs.Operations.{calls_of};
-ghost use Rattle.cuts.specs.Absent.{IsAbsent, IsRest};
+ghost use Rattle.cuts.specs.Absent.{IsAbsent, IsWithoutAbsent};
 ghost use Rattle.cuts.specs.Cuts.{IsPart};
-ghost use Rattle.cuts.specs.CutOperations.{stays, is_put_before_end, is_taken_before_end};
+ghost use Rattle.cuts.specs.CutOperations.{stays, op_is_put_before, op_is_taken_before};
 
 use crate::kinds::containers::{is_removal, put_value};
 use events::{End, Invocation, ObjectHistory};
@@ -14,7 +14,7 @@ use std::alloc::{AllocError, Global};
 
 /// Whether an operation that did not fail puts in this value, and was invoked before this number.
 fn puts_before(value: i64, before: u32, operation: &Invocation) -> bool
-    ensures { result ≡ is_put_before_end value before operation.now.number operation.now.op
+    ensures { result ≡ op_is_put_before value before operation.now.number operation.now.op
         operation.now.«end» }
 {
     if operation.end == End::Failed {
@@ -28,7 +28,7 @@ fn puts_before(value: i64, before: u32, operation: &Invocation) -> bool
 
 /// Whether an operation took out this value, and returned before this number.
 fn takes_before(value: i64, before: u32, operation: &Invocation) -> bool
-    ensures { result ≡ is_taken_before_end value before operation.now.op operation.now.«end» }
+    ensures { result ≡ op_is_taken_before value before operation.now.op operation.now.«end» }
 {
     match operation.end {
         End::Returned {
@@ -41,7 +41,7 @@ fn takes_before(value: i64, before: u32, operation: &Invocation) -> bool
 
 /// How many operations put in the value and were invoked before this number.
 fn put_count(value: i64, before: u32, operations: &[Invocation]) -> usize
-    ensures { result ≡ count_by (λ o. is_put_before_end value before o.number o.op o.«end»)
+    ensures { result ≡ count_by (λ o. op_is_put_before value before o.number o.op o.«end»)
         operations.now }
 {
     operations
@@ -52,7 +52,7 @@ fn put_count(value: i64, before: u32, operations: &[Invocation]) -> usize
 
 /// How many operations took out the value and returned before this number.
 fn taken_count(value: i64, before: u32, operations: &[Invocation]) -> usize
-    ensures { result ≡ count_by (λ o. is_taken_before_end value before o.op o.«end»)
+    ensures { result ≡ count_by (λ o. op_is_taken_before value before o.op o.«end»)
         operations.now }
 {
     operations
@@ -103,7 +103,7 @@ pub(crate) fn part_without(
     ensures part { IfOk result (λ o. IfSome o (λ p. IsPart history.now p)) }
     ensures kind { IfOk result (λ o. IfSome o (λ p. p.kind ≡ history.now.kind)) }
     ensures calls { IfOk result (λ o. IfSome o (λ p.
-        IsRest value before (calls_of history.now.ops) (calls_of p.ops))) }
+        IsWithoutAbsent value before (calls_of history.now.ops) (calls_of p.ops))) }
     // `None` is given only if the value may have been in the object.
     ensures refused { IfOk result (λ o. o ≡ None
         → IsAbsent value before (calls_of history.now.ops) → ⊥) }

@@ -11,10 +11,10 @@ ghost use Rattle.events.specs.Operations.{calls_of};
 ghost use Rattle.cuts.specs.Ahead.{IsBlocked};
 ghost use Rattle.cuts.specs.Kinds.Containers as containers;
 ghost use Rattle.cuts.specs.CutOperations as cut_operations;
-ghost use Rattle.cuts.specs.CutOperations.{ahead_before_end, first_put_end, found_end};
+ghost use Rattle.cuts.specs.CutOperations.{op_ahead_before, op_first_put, op_found};
 ghost use Rattle.cuts.specs.CutOperations.{is_put};
-ghost use Rattle.cuts.specs.CutOperations.{is_put_ahead_end, is_settled_end, IsRemoval};
-ghost use Rattle.cuts.specs.CutOperations.{may_precede_end, may_take_end};
+ghost use Rattle.cuts.specs.CutOperations.{op_is_put_ahead, op_is_settled, IsRemoval};
+ghost use Rattle.cuts.specs.CutOperations.{op_may_precede, op_may_take};
 
 use crate::kinds::containers::{is_removal, is_value_ahead, put_value, takes_first, takes_last};
 use crate::suffix::{is_before, operation_at};
@@ -32,7 +32,7 @@ struct Removal {
 
 /// The number of the response of a removal, and what it found.
 fn found_by(op: AnyOp, end: End) -> Option<(u32, Option<i64>)>
-    ensures { result ≡ found_end op «end» }
+    ensures { result ≡ op_found op «end» }
 {
     let End::Returned { at, reply } = end else {
         return None;
@@ -100,7 +100,7 @@ fn first_put_of(operations: &[Invocation], value: i64) -> Option<Invocation>
 
 /// Its number; 0: there is none.
 fn first_put(operations: &[Invocation], value: i64) -> u32
-    ensures { result ≡ first_put_end value operations.now }
+    ensures { result ≡ op_first_put value operations.now }
 {
     match first_put_of(operations, value) {
         Some(operation) => operation.number,
@@ -110,7 +110,7 @@ fn first_put(operations: &[Invocation], value: i64) -> u32
 
 /// The number before which a put must have returned, so that it definitely was ahead.
 fn ahead_before(operations: &[Invocation], removal: Removal) -> u32
-    ensures { result ≡ ahead_before_end removal.found removal.op removal.number operations.now }
+    ensures { result ≡ op_ahead_before removal.found removal.op removal.number operations.now }
 {
     match removal.found {
         None => removal.number,
@@ -123,14 +123,14 @@ fn ahead_before(operations: &[Invocation], removal: Removal) -> u32
 
 /// Whether an operation failed, or puts in another value, or returned before this number.
 fn is_settled(value: i64, from: u32, operation: &Invocation) -> bool
-    ensures { result ≡ is_settled_end value from operation.now }
+    ensures { result ≡ op_is_settled value from operation.now }
 {
     !puts_value(value, operation) || is_before(operation.end, from)
 }
 
 /// Whether each operation failed, or puts in another value, or returned before this number.
 fn all_settled(operations: &[Invocation], value: i64, from: u32) -> bool
-    ensures { result ≡ list_all (is_settled_end value from) operations.now }
+    ensures { result ≡ list_all (op_is_settled value from) operations.now }
 {
     operations.iter().all(|o| is_settled(value, from, o))
 }
@@ -148,7 +148,7 @@ fn are_settled(operations: &[Invocation], removal: Removal, from: u32) -> bool
 
 /// Whether an operation put in what definitely was ahead.
 fn is_ahead(removal: Removal, from: u32, before: u32, operation: &Invocation) -> bool
-    ensures { result ≡ is_put_ahead_end (containers.is_value_ahead removal.found removal.op) from
+    ensures { result ≡ op_is_put_ahead (containers.is_value_ahead removal.found removal.op) from
         before operation.now.number operation.now.op operation.now.«end» }
 {
     match operation.end {
@@ -161,7 +161,7 @@ fn is_ahead(removal: Removal, from: u32, before: u32, operation: &Invocation) ->
 
 /// Whether an operation took out a value that can be ahead, or may have.
 fn may_take(removal: Removal, op: AnyOp, end: End) -> bool
-    ensures { result ≡ may_take_end (containers.is_value_ahead removal.found removal.op) op «end» }
+    ensures { result ≡ op_may_take (containers.is_value_ahead removal.found removal.op) op «end» }
 {
     match end {
         End::Returned { reply, .. } => match reply {
@@ -177,7 +177,7 @@ fn may_take(removal: Removal, op: AnyOp, end: End) -> bool
 
 /// Whether an operation may have taken out such a value before the removal.
 fn may_precede(removal: Removal, operation: &Invocation) -> bool
-    ensures { result ≡ may_precede_end (containers.is_value_ahead removal.found removal.op)
+    ensures { result ≡ op_may_precede (containers.is_value_ahead removal.found removal.op)
         removal.number removal.at operation.now }
 {
     may_take(removal, operation.op, operation.end)
@@ -187,11 +187,11 @@ fn may_precede(removal: Removal, operation: &Invocation) -> bool
 /// How many operations put in what definitely was ahead, and how many may have taken such a value
 /// out before the removal.
 fn times(operations: &[Invocation], removal: Removal, from: u32) -> (usize, usize)
-    ensures ahead { result.0 ≡ count_by (λ o. is_put_ahead_end
+    ensures ahead { result.0 ≡ count_by (λ o. op_is_put_ahead
         (containers.is_value_ahead removal.found removal.op) from
-        (ahead_before_end removal.found removal.op removal.number operations.now)
+        (op_ahead_before removal.found removal.op removal.number operations.now)
         o.number o.op o.«end») operations.now }
-    ensures takes { result.1 ≡ count_by (may_precede_end
+    ensures takes { result.1 ≡ count_by (op_may_precede
         (containers.is_value_ahead removal.found removal.op) removal.number removal.at)
         operations.now }
 {

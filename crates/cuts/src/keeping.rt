@@ -6,7 +6,7 @@ ghost use Rattle.std.specs.List.{list_all};
 ghost use Rattle.events.specs.Operations.{calls_of};
 ghost use Rattle.cuts.specs.Parts.{kept_calls};
 ghost use Rattle.cuts.specs.Cuts.{keeps_all, keeps_value, keeps_number, IsClosedPart, IsPart};
-ghost use Rattle.cuts.specs.CutOperations.{fits_end, is_put, is_taken, is_open_removal};
+ghost use Rattle.cuts.specs.CutOperations.{op_fits, is_put, is_taken, is_open_removal};
 ghost use Rattle.cuts.specs.CutOperations.{is_kept_call};
 ghost use Rattle.cuts.specs.CutOperations.{keeps_first};
 
@@ -43,7 +43,7 @@ impl Values {
 
 /// Whether an operation may be kept, or left out. A failed one may be either.
 fn operation_fits(values: &Values, kept: bool, operation: &Invocation) -> bool
-    ensures { result ≡ fits_end (keeps_all values.now) (keeps_value values.now) kept
+    ensures { result ≡ op_fits (keeps_all values.now) (keeps_value values.now) kept
         operation.now.op operation.now.«end» }
 {
     match operation.end {
@@ -114,7 +114,7 @@ fn has_first(numbers: &BTreeSet<u32>, most: usize, operations: &[Invocation]) ->
 
 /// Whether each operation may be kept, or left out.
 fn all_fit(values: &Values, numbers: &BTreeSet<u32>, operations: &[Invocation]) -> bool
-    ensures { result ≡ list_all (λ o. fits_end (keeps_all values.now) (keeps_value values.now)
+    ensures { result ≡ list_all (λ o. op_fits (keeps_all values.now) (keeps_value values.now)
         (keeps_number numbers.now o.number) o.op o.«end») operations.now }
 {
     operations

@@ -29,7 +29,7 @@ use Rattle.desk_model.proofs.Changed.{changed_here, changed_else}
 use Rattle.desk_model.proofs.Initial.{sound_initial, sound_coming}
 use Rattle.desk_invariant.specs.Views.{row_place, end_place, clock_place, new_client, first_maker, after_making}
 use Rattle.desk_invariant.specs.Views.{seen_of, received_of, with_own}
-use Rattle.desk_invariant.specs.Rule.{row_word, OwnCallAgrees, SeatAgrees, HasLeft, ViewAgrees, Makers, CoreFits}
+use Rattle.desk_invariant.specs.Rule.{row_word, OwnCallAgrees, SeatAgrees, HasLeft, ViewAgrees, HasOneMaker, CoreFits}
 use Rattle.desk_invariant.specs.Rule.{CallAt}
 use Rattle.desk_invariant.specs.Plays as play
 use Rattle.desk_invariant.proofs.Seats.{row_leaves, alike, kept_after, come_after, mine, Rule}
@@ -63,7 +63,7 @@ makers_made : (clients : ℕ) (vs us : List DeskView) (id : ℕ) (v l new : Desk
     → get_elem? vs id ≡ some v → l.role ≡ v.role → l.made ≡ v.made + 1 → new.role ≡ role.Client → new.number ≡ v.made
     → v.made < clients → ((a : ℕ) (z : DeskView) → get_elem? us a ≡ some z
     → ((a ≡ id) × (l ≡ z)) ⊎ (((a ≢ id) × (get_elem? vs a ≡ some z)) ⊎ (new ≡ z)))
-    → Makers clients vs → Makers clients us
+    → HasOneMaker clients vs → HasOneMaker clients us
 makers_made clients vs us id v l new is at role made new_role number low known k = record {
   made = λ j u e f i y g. grind (arith, known j u e, known i y g, k.made id v at is j u, k.made id v at is i y);
   numbers = λ j u e f. grind (arith, known j u e, k.numbers j u);

@@ -16,27 +16,27 @@ use Rattle.desk_invariant.specs.declared.board.Role.TheVariants as role
 use Rattle.desk_invariant.specs.declared.board.DeskView.{DeskView}
 use Rattle.desk_model.specs.World.{World, StartsWith}
 use Rattle.desk_invariant.specs.Views.{seen_of, received_of, empty_message}
-use Rattle.desk_invariant.specs.Rule.{HasLeft, ViewAgrees, Makers}
+use Rattle.desk_invariant.specs.Rule.{HasLeft, ViewAgrees, HasOneMaker}
 use Rattle.desk_invariant.proofs.Seats.{makers_stay, Rule}
 use Rattle.desk_invariant.proofs.Beginnings.{get_or-replicate_same}
 use Rattle.publication_list.proofs.RosterMaking.{at_end}
 
 -- a list whose views are those of another list, and one that is no client's and no maker's
 makers_with : (clients : ℕ) (vs us : List DeskView) (b : DeskView) → b.role ≡ role.Message
-    → ((a : ℕ) (z : DeskView) → get_elem? us a ≡ some z → (get_elem? vs a ≡ some z) ⊎ (b ≡ z)) → Makers clients vs
-    → Makers clients us
+    → ((a : ℕ) (z : DeskView) → get_elem? us a ≡ some z → (get_elem? vs a ≡ some z) ⊎ (b ≡ z)) → HasOneMaker clients vs
+    → HasOneMaker clients us
 makers_with clients vs us b idle old k = record {
   made = λ j v e is i u f. grind (arith, old j v e, old i u f, k.made j v, k.made i u);
   numbers = λ j v e is. grind (arith, old j v e, k.numbers j v);
 }
 
-pub makers_more : (clients : ℕ) (vs : List DeskView) (b : DeskView) → b.role ≡ role.Message → Makers clients vs
-    → Makers clients (vs ++ b ∷ [])
+pub makers_more : (clients : ℕ) (vs : List DeskView) (b : DeskView) → b.role ≡ role.Message → HasOneMaker clients vs
+    → HasOneMaker clients (vs ++ b ∷ [])
 makers_more clients vs b idle = makers_with clients vs (vs ++ b ∷ []) b idle
     (λ a z q. elim (at_end vs b z a q) [ inl t ↦ inl t | inr t ↦ inr t.1 ])
 
 pub makers_drop : (clients : ℕ) (vs : List DeskView) (id : ℕ) (b : DeskView) → b.role ≡ role.Message
-    → Makers clients vs → Makers clients (set vs id b)
+    → HasOneMaker clients vs → HasOneMaker clients (set vs id b)
 makers_drop clients vs id b idle = makers_with clients vs (set vs id b) b idle
     (λ a z q. elim (at_set vs id a b z q) [ inl t ↦ inr t.1 | inr t ↦ inl t.1 ])
 
@@ -64,7 +64,7 @@ module _ {S O R : Type 0} (content : S → Content) (op_in : O → AnyOp) (reply
   -- the same world, with other views
   kept_views : (s : State (Slot S O R) DeskView) (k : DeskRule s) (vs : List DeskView)
       → ((j : ℕ) (u : DeskView) → get_elem? vs j ≡ some u → ViewAgrees kinds k.lists k.world k.seat_of j u)
-      → Makers clients vs → DeskRule record { words = s.words; homes = s.homes; views = vs }
+      → HasOneMaker clients vs → DeskRule record { words = s.words; homes = s.homes; views = vs }
   kept_views s k vs seats makers = record {
     world = k.world;
     seat_of = k.seat_of;

@@ -28,7 +28,7 @@ use Rattle.desk_model.specs.Sound.{Sound}
 use Rattle.desk_model.proofs.Changed.{changed_all}
 use Rattle.desk_model.proofs.Entries.{starts_longer, starts_same}
 use Rattle.desk_invariant.specs.Views.{seen_of, received_of, after_miss}
-use Rattle.desk_invariant.specs.Rule.{OwnCallAgrees, HeldAgrees, SeatAgrees, HasLeft, ViewAgrees, Makers, Tied, Kept}
+use Rattle.desk_invariant.specs.Rule.{OwnCallAgrees, HeldAgrees, SeatAgrees, HasLeft, ViewAgrees, HasOneMaker, Tied, Kept}
 
 -- ---- what a step leaves to the other clients
 
@@ -140,7 +140,7 @@ seat_knowing ready retired ok = assumption
 -- after a step to w', in which the client's view v becomes v', each view is true
 seats_after : (kinds : List Kind) (lists : List TableId) (clients : ℕ) (w w' : World) (so : ℕ → ℕ)
     (vs : List DeskView) (id : ℕ) (v v' : DeskView)
-    → get_elem? vs id ≡ some v → v.role ≡ role.Client → Alike v v' → Makers clients vs
+    → get_elem? vs id ≡ some v → v.role ≡ role.Client → Alike v v' → HasOneMaker clients vs
     → ((j : ℕ) (u : DeskView) → get_elem? vs j ≡ some u → ViewAgrees kinds lists w so j u) → Leaves w w'
     → ((c : ℕ) → c ≢ v.number → Later w w' c) → SeatAgrees kinds w' v.number v'
     → (j : ℕ) (u : DeskView) → get_elem? (set vs id v') j ≡ some u → ViewAgrees kinds lists w' so j u
@@ -188,10 +188,10 @@ seats_after kinds lists clients w w' so vs id v v' at cl alike makers before lea
       }
     ]
 
--- `Makers` stays true if one view changes, and not in its role, its number or how many clients it has made
+-- `HasOneMaker` stays true if one view changes, and not in its role, its number or how many clients it has made
 pub makers_stay : (clients : ℕ) (vs : List DeskView) (id : ℕ) (v v' : DeskView) → get_elem? vs id ≡ some v
     → v'.role ≡ v.role → v'.number ≡ v.number
-    → v'.made ≡ v.made → Makers clients vs → Makers clients (set vs id v')
+    → v'.made ≡ v.made → HasOneMaker clients vs → HasOneMaker clients (set vs id v')
 makers_stay clients vs id v v' at role number made before =
     let back : (a : ℕ) (z : DeskView) → get_elem? (set vs id v') a ≡ some z
     → (y : DeskView) × (get_elem? vs a ≡ some y) × (z.role ≡ y.role) × (z.number ≡ y.number) × (z.made ≡ y.made)
@@ -219,7 +219,7 @@ pub come_after : (clients : ℕ) (w : World) (c : ℕ) (t : Stage) → c < clien
 come_after clients w c t low all = changed_all (λ d s. s ≢ absent → d < clients) w.stage c t (λ _. low) (λ d _. all d)
 
 makers_after : (clients : ℕ) (vs : List DeskView) (id : ℕ) (v v' : DeskView) → get_elem? vs id ≡ some v → Alike v v'
-    → Makers clients vs → Makers clients (set vs id v')
+    → HasOneMaker clients vs → HasOneMaker clients (set vs id v')
 makers_after clients vs id v v' at alike = makers_stay clients vs id v v' at alike.role alike.number alike.made
 
 -- ---- the rule, after a step of one client

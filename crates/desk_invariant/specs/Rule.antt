@@ -129,7 +129,7 @@ pub record ViewAgrees (kinds : List Kind) (lists : List TableId) (w : World) (se
   pub maker_lists : v.role ≡ role.Maker → v.lists ≡ lists
 
 -- There is at most one maker. It made every client, and at most `clients` of them.
-pub record Makers (clients : ℕ) (views : List DeskView) : Type 0 where
+pub record HasOneMaker (clients : ℕ) (views : List DeskView) : Type 0 where
   pub made : (j : ℕ) (v : DeskView) → get_elem? views j ≡ some v → v.role ≡ role.Maker
       → (i : ℕ) (u : DeskView) → get_elem? views i ≡ some u
       → (u.role ≡ role.Client → u.number < v.made) × (u.role ≡ role.Maker → i ≡ j)
@@ -198,7 +198,7 @@ module _ {S O R : Type 0} (content : S → Content) (op_in : O → AnyOp) (reply
         pub tied : Tied kinds lists world s.words s.homes
         pub seats : (j : ℕ) (v : DeskView) → get_elem? s.views j ≡ some v
             → ViewAgrees kinds lists world seat_of j v
-        pub makers : Makers clients s.views
+        pub makers : HasOneMaker clients s.views
         -- a client that holds an object has not ended
         pub holders : (x c : ℕ) → world.holder x ≡ Some c → (c < clients) × (world.ended c ≡ false)
         -- a client that has come has a number below `clients`

@@ -90,7 +90,7 @@ fn files_of(line: &Line) -> (&str, &str) {
 }
 
 /// Does the command on its files.
-fn do_on_files<R: Host>(rt: &R, line: &Line) -> io::Result<u8> {
+fn run_on_files<R: Host>(rt: &R, line: &Line) -> io::Result<u8> {
     let (first_name, second_name) = files_of(line);
     let mut first = In::new(NamedFile::new(rt, first_name));
     let mut second = In::new(NamedFile::new(rt, second_name));
@@ -173,7 +173,7 @@ fn merge<R: Host>(rt: &R, name: &str, steps: u32, trust_statuses: bool) -> io::R
 }
 
 /// Does the command on its folder.
-fn do_on_folder<R: Host>(rt: &R, line: &FolderLine) -> io::Result<u8> {
+fn run_on_folder<R: Host>(rt: &R, line: &FolderLine) -> io::Result<u8> {
     match line {
         FolderLine::Split(line) => split(rt, line),
         FolderLine::Merge {
@@ -185,10 +185,10 @@ fn do_on_folder<R: Host>(rt: &R, line: &FolderLine) -> io::Result<u8> {
 }
 
 /// Does the command.
-fn do_command<R: Host>(rt: &R, line: &Line) -> io::Result<u8> {
+fn run_line<R: Host>(rt: &R, line: &Line) -> io::Result<u8> {
     match line {
-        Line::OnFolder(line) => do_on_folder(rt, line),
-        _ => do_on_files(rt, line),
+        Line::OnFolder(line) => run_on_folder(rt, line),
+        _ => run_on_files(rt, line),
     }
 }
 
@@ -201,19 +201,19 @@ fn asks_for_version(words: &[String]) -> bool {
 }
 
 /// Does what the words ask for.
-fn do_words<R: Host>(rt: &R, words: &[String]) -> io::Result<u8> {
+fn run_words<R: Host>(rt: &R, words: &[String]) -> io::Result<u8> {
     if asks_for_version(words) {
         rt.println(VERSION)?;
         return Ok(Status::Yes.number());
     }
     match line(rt.alloc(), words) {
-        Ok(line) => do_command(rt, &line),
-        Err(fault) => explain(rt, &fault),
+        Ok(line) => run_line(rt, &line),
+        Err(fault) => report_refusal(rt, &fault),
     }
 }
 
 /// Says why the command line is refused. Help goes to standard output.
-fn explain<R: Print + Eprint>(rt: &R, fault: &LineFault) -> io::Result<u8> {
+fn report_refusal<R: Print + Eprint>(rt: &R, fault: &LineFault) -> io::Result<u8> {
     match fault {
         LineFault::Help(text) => rt.print(text.as_str())?,
         LineFault::Refused(text) => rt.eprint(text.as_str())?,
@@ -228,9 +228,9 @@ fn words_of<R: AllocGlobal + Env>(rt: &R) -> io::Result<Vec<String>> {
 }
 
 /// Reads the words of the command line, and does what they ask for.
-fn do_command_line<R: Host + Env>(rt: &R) -> io::Result<u8> {
+fn main_status<R: Host + Env>(rt: &R) -> io::Result<u8> {
     match words_of(rt) {
-        Ok(words) => do_words(rt, &words),
+        Ok(words) => run_words(rt, &words),
         Err(error) if error.kind() == io::ErrorKind::OutOfMemory => report_no_memory(rt),
         Err(_) => {
             rt.eprintln("fcbench: a word of the command line is not UTF-8")?;
@@ -276,6 +276,6 @@ fn main(rt: HostRuntime) -> ExitCode {
     ExitCode::from(watched(
         rt,
         may_watch,
-        || do_command_line(rt).unwrap_or(Status::Failed.number()),
+        || main_status(rt).unwrap_or(Status::Failed.number()),
     ))
 }

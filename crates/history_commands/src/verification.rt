@@ -260,6 +260,6 @@ pub fn verify(
     ensures { IfOk result (λ o.
         IsVerification history.now evidence.now steps o.status o.text.items) }
 {
-    let read = history_of_text(alloc, history);
-    verify_history(alloc, read, evidence, steps)
+    let history_read = history_of_text(alloc, history);
+    verify_history(alloc, history_read, evidence, steps)
 }

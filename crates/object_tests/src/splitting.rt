@@ -82,8 +82,8 @@ pub(crate) const OBJECTS: [(u32, Kind, &[Invocation]); 2] = [
 ];
 
 /// Whether this is what an object did.
-pub(crate) fn is_object(object: &ObjectHistory, want: (u32, Kind, &[Invocation])) -> bool {
-    let (number, kind, ops) = want;
+pub(crate) fn is_object(object: &ObjectHistory, expected: (u32, Kind, &[Invocation])) -> bool {
+    let (number, kind, ops) = expected;
     object.object() == number && object.kind() == kind && object.ops() == ops
 }
 
@@ -93,8 +93,8 @@ fn a_history_is_split_by_object(rt: HostRuntime) -> Result<(), Fail> {
     assert!(rt; history.events().len() == 6);
     let objects = split(rt.alloc(), &history)?;
     assert!(rt; objects.len() == 2);
-    for (object, want) in objects.iter().zip(OBJECTS) {
-        assert!(rt; is_object(object, want));
+    for (object, expected) in objects.iter().zip(OBJECTS) {
+        assert!(rt; is_object(object, expected));
     }
     Ok(())
 }
@@ -118,13 +118,13 @@ fn a_part_of_a_history_has_the_objects_of_one_remainder(rt: HostRuntime) -> Resu
             return Err(Fail::new("a part past the last"));
         }
         let objects = split_share(rt.alloc(), &history, part, parts)?;
-        let want = match place {
+        let expected = match place {
             Some(k) => all.get(k),
             None => None,
         };
-        assert!(rt; objects.len() == usize::from(want.is_some()));
-        for (object, want) in objects.iter().zip(want) {
-            assert!(rt; is_object(object, *want));
+        assert!(rt; objects.len() == usize::from(expected.is_some()));
+        for (object, expected) in objects.iter().zip(expected) {
+            assert!(rt; is_object(object, *expected));
         }
     }
     Ok(())

@@ -60,9 +60,9 @@ all_items P ops items p h =
     (all_from_in P (filter happens ops) (λ x i. all_at P ops h x (in_filter happens x ops i)))
 
 -- a search has as many operations as there are calls
-pub items_few : (ops items : List Invocation) → IsPermutation (filter happens ops) items
+pub length-items : (ops items : List Invocation) → IsPermutation (filter happens ops) items
     → length items ≡ length (calls_of ops)
-items_few ops items p = length_permutation (filter happens ops) items p ∙ length-calls ops
+length-items ops items p = length_permutation (filter happens ops) items p ∙ length-calls ops
 
 -- the operations that did not fail, in any order and with their floors, are arranged for a search
 pub arranged : (h : ObjectCalls) (items : List Invocation) (floors return_floors : List ℕ) (pending : ℕ)
@@ -71,7 +71,7 @@ pub arranged : (h : ObjectCalls) (items : List Invocation) (floors return_floors
     → pending ≤ length items
     → ((k : ℕ) → k < pending → IsSome (call_at items k).returned) → IsArranged h.kind items floors return_floors pending
 arranged h items floors return_floors pending is few p f g within returned = record {
-  few = let e = items_few h.ops items p in omega arith;
+  few = let e = length-items h.ops items p in omega arith;
   floors_right = f;
   return_floors_right = g;
   within = within;

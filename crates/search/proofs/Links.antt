@@ -7,8 +7,8 @@ use Rattle.std.proofs.lemmas.List.{length-set, get_or-set_same, get_or-set_other
 use Rattle.std.proofs.lemmas.Bool.{cases_eq, cases_order}
 use Rattle.model.specs.Lists.{In}
 use Rattle.search.specs.Continuations.{IsLeft, Describes}
-use Rattle.search.specs.Links.{IsSlot, IsStop, IsFilledGap, IsForth, IsBack, Linked, next_without, before_without}
-use Rattle.search.specs.Links.{next_with, before_with, AreWithin, Lists}
+use Rattle.search.specs.Links.{IsSlot, IsStop, IsFilledGap, IsNextLeft, IsSlotBefore, Linked, next_without, before_without}
+use Rattle.search.specs.Links.{next_with, before_with, AreWithin, LeadsThrough}
 use Rattle.search.specs.Searching.{IsBound}
 
 -- ---- slots and stops
@@ -22,7 +22,7 @@ same_slot_le : (n : ℕ) (done : List ℕ) (s t q : ℕ) → IsSlot n done t →
 same_slot_le n done s zero q h le gap l = omega arith
 same_slot_le n done s (suc k) q h le gap l = h.1 (gap k (omega arith) (omega arith))
 
-same_slot : {n : ℕ} {done : List ℕ} {s t q : ℕ} → IsBack n done s q → IsBack n done t q → s ≡ t
+same_slot : {n : ℕ} {done : List ℕ} {s t q : ℕ} → IsSlotBefore n done s q → IsSlotBefore n done t q → s ≡ t
 same_slot {n} {done} {s} {t} {q} a b = elim (cases_order s t) [
   | inl e ↦ e
   | inr o ↦ elim o [
@@ -31,7 +31,7 @@ same_slot {n} {done} {s} {t} {q} a b = elim (cases_order s t) [
   ]
 ]
 
-same_stop : {n : ℕ} {done : List ℕ} {s p q : ℕ} → IsForth n done s p → IsForth n done s q → p ≡ q
+same_stop : {n : ℕ} {done : List ℕ} {s p q : ℕ} → IsNextLeft n done s p → IsNextLeft n done s q → p ≡ q
 same_stop {n} {done} {s} {p} {q} a b = elim (cases_order p q) [
   | inl e ↦ e
   | inr o ↦ elim o [
@@ -45,8 +45,8 @@ same_stop {n} {done} {s} {p} {q} a b = elim (cases_order p q) [
 -- what a list with its neighbours knows of a place that is left
 pub record Around (n : ℕ) (done nx pv : List ℕ) (k : ℕ) : Type 0 where
   pub left : IsLeft n done k
-  pub behind : IsForth n done (suc k) (get_or nx (suc k) 0)
-  pub front : IsBack n done (get_or pv k 0) k
+  pub behind : IsNextLeft n done (suc k) (get_or nx (suc k) 0)
+  pub front : IsSlotBefore n done (get_or pv k 0) k
   pub first : get_or nx (get_or pv k 0) 0 ≡ k
   pub last : get_or pv (get_or nx (suc k) 0) 0 ≡ suc k
   pub next_in : get_or pv k 0 < length nx
@@ -189,26 +189,26 @@ module _ {n : ℕ} {done nx pv : List ℕ} (h : Linked n done nx pv) where
 
   -- ---- the places that the list of links gives
 
-  listed_here : (s u : ℕ) (us : List ℕ) (high : ℕ) → s ≤ n → IsSlot n done s → Lists nx s (u ∷ us) high
+  listed_here : (s u : ℕ) (us : List ℕ) (high : ℕ) → s ≤ n → IsSlot n done s → LeadsThrough nx s (u ∷ us) high
       → IsLeft n done u
   listed_here s u us high le sl w =
       let long = h.long_next in
       let l = inside us w.2 in
-      let f : IsForth n done s u = rw w.1 at (h.forth s le sl) in
+      let f : IsNextLeft n done s u = rw w.1 at (h.forth s le sl) in
       (omega arith, f.stop.left (omega arith))
     where
-      inside : (vs : List ℕ) → Lists nx (suc u) vs high → suc u < length nx
+      inside : (vs : List ℕ) → LeadsThrough nx (suc u) vs high → suc u < length nx
       inside [] w = w.0
       inside (v ∷ vs) w = w.0
 
-  listed_left : (s : ℕ) (us : List ℕ) (high : ℕ) → s ≤ n → IsSlot n done s → Lists nx s us high → (k : ℕ) → In k us
+  listed_left : (s : ℕ) (us : List ℕ) (high : ℕ) → s ≤ n → IsSlot n done s → LeadsThrough nx s us high → (k : ℕ) → In k us
       → IsLeft n done k
   listed_left s [] high le sl w k i = absurd i
   listed_left s (u ∷ us) high le sl w k i =
       let here = listed_here s u us high le sl w in
       elim i [ inl e ↦ rw e here | inr m ↦ listed_left (suc u) us high here.0 here w.2 k m ]
 
-  listed_cover : (s : ℕ) (us : List ℕ) (high : ℕ) → s ≤ n → IsSlot n done s → Lists nx s us high
+  listed_cover : (s : ℕ) (us : List ℕ) (high : ℕ) → s ≤ n → IsSlot n done s → LeadsThrough nx s us high
       → (k : ℕ) → s ≤ k → k < n → k < high → (In k us → ⊥) → In k done
   listed_cover s [] high le sl w k sk kn kh out =
       let long = h.long_next in
@@ -224,7 +224,7 @@ module _ {n : ℕ} {done nx pv : List ℕ} (h : Linked n done nx pv) where
       ]
 
   -- the links list the places below the bound that are not done
-  pub listed : {us : List ℕ} {high : ℕ} → IsBound done high → Lists nx 0 us high → Describes n high us done
+  pub listed : {us : List ℕ} {high : ℕ} → IsBound done high → LeadsThrough nx 0 us high → Describes n high us done
   listed {us} {high} b w = record {
     bound = b;
     apart = λ k i. (listed_left 0 us high (omega arith) tt w k i).1;

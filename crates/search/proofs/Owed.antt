@@ -7,7 +7,7 @@ use Rattle.std.proofs.lemmas.Bool.{cases_eq, eqb-true, eq-eqb, ne_eqb, or_cases,
 use Rattle.model.specs.Orders.{Call, Return}
 use Rattle.model.specs.Lists.{In}
 use Rattle.search.specs.Arranged.{owes, count_below}
-use Rattle.search.specs.Continuations.{IsLeft, NoneReturned}
+use Rattle.search.specs.Continuations.{IsLeft, AreReturnedDone}
 
 count_zero : (f : ℕ → Bool) (n k : ℕ) → count_below f n ≡ 0 → k < n → f k ≡ false
 count_zero f zero k e l = absurd (omega arith)
@@ -86,7 +86,7 @@ left_owes n call done k r l e = go (call k).returned (list_any (λ j. j == k) do
 
 -- if no call that returned is left, each that returned is done
 pub none_owed : (n : ℕ) (call : ℕ → Call) (done : List ℕ) → count_below (owes call done) n ≡ 0
-    → NoneReturned n call done
+    → AreReturnedDone n call done
 none_owed n call done e j r l q =
     let t = left_owes n call done j r l q in
     let u = count_zero (owes call done) n j e l.0 in

@@ -12,7 +12,7 @@ use Rattle.events.specs.declared.operations.Invocation.{Invocation}
 use Rattle.events.specs.Operations.{return_of}
 use Rattle.search.specs.declared.level.Level.{Level}
 use Rattle.search.specs.Continuations.{Continues, IsDead, IsDeadAt, IsDeadPair}
-use Rattle.search.specs.Links.{Linked, IsSlot, IsStop, IsForth, Lists, next_without}
+use Rattle.search.specs.Links.{Linked, IsSlot, IsStop, IsNextLeft, LeadsThrough, next_without}
 use Rattle.search.specs.Searching.{places, IsLeast, Stack, IsWalk, Position, Turn}
 use Rattle.search.specs.Arranged.{as_call, call_at, owes, count_below, IsArranged}
 use Rattle.search.proofs.Positions.{turn}
@@ -43,15 +43,15 @@ call_read items k d l = ap as_call (get_or_default items k d _ l)
 
 -- the links list these places from the start, if they do so up to the end or to a place that is not below `high`
 pub listed_end : (nx us : List ℕ) (slot high place : ℕ)
-    → ((rest : List ℕ) → Lists nx slot rest high → Lists nx 0 (us ++ rest) high)
-    → slot < length nx → get_or nx slot 0 ≡ place → ((high ≤ place) ⊎ (length nx ≤ suc place)) → Lists nx 0 us high
+    → ((rest : List ℕ) → LeadsThrough nx slot rest high → LeadsThrough nx 0 (us ++ rest) high)
+    → slot < length nx → get_or nx slot 0 ≡ place → ((high ≤ place) ⊎ (length nx ≤ suc place)) → LeadsThrough nx 0 us high
 listed_end nx us slot high place front l e end = rw append-nil at (front [] (l, rw e end))
 
 -- the loop over the links has listed all places below `high`
 pub below_end : (nx nx2 us : List ℕ) (i slot high place : ℕ) → nx2 ≡ nx
-    → ((rest : List ℕ) → Lists nx slot rest high → Lists nx 0 (take i us ++ rest) high) → length us ≤ i
+    → ((rest : List ℕ) → LeadsThrough nx slot rest high → LeadsThrough nx 0 (take i us ++ rest) high) → length us ≤ i
     → (slot < length nx2)
-    × ((d : ℕ) → place ≡ get_or nx2 slot d) → ((high ≤ place) ⊎ (length nx2 ≤ place + 1)) → Lists nx 0 us high
+    × ((d : ℕ) → place ≡ get_or nx2 slot d) → ((high ≤ place) ⊎ (length nx2 ≤ place + 1)) → LeadsThrough nx 0 us high
 below_end nx nx2 us i slot high place e front all here end =
     rw (take_all i us all) at (
     listed_end nx (take i us) slot high place front (rw e at here.0) (sym (rw e at (here.1 0))) (rw (e, add-one) at end)
@@ -60,13 +60,13 @@ below_end nx nx2 us i slot high place e front all here end =
 -- one more place of those below `high`
 pub below_step : (n : ℕ) (done nx pv us us2 : List ℕ) (slot place high : ℕ) → Linked n done nx pv → slot ≤ n
     → IsSlot n done slot
-    → ((rest : List ℕ) → Lists nx slot rest high → Lists nx 0 (us ++ rest) high) → place ≡ get_or nx slot 0
+    → ((rest : List ℕ) → LeadsThrough nx slot rest high → LeadsThrough nx 0 (us ++ rest) high) → place ≡ get_or nx slot 0
     → place + 1 < length nx → us2 ≡ us ++ place ∷ [] →
     (place + 1 ≤ n) × IsSlot n done (place + 1)
-    × ((rest : List ℕ) → Lists nx (place + 1) rest high → Lists nx 0 (us2 ++ rest) high)
+    × ((rest : List ℕ) → LeadsThrough nx (place + 1) rest high → LeadsThrough nx 0 (us2 ++ rest) high)
 below_step n done nx pv us us2 slot place high link le sl front e inside eu =
     let long = link.long_next in
-    let f : IsForth n done slot place = rw (← e) at (link.forth slot le sl) in (
+    let f : IsNextLeft n done slot place = rw (← e) at (link.forth slot le sl) in (
       omega arith,
       rw add-one (omega arith, f.stop.left (omega arith)),
       λ rest w. rw (eu, append_assoc) (front (place ∷ rest) (omega arith, sym e, rw add-one at w)),
@@ -76,7 +76,7 @@ below_step n done nx pv us us2 slot place high link le sl front e inside eu =
 
 -- the place after one that is left is linked to it, or is the end
 pub next_stop : {n : ℕ} {done nx pv : List ℕ} {at : ℕ} → Linked n done nx pv → IsStop n done at → at < n
-    → IsForth n done (suc at) (get_or nx (suc at) 0) × (at + 1 < length nx)
+    → IsNextLeft n done (suc at) (get_or nx (suc at) 0) × (at + 1 < length nx)
 next_stop {at = at} link stop l =
     let long = link.long_next in (link.forth (suc at) (omega arith) (l, stop.left l), omega arith)
 
@@ -174,7 +174,7 @@ module _ {n : ℕ} {call : ℕ → Call} where
   module _ {start : Content} {ls : List Level} {bs : List Content} {here : Position} {to : Turn}
       (w : IsWalk n call start ls bs here to) where
     -- the pair that the search remembers where a walk is dead
-    pub dead_pair : {not_done : List ℕ} → IsDead n call (places ls) here.content → Lists here.next 0 not_done here.high
+    pub dead_pair : {not_done : List ℕ} → IsDead n call (places ls) here.content → LeadsThrough here.next 0 not_done here.high
         → IsDeadPair n call here.high not_done here.content
     dead_pair d h = record { done = places ls; describes = listed (walk_linked w) (walk_bound w) h; dead = d }
 
@@ -188,7 +188,7 @@ module _ {n : ℕ} {call : ℕ → Call} where
     -- a remembered pair is met: the place that leads to it is dead
     pub hit : {after cp : Content} {nx us : List ℕ} {high hp : ℕ} {gives : AnyReply} → to.at < n
         → next here.content (call to.at).op ≡ Some (after, gives) → nx ≡ next_without here.next here.back to.at
-        → Lists nx 0 us high → here.high ≤ high → to.at < high → IsDeadPair n call hp us cp → hp ≡ high → cp ≡ after
+        → LeadsThrough nx 0 us high → here.high ≤ high → to.at < high → IsDeadPair n call hp us cp → hp ≡ high → cp ≡ after
         → IsDeadAt n call (places ls) here.content to.at
     hit {after} {cp} {nx} {us} {high} {hp} {gives} l does en lists hi hat pair eh ec =
         let pair2 : IsDeadPair n call high us after = rw (eh, ec) at pair in

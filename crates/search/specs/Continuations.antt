@@ -17,8 +17,8 @@ abbrev pub IsCandidate : (n : ℕ) (call : ℕ → Call) → List ℕ → ℕ �
 IsCandidate n call done k = (j : ℕ) → IsLeft n done j → j ≢ k → ReturnsBefore (call j) (call k) → ⊥
 
 -- each call that returned is done
-abbrev pub NoneReturned : (n : ℕ) (call : ℕ → Call) → List ℕ → Type 0
-NoneReturned n call done = (j : ℕ) (r : Return) → IsLeft n done j → (call j).returned ≡ Some r → ⊥
+abbrev pub AreReturnedDone : (n : ℕ) (call : ℕ → Call) → List ℕ → Type 0
+AreReturnedDone n call done = (j : ℕ) (r : Return) → IsLeft n done j → (call j).returned ≡ Some r → ⊥
 
 -- The call at k is possible with the first content, and leaves the second. Its recorded reply, if
 -- there is one, is the one that `next` gives.
@@ -30,7 +30,7 @@ pub record DoesCall (call : ℕ → Call) (k : ℕ) (before after : Content) : T
 -- From the calls at the places `done`, with this content, the next places go on to an order of all
 -- calls that returned.
 abbrev pub Continues : (n : ℕ) (call : ℕ → Call) → List ℕ → Content → List ℕ → Type 0
-Continues n call done c [] = NoneReturned n call done
+Continues n call done c [] = AreReturnedDone n call done
 Continues n call done c (k ∷ rest) =
     IsLeft n done k × IsCandidate n call done k × (after : Content) × DoesCall call k c after
     × Continues n call (k ∷ done) after rest

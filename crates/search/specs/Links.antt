@@ -19,13 +19,13 @@ abbrev pub IsFilledGap : List ℕ → ℕ → ℕ → Type 0
 IsFilledGap done s q = (j : ℕ) → s ≤ j → j < q → In j done
 
 -- q is the first place from s on that is left, or the end
-pub record IsForth (n : ℕ) (done : List ℕ) (s q : ℕ) : Type 0 where
+pub record IsNextLeft (n : ℕ) (done : List ℕ) (s q : ℕ) : Type 0 where
   pub rises : s ≤ q
   pub stop : IsStop n done q
   pub gap : IsFilledGap done s q
 
 -- s is the slot after the last place below q that is left, or slot 0
-pub record IsBack (n : ℕ) (done : List ℕ) (s q : ℕ) : Type 0 where
+pub record IsSlotBefore (n : ℕ) (done : List ℕ) (s q : ℕ) : Type 0 where
   pub rises : s ≤ q
   pub slot : IsSlot n done s
   pub gap : IsFilledGap done s q
@@ -34,8 +34,8 @@ pub record IsBack (n : ℕ) (done : List ℕ) (s q : ℕ) : Type 0 where
 pub record Linked (n : ℕ) (done : List ℕ) (nx pv : List ℕ) : Type 0 where
   pub long_next : length nx ≡ suc n
   pub long_before : length pv ≡ suc n
-  pub forth : (s : ℕ) → s ≤ n → IsSlot n done s → IsForth n done s (get_or nx s 0)
-  pub back : (q : ℕ) → IsStop n done q → IsBack n done (get_or pv q 0) q
+  pub forth : (s : ℕ) → s ≤ n → IsSlot n done s → IsNextLeft n done s (get_or nx s 0)
+  pub back : (q : ℕ) → IsStop n done q → IsSlotBefore n done (get_or pv q 0) q
 
 -- the links to the next places after `take_out` of place k
 abbrev pub next_without : List ℕ → List ℕ → ℕ → List ℕ
@@ -61,6 +61,6 @@ pub record AreWithin (nx pv : List ℕ) (k : ℕ) : Type 0 where
   pub before_in : get_or nx (suc k) 0 < length pv
 
 -- from a slot the list has these places, and then one that is not below `high`, or its end
-abbrev pub Lists : List ℕ → ℕ → List ℕ → ℕ → Type 0
-Lists nx s [] high = (s < length nx) × ((high ≤ get_or nx s 0) ⊎ (length nx ≤ suc (get_or nx s 0)))
-Lists nx s (u ∷ us) high = (s < length nx) × (get_or nx s 0 ≡ u) × Lists nx (suc u) us high
+abbrev pub LeadsThrough : List ℕ → ℕ → List ℕ → ℕ → Type 0
+LeadsThrough nx s [] high = (s < length nx) × ((high ≤ get_or nx s 0) ⊎ (length nx ≤ suc (get_or nx s 0)))
+LeadsThrough nx s (u ∷ us) high = (s < length nx) × (get_or nx s 0 ≡ u) × LeadsThrough nx (suc u) us high

@@ -6,13 +6,13 @@ use Rattle.model.specs.Objects.{Content}
 use Rattle.search.specs.Undoing.{content_kept}
 use Rattle.search.specs.declared.pairs.Pair.{Pair}
 use Rattle.search.specs.declared.dead.Dead.{Dead}
-use Rattle.search.specs.Links.{Lists}
+use Rattle.search.specs.Links.{LeadsThrough}
 
 -- among the pairs is that of this content and of the places below `high` that are not in the list
 abbrev pub HasPair : List Pair → List ℕ → ℕ → Content → Type 0
 HasPair pairs next high c =
     (k : ℕ) × (k < length pairs)
-    × HoldsAt (λ p. (p.high ≡ high) × Lists next 0 p.not_done.items high
+    × HoldsAt (λ p. (p.high ≡ high) × LeadsThrough next 0 p.not_done.items high
     × (content_kept p.content ≡ c)) pairs k
 
 -- the younger pairs have become the older ones

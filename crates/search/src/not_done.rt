@@ -2,7 +2,7 @@
 
 ghost use Rattle.std.specs.Prelude.{◌≡◌, ◌≢◌, ℕ, ◌+◌, ◌<◌, ◌≤◌, List, [], IfOk, IsTrue};
 ghost use Rattle.std.specs.Prelude.{length, get_or};
-ghost use Rattle.search.specs.Links.{Linked, AreWithin, Lists, next_with, next_without};
+ghost use Rattle.search.specs.Links.{Linked, AreWithin, LeadsThrough, next_with, next_without};
 ghost use Rattle.search.specs.Links.{before_with, before_without};
 ghost use Rattle.search.specs.Outcomes.{max_places};
 
@@ -91,7 +91,7 @@ impl NotDone {
     pub fn below(&self, alloc: Global, high: u32) -> Result<Vec<u32>, AllocError>
         requires { (n : ℕ) × (done : List ℕ)
             × Linked n done self.now.next.items self.now.before.items }
-        ensures { IfOk result (λ v. Lists self.now.next.items 0 v.items high) }
+        ensures { IfOk result (λ v. LeadsThrough self.now.next.items 0 v.items high) }
     {
         let mut places = Vec::new(alloc);
         let mut slot = 0;
@@ -110,7 +110,7 @@ impl NotDone {
 
     /// Whether the places in the list below `high` are these.
     pub fn is_below(&self, high: u32, places: &[u32]) -> bool
-        ensures { IsTrue result → Lists self.now.next.items 0 places.now high }
+        ensures { IsTrue result → LeadsThrough self.now.next.items 0 places.now high }
     {
         let mut slot = 0;
         for place in places {

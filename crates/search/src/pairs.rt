@@ -2,7 +2,7 @@
 
 ghost use Rattle.std.specs.Prelude.{◌≡◌, [], ◌∷◌, ◌++◌, IsTrue, OnOk};
 ghost use Rattle.search.specs.Undoing.{reversible_content, content_kept};
-ghost use Rattle.search.specs.Links.{Lists};
+ghost use Rattle.search.specs.Links.{LeadsThrough};
 ghost use Rattle.search.specs.Remembered.{HasPair};
 
 use crate::not_done::NotDone;
@@ -44,7 +44,7 @@ fn number_at(numbers: &[u32], k: usize) -> u32 {
 fn is_pair(pair: &Pair, hash: u64, high: u32, not_done: &NotDone, object: &Reversible) -> bool
     ensures high { IsTrue result → pair.now.high ≡ high }
     ensures not_done { IsTrue result →
-        Lists not_done.now.next.items 0 pair.now.not_done.items high }
+        LeadsThrough not_done.now.next.items 0 pair.now.not_done.items high }
     ensures same { IsTrue result → content_kept pair.now.content ≡ reversible_content object.now }
 {
     if pair.hash != hash || pair.high != high {

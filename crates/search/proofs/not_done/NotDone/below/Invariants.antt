@@ -1,5 +1,5 @@
 use Rattle.std.proofs.Common.{ℕ, ◌-◌, ◌≤◌, ◌++◌, List, length}
-use Rattle.search.specs.Links.{Linked, IsSlot, Lists}
+use Rattle.search.specs.Links.{Linked, IsSlot, LeadsThrough}
 use Rattle.search.proofs.not_done.NotDone.below.Given as goal
 
 -- the places so far are in front of any that the list has from the slot on
@@ -10,8 +10,8 @@ invariant-loop-places l = record {
   linked : Linked n done l.self.next.items l.self.before.items;
   within : l.slot ≤ n;
   slot : IsSlot n done l.slot;
-  front : (rest : List ℕ) → Lists l.self.next.items l.slot rest l.high
-      → Lists l.self.next.items 0 (l.places.items ++ rest) l.high;
+  front : (rest : List ℕ) → LeadsThrough l.self.next.items l.slot rest l.high
+      → LeadsThrough l.self.next.items 0 (l.places.items ++ rest) l.high;
 }
 
 abbrev pub decreases-loop-places : goal.decreases-loop-places

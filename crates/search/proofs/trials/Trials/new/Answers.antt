@@ -1,7 +1,7 @@
 -- `Trials::new`: the trials are the operations that did not fail, arranged. They are a permutation of these, so
--- they are few (`items_few`), and the floors and `pending` are right of them (`arranged`).
+-- they are few (`length-items`), and the floors and `pending` are right of them (`arranged`).
 use Rattle.std.proofs.Common.{filter, length, ap, ◌∙◌, arith}
-use Rattle.search.proofs.Calls.{happens, items_few, arranged}
+use Rattle.search.proofs.Calls.{happens, length-items, arranged}
 use Rattle.search.proofs.trials.Trials.new.Goals as goal
 
 pub first_pending-pending-requires : goal.first_pending-pending-requires
@@ -9,7 +9,7 @@ first_pending-pending-requires c =
     let h = c.args.history.now in
     let items = c.arrange.new.items.items in
     let e = c.in_ok-items.ensures ∙ ap (filter happens) c.ops.ensures.ops in
-    let same = items_few h.ops items (rw e at c.arrange.ensures) in
+    let same = length-items h.ops items (rw e at c.arrange.ensures) in
     let long = ap length c.deref-3.ensures.value in
     let few = c.requires.few in
     omega arith
