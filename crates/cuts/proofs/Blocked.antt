@@ -107,7 +107,8 @@ blocked_from ops number from op at found t settled l =
     let keeps = is_value_ahead found op in
     let here : count_by (may_precede keeps number at) (calls_of ops) < count_by
     (is_put_ahead keeps from (ahead_before found op number (calls_of ops))) (calls_of ops) =
-    less _ _ _ _ (may_precede-calls keeps number at ops) (is_put_ahead-calls keeps from (op_ahead_before found op number ops) ops
+    less _ _ _ _ (may_precede-calls keeps number at ops)
+    (is_put_ahead-calls keeps from (op_ahead_before found op number ops) ops
     ∙ ap (λ (z : ℕ). count_by (is_put_ahead keeps from z) (calls_of ops)) (ahead_before-calls found op number ops)) l in
     record {
       removal = c;

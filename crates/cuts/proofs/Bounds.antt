@@ -64,7 +64,8 @@ swapped v a w x after false e h = rw e (omega arith)
 
 replaced : (k v q a w : ℤ) (m : map.FinMap int_cmp ℤ) (t : Bool) → has_value m q a ≡ t
     → Bounded (Entry k v) (Replace q a w) (table m) (table (inserted_if t m q w)) (reply.Flag t)
-replaced k v q a w m true h = swapped v a w (map.get m k) (map.get (map.insert m q w) k) (int_eq q k) (get-insert m q w k)
+replaced k v q a w m true h = swapped v a w (map.get m k) (map.get (map.insert m q w) k) (int_eq q k)
+    (get-insert m q w k)
     (λ e. ap (λ z. contains_value (map.get m z) a) (sym (same_by_test q k e)) ∙ h)
 replaced k v q a w m false h = omega arith
 

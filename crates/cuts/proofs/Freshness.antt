@@ -62,8 +62,12 @@ begun_put k v = ap (λ (z : Option ℤ). Some (table (map.insert map.empty k v),
 
 tells_get : (m : map.FinMap int_cmp ℤ) (k : ℤ) (o : Option ℤ) → map.get m k ≡ o → Tells (Get k) (Value o) (table m)
 tells_get m k None e = at_key m map.empty k (map.get-empty {X = ℤ} int_cmp k ∙ sym e)
-tells_get m k (Some v) e =
-    (table (map.insert map.empty k v), begun_put k v, at_key m (map.insert map.empty k v) k (grind (arith, ints, get-insert)))
+tells_get m k (Some v) e = (
+  table (map.insert map.empty k v),
+  begun_put k v,
+  at_key m (map.insert map.empty k v) k
+      (grind (arith, ints, get-insert)),
+)
 
 -- a removal
 tells_gone : (m : map.FinMap int_cmp ℤ) (k : ℤ) → IsShadow (on_key (Some k)) (table (map.remove m k)) (table map.empty)
@@ -148,7 +152,8 @@ tells (table m) (Replace k v w) = tells_replace m k v w (has_value m k v)
 tells (table m) (Assoc k v) = tells_put m k v
 tells (table m) (Dissoc k) = tells_gone m k
 tells (elements s) (Add v) = tells_there (set.insert s v) v (grind (arith, ints, contains-insert))
-tells (elements s) (Remove v) = at_element (set.remove s v) set.empty v (without v ∙ grind (arith, ints, contains-remove))
+tells (elements s) (Remove v) = at_element (set.remove s v) set.empty v
+    (without v ∙ grind (arith, ints, contains-remove))
 tells (elements s) (Has v) = tells_has s v (set.contains s v) refl
 tells (count c) (FetchAdd n) = adds (λ p. Tells (FetchAdd n) p.1 p.0) c n (λ does. tells_count (c +ℤ n))
 tells (count c) GetCount = tells_count c

@@ -21,7 +21,8 @@ pub get-remove : (m : map.FinMap int_cmp ℤ) (q k : ℤ)
 get-remove m q k = map.get-remove int_cmp_total m q k ∙ ap (λ b. cond b None (map.get m k)) (same_key k q)
 
 -- which elements a set has after an insert
-pub contains-insert : (s : set.FinSet int_cmp) (v q : ℤ) → set.contains (set.insert s v) q ≡ (int_eq v q || set.contains s q)
+pub contains-insert : (s : set.FinSet int_cmp) (v q : ℤ) → set.contains (set.insert s v) q
+    ≡ (int_eq v q || set.contains s q)
 contains-insert s v q = set.contains-insert int_cmp_total s v q ∙ ap (λ b. b || set.contains s q) (same_key q v)
 
 -- which elements a set has after a removal

@@ -28,7 +28,8 @@ use Rattle.desk_model.specs.Sound.{Sound}
 use Rattle.desk_model.proofs.Changed.{changed_all}
 use Rattle.desk_model.proofs.Entries.{starts_longer, starts_same}
 use Rattle.desk_invariant.specs.Views.{seen_of, received_of, after_miss}
-use Rattle.desk_invariant.specs.Rule.{OwnCallAgrees, HeldAgrees, SeatAgrees, HasLeft, ViewAgrees, HasOneMaker, Tied, Kept}
+use Rattle.desk_invariant.specs.Rule.{OwnCallAgrees, HeldAgrees, SeatAgrees, HasLeft, ViewAgrees, HasOneMaker, Tied}
+use Rattle.desk_invariant.specs.Rule.{Kept}
 
 -- ---- what a step leaves to the other clients
 

@@ -13,7 +13,7 @@ use Rattle.edn_reader.specs.Datum.{integer, keyword, atom}
 use Rattle.edn_reader.specs.Token.{leaf}
 use Rattle.edn_reader.specs.Spells.{value_after, is_decimal, EndsToken, IsWord}
 use Rattle.edn_reader.specs.Reading.{got, first, names, after_names, digits, after_digits}
-use Rattle.edn_reader.proofs.TakeAndDrop.{rest_within, front_is}
+use Rattle.edn_reader.proofs.FrontsInTexts.{rest_within, take-front}
 use Rattle.edn_reader.proofs.Next.{begins_reads}
 
 -- ---- the name bytes at the front
@@ -26,7 +26,7 @@ pub names_within : (t : List ℕ) → length (after_names t) ≤ length t
 names_within t = rest_within (names t) (after_names t) t (names_parts t)
 
 pub names_front : (t : List ℕ) → take (length t - length (after_names t)) t ≡ names t
-names_front t = front_is (names t) (after_names t) t (names_parts t)
+names_front t = take-front (names t) (after_names t) t (names_parts t)
 
 pub names_length : (t : List ℕ) → length (names t) ≡ length t - length (after_names t)
 names_length t = omega (arith, length-append (names t) (after_names t), ap length (names_parts t))

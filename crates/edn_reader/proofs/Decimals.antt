@@ -32,47 +32,47 @@ pub record IsDecimal (n : ℕ) (ds : List ℕ) : Type 0 where
   pub spelled : is_decimal ds ≡ true
   pub value : value_after 0 ds ≡ n
   pub digits : list_all is_digit ds ≡ true
-  pub leads : 0 < n → (get_or ds 0 0 ≡ 48) → ⊥
+  pub no_leading_zero : 0 < n → (get_or ds 0 0 ≡ 48) → ⊥
 
 one_digit : (n : ℕ) → n < 10 → IsDecimal n ((48 + n) ∷ [])
 one_digit n h = record {
   spelled = digit_of n h;
   value = omega arith;
   digits = and_from (is_digit (48 + n)) true (digit_of n h) refl;
-  leads = λ k e. omega arith;
+  no_leading_zero = λ k e. omega arith;
 }
 
-longer : (ds : List ℕ) (d : ℕ) → is_decimal ds ≡ true → list_all is_digit ds ≡ true → (get_or ds 0 0 ≡ 48 → ⊥)
+is_decimal-push : (ds : List ℕ) (d : ℕ) → is_decimal ds ≡ true → list_all is_digit ds ≡ true → (get_or ds 0 0 ≡ 48 → ⊥)
     → is_digit d ≡ true → is_decimal (ds ++ d ∷ []) ≡ true
-longer [] d h a n k = absurd cc
-longer (b ∷ []) d h a n k =
+is_decimal-push [] d h a n k = absurd cc
+is_decimal-push (b ∷ []) d h a n k =
     let z : not (b == 48) ≡ true = ap not (ne_eqb b 48 n) in
     and_from (is_digit b && not (b == 48)) (list_all is_digit (d ∷ [])) (and_from (is_digit b) (not (b == 48)) h z)
     (and_from (is_digit d) true k refl)
-longer (b ∷ c ∷ cs) d h a n k =
+is_decimal-push (b ∷ c ∷ cs) d h a n k =
     let p = and_parts (is_digit b && not (b == 48)) (list_all is_digit (c ∷ cs)) h in
     and_from (is_digit b && not (b == 48)) (list_all is_digit (c ∷ cs ++ d ∷ [])) p.0 (digits_more (c ∷ cs) d p.1 k)
 
-same_head : (ds : List ℕ) (d : ℕ) → is_decimal ds ≡ true → get_or (ds ++ d ∷ []) 0 0 ≡ get_or ds 0 0
-same_head [] d h = absurd cc
-same_head (b ∷ bs) d h = refl
+head-push : (ds : List ℕ) (d : ℕ) → is_decimal ds ≡ true → get_or (ds ++ d ∷ []) 0 0 ≡ get_or ds 0 0
+head-push [] d h = absurd cc
+head-push (b ∷ bs) d h = refl
 
-one_more : (n : ℕ) (ds : List ℕ) → 10 ≤ n → IsDecimal (n / 10) ds → IsDecimal n (ds ++ ((48 + n % 10) ∷ []))
-one_more n ds h p =
+IsDecimal-push : (n : ℕ) (ds : List ℕ) → 10 ≤ n → IsDecimal (n / 10) ds → IsDecimal n (ds ++ ((48 + n % 10) ∷ []))
+IsDecimal-push n ds h p =
     let k : is_digit (48 + n % 10) ≡ true = digit_of (n % 10) (omega arith) in
     let more : 0 < n / 10 = omega arith in
     let v : value_after 0 ds ≡ n / 10 = p.value in
     let w : value_after 0 (ds ++ (48 + n % 10) ∷ []) ≡ value_after 0 ds * 10 + (48 + n % 10 - 48) =
     value_after-append 0 ds (48 + n % 10) in
     record {
-      spelled = longer ds (48 + n % 10) p.spelled p.digits (p.leads more) k;
+      spelled = is_decimal-push ds (48 + n % 10) p.spelled p.digits (p.no_leading_zero more) k;
       value = omega (arith, v, w);
       digits = digits_more ds (48 + n % 10) p.digits k;
-      leads = λ _ e. p.leads more (sym (same_head ds (48 + n % 10) p.spelled) ∙ e);
+      no_leading_zero = λ _ e. p.no_leading_zero more (sym (head-push ds (48 + n % 10) p.spelled) ∙ e);
     }
 
 pub decimal_is : (n : ℕ) → n < 2 ^ 64 → IsDecimal n (decimal n)
-decimal_is n h = decimal_by_steps IsDecimal one_digit one_more n h
+decimal_is n h = decimal_by_steps IsDecimal one_digit IsDecimal-push n h
 
 pub integer_text : (z : ℤ) → IsInt64 z → IsInteger z (signed_decimal z)
 integer_text (pos n) h =

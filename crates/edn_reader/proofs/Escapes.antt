@@ -3,7 +3,7 @@
 use Rattle.std.proofs.Common.{◌≡◌, ℕ, ◌-◌, ◌<◌, ◌≤◌, Bool, true, false, cond, List, [], ◌∷◌, ◌++◌, length, take, get_or}
 use Rattle.std.proofs.Common.{refl, ap, arith}
 use Rattle.edn_reader.specs.Text.{escape_text, escaped}
-use Rattle.edn_reader.proofs.TakeAndDrop.{rest_within, front_is}
+use Rattle.edn_reader.proofs.FrontsInTexts.{rest_within, take-front}
 use Rattle.edn_reader.specs.Writing.{is_plain, plain, after_plain}
 
 pub plain_parts : (t : List ℕ) → plain t ++ after_plain t ≡ t
@@ -14,7 +14,7 @@ pub after_plain_within : (t : List ℕ) → length (after_plain t) ≤ length t
 after_plain_within t = rest_within (plain t) (after_plain t) t (plain_parts t)
 
 pub plain_is_front : (t : List ℕ) → take (length t - length (after_plain t)) t ≡ plain t
-plain_is_front t = front_is (plain t) (after_plain t) t (plain_parts t)
+plain_is_front t = take-front (plain t) (after_plain t) t (plain_parts t)
 
 pub after_plain_shorter : (t : List ℕ) → 0 < length t → is_plain (get_or t 0 0) ≡ true
     → length (after_plain t) < length t

@@ -29,149 +29,149 @@ same_leaf a b ts us e = (cc, cc)
 
 -- a single token is in the profile
 pub leaf_own : {a : Atom} {ts : List Token} → BeginsForm (leaf (atom a) ∷ ts) → AtomInProfile a
-leaf_own {a} {ts} b = by_form b.form b.own b.are
+leaf_own {a} {ts} b = by_form b.form b.in_profile b.tokens_are
   where
-    by_form : (d : Datum) → InProfile d → leaf (atom a) ∷ ts ≡ tokens_of d ++ b.remains → AtomInProfile a
-    by_form (atom x) p e = subst AtomInProfile (sym (same_leaf a x ts b.remains e).0) p
+    by_form : (d : Datum) → InProfile d → leaf (atom a) ∷ ts ≡ tokens_of d ++ b.rest → AtomInProfile a
+    by_form (atom x) p e = subst AtomInProfile (sym (same_leaf a x ts b.rest e).0) p
     by_form d p e = absurd cc
 
 pub nothing_begins : BeginsForm [] → ⊥
-nothing_begins b = not_nothing b.form b.remains b.are
+nothing_begins b = not_nothing b.form b.rest b.tokens_are
 
 pub close_vector_begins : {ts : List Token} → BeginsForm (close_vector ∷ ts) → ⊥
-close_vector_begins b = not_close_vector b.form _ b.remains b.are
+close_vector_begins b = not_close_vector b.form _ b.rest b.tokens_are
 
 pub close_map_begins : {ts : List Token} → BeginsForm (close_map ∷ ts) → ⊥
-close_map_begins {ts} b = by_form b.form b.are
+close_map_begins {ts} b = by_form b.form b.tokens_are
   where
-    by_form : (d : Datum) → close_map ∷ ts ≡ tokens_of d ++ b.remains → ⊥
+    by_form : (d : Datum) → close_map ∷ ts ≡ tokens_of d ++ b.rest → ⊥
     by_form (atom x) e = cc
     by_form d e = cc
 
 -- no bracket is a form alone
 pub open_vector_alone : BeginsForm (open_vector ∷ []) → ⊥
-open_vector_alone b = by_form b.form b.are
+open_vector_alone b = by_form b.form b.tokens_are
   where
-    by_items : (ds : Items) → [] ≡ (items_tokens ds ++ close_vector ∷ []) ++ b.remains → ⊥
+    by_items : (ds : Items) → [] ≡ (items_tokens ds ++ close_vector ∷ []) ++ b.rest → ⊥
     by_items no_items e = cc
     by_items (item (atom x) ds) e = cc
     by_items (item d ds) e = cc
 
-    by_form : (d : Datum) → open_vector ∷ [] ≡ tokens_of d ++ b.remains → ⊥
+    by_form : (d : Datum) → open_vector ∷ [] ≡ tokens_of d ++ b.rest → ⊥
     by_form (vector ds) e = by_items ds (tails open_vector open_vector _ _ e)
     by_form d e = absurd cc
 
 pub open_map_alone : BeginsForm (open_map ∷ []) → ⊥
-open_map_alone b = by_form b.form b.are
+open_map_alone b = by_form b.form b.tokens_are
   where
-    by_pairs : (es : Entries) → [] ≡ (entries_tokens es ++ close_map ∷ []) ++ b.remains → ⊥
+    by_pairs : (es : Entries) → [] ≡ (entries_tokens es ++ close_map ∷ []) ++ b.rest → ⊥
     by_pairs no_entries e = cc
     by_pairs (entry k d es) e = cc
 
-    by_form : (d : Datum) → open_map ∷ [] ≡ tokens_of d ++ b.remains → ⊥
+    by_form : (d : Datum) → open_map ∷ [] ≡ tokens_of d ++ b.rest → ⊥
     by_form (dictionary es) e = by_pairs es (tails open_map open_map _ _ e)
     by_form d e = absurd cc
 
 pub vector_begins : {ts : List Token} → BeginsForm (open_vector ∷ ts) → BeginsItems ts
-vector_begins {ts} b = by_form b.form b.own b.are
+vector_begins {ts} b = by_form b.form b.in_profile b.tokens_are
   where
-    by_form : (d : Datum) → InProfile d → open_vector ∷ ts ≡ tokens_of d ++ b.remains → BeginsItems ts
+    by_form : (d : Datum) → InProfile d → open_vector ∷ ts ≡ tokens_of d ++ b.rest → BeginsItems ts
     by_form (vector ds) p e =
         record {
           items = ds;
-          remains = b.remains;
-          own = p;
-          are = tails open_vector open_vector _ _ e ∙ append_assoc (items_tokens ds) (close_vector ∷ []) b.remains;
+          rest = b.rest;
+          in_profile = p;
+          tokens_are = tails open_vector open_vector _ _ e ∙ append_assoc (items_tokens ds) (close_vector ∷ []) b.rest;
         }
     by_form d p e = absurd cc
 
 pub map_begins : {ts : List Token} → BeginsForm (open_map ∷ ts) → BeginsPairs ts
-map_begins {ts} b = by_form b.form b.own b.are
+map_begins {ts} b = by_form b.form b.in_profile b.tokens_are
   where
-    by_form : (d : Datum) → InProfile d → open_map ∷ ts ≡ tokens_of d ++ b.remains → BeginsPairs ts
+    by_form : (d : Datum) → InProfile d → open_map ∷ ts ≡ tokens_of d ++ b.rest → BeginsPairs ts
     by_form (vector ds) p e = absurd cc
     by_form (dictionary es) p e =
         record {
           pairs = es;
-          remains = b.remains;
-          own = p;
-          are = tails open_map open_map _ _ e ∙ append_assoc (entries_tokens es) (close_map ∷ []) b.remains;
+          rest = b.rest;
+          in_profile = p;
+          tokens_are = tails open_map open_map _ _ e ∙ append_assoc (entries_tokens es) (close_map ∷ []) b.rest;
         }
     by_form d p e = absurd cc
 
 -- a leaf, without what follows it
 leaf_alone : {a : Atom} {ts : List Token} → BeginsForm (leaf (atom a) ∷ ts) → BeginsForm (leaf (atom a) ∷ [])
-leaf_alone {a} b = record { form = atom a; remains = []; own = leaf_own b; are = refl }
+leaf_alone {a} b = record { form = atom a; rest = []; in_profile = leaf_own b; tokens_are = refl }
 
 -- ---- along the elements of a vector
 
 pub item_begins : {ts : List Token} → ((us : List Token) → ts ≡ close_vector ∷ us → ⊥) → BeginsItems ts → BeginsForm ts
-item_begins {ts} apart b = by_items b.items b.own b.are
+item_begins {ts} apart b = by_items b.items b.in_profile b.tokens_are
   where
-    by_items : (ds : Items) → ItemsInProfile ds → ts ≡ items_tokens ds ++ close_vector ∷ b.remains → BeginsForm ts
-    by_items no_items p e = absurd (apart b.remains e)
+    by_items : (ds : Items) → ItemsInProfile ds → ts ≡ items_tokens ds ++ close_vector ∷ b.rest → BeginsForm ts
+    by_items no_items p e = absurd (apart b.rest e)
     by_items (item d ds) p e =
         record {
           form = d;
-          remains = items_tokens ds ++ close_vector ∷ b.remains;
-          own = p.0;
-          are = e ∙ append_assoc (tokens_of d) (items_tokens ds) (close_vector ∷ b.remains);
+          rest = items_tokens ds ++ close_vector ∷ b.rest;
+          in_profile = p.0;
+          tokens_are = e ∙ append_assoc (tokens_of d) (items_tokens ds) (close_vector ∷ b.rest);
         }
 
 pub items_after : {ts us : List Token} (d : Datum) → ((vs : List Token) → ts ≡ close_vector ∷ vs → ⊥)
     → ts ≡ tokens_of d ++ us → BeginsItems ts → BeginsItems us
-items_after {ts} {us} d apart is b = by_items b.items b.own b.are
+items_after {ts} {us} d apart is b = by_items b.items b.in_profile b.tokens_are
   where
-    by_items : (ds : Items) → ItemsInProfile ds → ts ≡ items_tokens ds ++ close_vector ∷ b.remains → BeginsItems us
-    by_items no_items p e = absurd (apart b.remains e)
+    by_items : (ds : Items) → ItemsInProfile ds → ts ≡ items_tokens ds ++ close_vector ∷ b.rest → BeginsItems us
+    by_items no_items p e = absurd (apart b.rest e)
     by_items (item x ds) p e =
         let q = same_datum d x us _ (sym is ∙ e ∙ append_assoc (tokens_of x) _ _) in
-        record { items = ds; remains = b.remains; own = p.1; are = q.1 }
+        record { items = ds; rest = b.rest; in_profile = p.1; tokens_are = q.1 }
 
 -- ---- along the pairs of a map
 
 -- a key is a name, and its value comes next
 pub key_own : {ts us : List Token} {k : List ℕ} → ts ≡ leaf (atom (keyword k)) ∷ us → BeginsPairs ts → is_name k ≡ true
-key_own {us = us} {k = k} q b = by_pairs b.pairs b.own (sym q ∙ b.are)
+key_own {us = us} {k = k} q b = by_pairs b.pairs b.in_profile (sym q ∙ b.tokens_are)
   where
     by_pairs : (es : Entries) → EntriesInProfile es
-        → leaf (atom (keyword k)) ∷ us ≡ entries_tokens es ++ close_map ∷ b.remains → is_name k ≡ true
+        → leaf (atom (keyword k)) ∷ us ≡ entries_tokens es ++ close_map ∷ b.rest → is_name k ≡ true
     by_pairs no_entries p e = absurd cc
     by_pairs (entry l d es) p e =
         let h : keyword k ≡ keyword l = (same_leaf (keyword k) (keyword l) us _ e).0 in subst AtomInProfile (sym h) p.0
 
 pub value_begins : {ts us : List Token} {k : List ℕ} → ts ≡ leaf (atom (keyword k)) ∷ us → BeginsPairs ts
     → BeginsForm us
-value_begins {us = us} {k = k} q b = by_pairs b.pairs b.own (sym q ∙ b.are)
+value_begins {us = us} {k = k} q b = by_pairs b.pairs b.in_profile (sym q ∙ b.tokens_are)
   where
     by_pairs : (es : Entries) → EntriesInProfile es
-        → leaf (atom (keyword k)) ∷ us ≡ entries_tokens es ++ close_map ∷ b.remains → BeginsForm us
+        → leaf (atom (keyword k)) ∷ us ≡ entries_tokens es ++ close_map ∷ b.rest → BeginsForm us
     by_pairs no_entries p e = absurd cc
     by_pairs (entry l d es) p e =
         record {
           form = d;
-          remains = entries_tokens es ++ close_map ∷ b.remains;
-          own = p.1;
-          are = (same_leaf (keyword k) (keyword l) us _ e).1
-              ∙ append_assoc (tokens_of d) (entries_tokens es) (close_map ∷ b.remains);
+          rest = entries_tokens es ++ close_map ∷ b.rest;
+          in_profile = p.1;
+          tokens_are = (same_leaf (keyword k) (keyword l) us _ e).1
+              ∙ append_assoc (tokens_of d) (entries_tokens es) (close_map ∷ b.rest);
         }
 
 pub pairs_after : {ts us vs : List Token} {k : List ℕ} (d : Datum) → ts ≡ leaf (atom (keyword k)) ∷ us
     → us ≡ tokens_of d ++ vs → BeginsPairs ts → BeginsPairs vs
-pairs_after {us = us} {vs = vs} {k = k} d q is b = by_pairs b.pairs b.own (sym q ∙ b.are)
+pairs_after {us = us} {vs = vs} {k = k} d q is b = by_pairs b.pairs b.in_profile (sym q ∙ b.tokens_are)
   where
     by_pairs : (es : Entries) → EntriesInProfile es
-        → leaf (atom (keyword k)) ∷ us ≡ entries_tokens es ++ close_map ∷ b.remains → BeginsPairs vs
+        → leaf (atom (keyword k)) ∷ us ≡ entries_tokens es ++ close_map ∷ b.rest → BeginsPairs vs
     by_pairs no_entries p e = absurd cc
     by_pairs (entry l x es) p e =
         let t = (same_leaf (keyword k) (keyword l) us _ e).1 in
         let r = same_datum d x vs _ (sym is ∙ t ∙ append_assoc (tokens_of x) _ _) in
-        record { pairs = es; remains = b.remains; own = p.2; are = r.1 }
+        record { pairs = es; rest = b.rest; in_profile = p.2; tokens_are = r.1 }
 
 pub no_pairs : BeginsPairs [] → ⊥
-no_pairs b = by_pairs b.pairs b.are
+no_pairs b = by_pairs b.pairs b.tokens_are
   where
-    by_pairs : (es : Entries) → [] ≡ entries_tokens es ++ close_map ∷ b.remains → ⊥
+    by_pairs : (es : Entries) → [] ≡ entries_tokens es ++ close_map ∷ b.rest → ⊥
     by_pairs no_entries e = cc
     by_pairs es e = cc
 
@@ -180,9 +180,9 @@ abbrev pub NoKey : Token → Type 0
 NoKey t = (k : List ℕ) → t ≡ leaf (atom (keyword k)) → ⊥
 
 pub pairs_end : (t : Token) (ts : List Token) → NoKey t → BeginsPairs (t ∷ ts) → t ∷ ts ≡ close_map ∷ ts
-pairs_end t ts apart b = by_pairs b.pairs b.are
+pairs_end t ts apart b = by_pairs b.pairs b.tokens_are
   where
-    by_pairs : (es : Entries) → t ∷ ts ≡ entries_tokens es ++ close_map ∷ b.remains → t ∷ ts ≡ close_map ∷ ts
+    by_pairs : (es : Entries) → t ∷ ts ≡ entries_tokens es ++ close_map ∷ b.rest → t ∷ ts ≡ close_map ∷ ts
     by_pairs no_entries e = let h : t ≡ close_map = cc in ap (λ (x : Token). x ∷ ts) h
     by_pairs (entry l d es) e = let h : t ≡ leaf (atom (keyword l)) = cc in absurd (apart l h)
 

@@ -1,7 +1,7 @@
 pub mod Names
 pub mod Keys
 pub mod Strings
-pub mod TakeAndDrop
+pub mod FrontsInTexts
 pub mod Words
 pub mod Pairs
 pub mod Lexical

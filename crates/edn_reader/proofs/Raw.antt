@@ -7,7 +7,7 @@ use Rattle.std.proofs.lemmas.Bool.{ne_eqb}
 use Rattle.edn_reader.specs.Spells.{escape_of, IsQuoted, IsEscaped}
 use Rattle.edn_reader.specs.Reading.{with_byte, string_at, string_end}
 use Rattle.edn_reader.specs.Pieces.{unquoted, unescaped}
-use Rattle.edn_reader.proofs.TakeAndDrop.{front_is}
+use Rattle.edn_reader.proofs.FrontsInTexts.{take-front}
 use Rattle.edn_reader.proofs.Strings.{some_is, string_is, string_less}
 use Rattle.edn_reader.specs.Datum.{string, atom}
 use Rattle.edn_reader.specs.Token.{leaf}
@@ -55,7 +55,7 @@ raw_is text rest h = by_string (string_at text) refl h
         let q = string_is text p.0 p.1 e in
         let n : length text - length rest - 1 ≡ length text - length (34 ∷ rest) = omega arith in
         let w : q.0 ++ 34 ∷ rest ≡ text = ap (λ (x : List ℕ). q.0 ++ 34 ∷ x) (sym r) ∙ sym q.2 in
-        let f : take (length text - length rest - 1) text ≡ q.0 = rw n (front_is q.0 (34 ∷ rest) text w) in
+        let f : take (length text - length rest - 1) text ≡ q.0 = rw n (take-front q.0 (34 ∷ rest) text w) in
         let u : unquoted (take (length text - length rest - 1) text) ≡ p.0 = ap unquoted f ∙ quoted_is q.0 p.0 q.1 in
         rw (e, u, ← r) refl
 

@@ -9,24 +9,24 @@ use Rattle.edn_reader.specs.Token.{entries_tokens}
 -- its strings are text and its keywords are spelled as keywords.
 pub record BeginsForm (tokens : List Token) : Type 0 where
   pub form : Datum
-  pub remains : List Token
-  pub own : InProfile form
-  pub are : tokens ≡ tokens_of form ++ remains
+  pub rest : List Token
+  pub in_profile : InProfile form
+  pub tokens_are : tokens ≡ tokens_of form ++ rest
 
 -- These tokens begin with those of a vector's elements and of the bracket after them, and `rest`
 -- follows. The elements' integers have 64 bits, their strings are text and their keywords are
 -- spelled as keywords.
 pub record BeginsItems (tokens : List Token) : Type 0 where
   pub items : Items
-  pub remains : List Token
-  pub own : ItemsInProfile items
-  pub are : tokens ≡ items_tokens items ++ close_vector ∷ remains
+  pub rest : List Token
+  pub in_profile : ItemsInProfile items
+  pub tokens_are : tokens ≡ items_tokens items ++ close_vector ∷ rest
 
 -- These tokens begin with those of a map's pairs and of the brace after them, and `rest` follows.
 -- The pairs' integers have 64 bits, their strings are text and their keywords are spelled as
 -- keywords.
 pub record BeginsPairs (tokens : List Token) : Type 0 where
   pub pairs : Entries
-  pub remains : List Token
-  pub own : EntriesInProfile pairs
-  pub are : tokens ≡ entries_tokens pairs ++ close_map ∷ remains
+  pub rest : List Token
+  pub in_profile : EntriesInProfile pairs
+  pub tokens_are : tokens ≡ entries_tokens pairs ++ close_map ∷ rest

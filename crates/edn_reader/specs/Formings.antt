@@ -4,5 +4,5 @@ use Rattle.edn_reader.specs.Token.{Token}
 use Rattle.edn_reader.specs.Pieces.{token_buffer_tokens}
 use Rattle.edn_reader.specs.declared.forming.Tokens.{Tokens}
 
-abbrev pub left_on : Tokens → List Token
-left_on t = token_buffer_tokens t.rest.now
+abbrev pub tokens_left : Tokens → List Token
+tokens_left t = token_buffer_tokens t.rest.now

@@ -1,7 +1,7 @@
 -- What a reader of elements has.
 use Rattle.std.specs.Prelude.{ℕ, ◌-◌, Bool, List, length}
 use Rattle.edn_reader.specs.Token.{Token}
-use Rattle.edn_reader.specs.TokenBuffers.{tokens_on}
+use Rattle.edn_reader.specs.TokenBuffers.{kept_tokens}
 use Rattle.edn_reader.specs.declared.elements.Elements.{Elements}
 
 -- the rest of the text
@@ -18,4 +18,4 @@ is_truncating e = e.cuts
 
 -- the tokens that were kept of the element that was read last
 abbrev pub tokens_in : Elements → List Token
-tokens_in e = tokens_on e.token_buffer
+tokens_in e = kept_tokens e.token_buffer

@@ -9,15 +9,15 @@ use Rattle.edn_reader.specs.Levels.{levels_shapes}
 use Rattle.edn_reader.specs.declared.token_buffer.TokenBuffer.{TokenBuffer}
 
 -- what is kept of the element that was read last
-abbrev pub kept_on : TokenBuffer → Keep
-kept_on t = kept_in t.truncated
+abbrev pub kept_by : TokenBuffer → Keep
+kept_by t = kept_in t.truncated
 
-abbrev pub tokens_on : TokenBuffer → List Token
-tokens_on t = (kept_on t).tokens
+abbrev pub kept_tokens : TokenBuffer → List Token
+kept_tokens t = (kept_by t).tokens
 
 -- what is open
-abbrev pub open_on : TokenBuffer → Shapes
-open_on t = levels_shapes t.levels
+abbrev pub open_levels : TokenBuffer → Shapes
+open_levels t = levels_shapes t.levels
 
 -- nothing is wrong up to the token at which the rest of the text has this length
 abbrev pub IsSoundAfter : ℕ → List ℕ → Type 0

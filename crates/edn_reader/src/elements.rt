@@ -7,7 +7,7 @@ ghost use Rattle.edn_reader.specs.Elements.{ReadsNext, GivesForm, PassesElement}
 ghost use Rattle.edn_reader.specs.Shapes.{nothing_open};
 ghost use Rattle.edn_reader.specs.Sound.{IsShort, IsUnreadable, IsSoundFrom};
 ghost use Rattle.edn_reader.specs.Spells.{Spells};
-ghost use Rattle.edn_reader.specs.TokenBuffers.{open_on};
+ghost use Rattle.edn_reader.specs.TokenBuffers.{open_levels};
 
 use crate::fault::{EdnFault, FaultKind};
 use crate::form::Form;
@@ -27,7 +27,7 @@ pub struct Elements<'a> {
     whole: usize,
     cuts: bool,
     token_buffer: TokenBuffer<'a>,
-    ghost fresh: { open_on token_buffer ≡ nothing_open },
+    ghost fresh: { open_levels token_buffer ≡ nothing_open },
     ghost within: { length rest.now ≤ whole },
 }
 

@@ -37,12 +37,12 @@ struct Tokens<'p, 'a> {
 }
 
 impl<'p, 'a> Tokens<'p, 'a> {
-    ghost use Rattle.edn_reader.specs.Formings.{left_on};
+    ghost use Rattle.edn_reader.specs.Formings.{tokens_left};
 
     /// The next token, of which there is one.
     fn next(&mut self) -> Piece<'a>
         requires { 0 < length self.old.rest.now }
-        ensures token { left_on self.old ≡ piece_token result ∷ left_on self.new }
+        ensures token { tokens_left self.old ≡ piece_token result ∷ tokens_left self.new }
         ensures shorter { length self.new.rest.now < length self.old.rest.now }
     {
         let [first, rest @ ..] = self.rest else {
@@ -54,10 +54,10 @@ impl<'p, 'a> Tokens<'p, 'a> {
 
     /// Whether a vector ends here. Then the bracket that ends it is read.
     fn ends_vector(&mut self) -> bool
-        ensures ends { result ≡ true → left_on self.old ≡ close_vector ∷ left_on self.new }
+        ensures ends { result ≡ true → tokens_left self.old ≡ close_vector ∷ tokens_left self.new }
         ensures goes_on { result ≡ false → (ts : List Token) →
-            left_on self.old ≡ close_vector ∷ ts → ⊥ }
-        ensures same { result ≡ false → left_on self.new ≡ left_on self.old }
+            tokens_left self.old ≡ close_vector ∷ ts → ⊥ }
+        ensures same { result ≡ false → tokens_left self.new ≡ tokens_left self.old }
         ensures within { length self.new.rest.now ≤ length self.old.rest.now }
     {
         match self.rest {
@@ -71,9 +71,9 @@ impl<'p, 'a> Tokens<'p, 'a> {
 
     /// The next key of a map, unless the map ends here. Then the brace that ends it is read.
     fn next_key(&mut self) -> Option<&'a str>
-        requires { BeginsPairs (left_on self.old) }
-        ensures next { MatchOption result (left_on self.old ≡ close_map ∷ left_on self.new)
-            (λ name. left_on self.old ≡ leaf (atom (keyword name.now)) ∷ left_on self.new) }
+        requires { BeginsPairs (tokens_left self.old) }
+        ensures next { MatchOption result (tokens_left self.old ≡ close_map ∷ tokens_left self.new)
+            (λ name. tokens_left self.old ≡ leaf (atom (keyword name.now)) ∷ tokens_left self.new) }
         ensures shorter { length self.new.rest.now < length self.old.rest.now }
     {
         match self.next() {
@@ -85,9 +85,9 @@ impl<'p, 'a> Tokens<'p, 'a> {
     /// The form whose tokens come next.
     #[cycle(forms)]
     fn form(&mut self, alloc: Global) -> Result<Form, AllocError>
-        requires { BeginsForm (left_on self.old) }
-        ensures form { IfOk result (λ form. left_on self.old
-            ≡ tokens_of (view form) ++ left_on self.new) }
+        requires { BeginsForm (tokens_left self.old) }
+        ensures form { IfOk result (λ form. tokens_left self.old
+            ≡ tokens_of (view form) ++ tokens_left self.new) }
         ensures shorter { OnOk result (length self.new.rest.now < length self.old.rest.now) }
     {
         match self.next() {
@@ -100,9 +100,9 @@ impl<'p, 'a> Tokens<'p, 'a> {
     /// The vector after its first bracket.
     #[cycle(forms)]
     fn vector(&mut self, alloc: Global) -> Result<Form, AllocError>
-        requires { BeginsItems (left_on self.old) }
+        requires { BeginsItems (tokens_left self.old) }
         ensures form { IfOk result (λ form.
-            open_vector ∷ left_on self.old ≡ tokens_of (view form) ++ left_on self.new) }
+            open_vector ∷ tokens_left self.old ≡ tokens_of (view form) ++ tokens_left self.new) }
         ensures within { OnOk result (length self.new.rest.now ≤ length self.old.rest.now) }
     {
         let mut forms = Vec::new(alloc);
@@ -116,9 +116,9 @@ impl<'p, 'a> Tokens<'p, 'a> {
     /// The map after its first brace.
     #[cycle(forms)]
     fn map(&mut self, alloc: Global) -> Result<Form, AllocError>
-        requires { BeginsPairs (left_on self.old) }
+        requires { BeginsPairs (tokens_left self.old) }
         ensures form { IfOk result (λ form.
-            open_map ∷ left_on self.old ≡ tokens_of (view form) ++ left_on self.new) }
+            open_map ∷ tokens_left self.old ≡ tokens_of (view form) ++ tokens_left self.new) }
         ensures within { OnOk result (length self.new.rest.now ≤ length self.old.rest.now) }
     {
         let mut pairs = Vec::new(alloc);

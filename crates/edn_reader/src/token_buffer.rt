@@ -29,11 +29,11 @@ pub struct TokenBuffer<'a> {
 }
 
 impl<'a> TokenBuffer<'a> {
-    ghost use Rattle.edn_reader.specs.TokenBuffers.{tokens_on, kept_on, open_on};
+    ghost use Rattle.edn_reader.specs.TokenBuffers.{kept_tokens, kept_by, open_levels};
     ghost use Rattle.edn_reader.specs.Pieces.{piece_token, token_buffer_tokens};
 
     pub fn new(alloc: Global) -> TokenBuffer<'a>
-        ensures { open_on result ≡ nothing_open }
+        ensures { open_levels result ≡ nothing_open }
     {
         TokenBuffer {
             truncated: TruncatedTokens::new(alloc),
@@ -58,13 +58,13 @@ impl<'a> TokenBuffer<'a> {
         requires front { reading.first here.now ≡ reading.got (piece_token piece) rest.now }
         requires place { self.old.left ≡ length here.now }
         ensures taken { MatchResult result
-            (λ _. after_piece (open_on self.old) (reading.first here.entry.now)
-            ≡ Some (open_on self.new, self.new.remains.now))
+            (λ _. after_piece (open_levels self.old) (reading.first here.entry.now)
+            ≡ Some (open_levels self.new, self.new.remains.now))
             (λ cause. Denies cause
-            (after_piece (open_on self.old) (reading.first here.entry.now))) }
+            (after_piece (open_levels self.old) (reading.first here.entry.now))) }
         ensures place { self.new.left ≡ length here.entry.now }
         ensures kept { OnOk result
-            (KeepsToken (kept_on self.old) (reading.first here.entry.now) (kept_on self.new)) }
+            (KeepsToken (kept_by self.old) (reading.first here.entry.now) (kept_by self.new)) }
     {
         self.levels.step(alloc, &piece)?;
         self.remains = rest;
@@ -78,14 +78,14 @@ impl<'a> TokenBuffer<'a> {
         requires some { 0 < length here.now }
         requires place { self.old.left ≡ length here.now }
         ensures taken { MatchResult result
-            (λ _. after_piece (open_on self.old) (reading.first here.entry.now)
-            ≡ Some (open_on self.new, self.new.remains.now))
+            (λ _. after_piece (open_levels self.old) (reading.first here.entry.now)
+            ≡ Some (open_levels self.new, self.new.remains.now))
             (λ cause. Denies cause
-            (after_piece (open_on self.old) (reading.first here.entry.now))) }
+            (after_piece (open_levels self.old) (reading.first here.entry.now))) }
         ensures place { IfErr result (λ cause. cause ≡ Cause.NoMemory →
             self.new.left ≡ length here.entry.now) }
         ensures kept { OnOk result
-            (KeepsToken (kept_on self.old) (reading.first here.entry.now) (kept_on self.new)) }
+            (KeepsToken (kept_by self.old) (reading.first here.entry.now) (kept_by self.new)) }
     {
         // A string is no key, whatever it holds.
         if self.levels.takes_key() && here[0] == b'"' {
@@ -107,14 +107,14 @@ impl<'a> TokenBuffer<'a> {
     fn take(&mut self, alloc: Global, here: &'a [u8]) -> Result<(), Cause>
         requires { 0 < length here.now }
         ensures taken { MatchResult result
-            (λ _. after_piece (open_on self.old) (reading.first here.entry.now)
-            ≡ Some (open_on self.new, self.new.remains.now))
+            (λ _. after_piece (open_levels self.old) (reading.first here.entry.now)
+            ≡ Some (open_levels self.new, self.new.remains.now))
             (λ cause. Denies cause
-            (after_piece (open_on self.old) (reading.first here.entry.now))) }
+            (after_piece (open_levels self.old) (reading.first here.entry.now))) }
         ensures place { IfErr result (λ cause. cause ≡ Cause.NoMemory →
             self.new.left ≡ length here.entry.now) }
         ensures kept { OnOk result
-            (KeepsToken (kept_on self.old) (reading.first here.entry.now) (kept_on self.new)) }
+            (KeepsToken (kept_by self.old) (reading.first here.entry.now) (kept_by self.new)) }
     {
         self.left = here.len();
         match here {
@@ -143,16 +143,16 @@ impl<'a> TokenBuffer<'a> {
         text: &'a [u8],
     ) -> Result<Option<&'a [u8]>, Cause>
         requires utf8 { IsUtf8 text.now }
-        requires fresh { open_on self.old ≡ nothing_open }
+        requires fresh { open_levels self.old ≡ nothing_open }
         ensures reads { IfOk result (λ rest.
-            ReadsNext cuts text.entry.now (tokens_on self.new) (option_map (λ r. r.now) rest)) }
+            ReadsNext cuts text.entry.now (kept_tokens self.new) (option_map (λ r. r.now) rest)) }
         ensures shorter { IfOk result (λ rest. IfSome rest
             (λ r. length r.now < length text.entry.now)) }
         ensures none { IfErr result (λ cause. cause ≢ Cause.NoMemory → (ds : List Datum) →
             Spells ds text.entry.now → ⊥) }
         ensures memory { IfErr result (λ cause. cause ≡ Cause.NoMemory →
             IsSoundAfter self.new.left text.entry.now) }
-        ensures fresh { OnOk result (open_on self.new ≡ nothing_open) }
+        ensures fresh { OnOk result (open_levels self.new ≡ nothing_open) }
     {
         self.truncated.clear(cuts);
         let here = skip(text);
@@ -181,16 +181,16 @@ impl<'a> TokenBuffer<'a> {
         text: &'a [u8],
     ) -> Result<Option<&'a [u8]>, Stop>
         requires utf8 { IsUtf8 text.now }
-        requires fresh { open_on self.old ≡ nothing_open }
+        requires fresh { open_levels self.old ≡ nothing_open }
         ensures reads { IfOk result (λ rest.
-            ReadsNext cuts text.entry.now (tokens_on self.new) (option_map (λ r. r.now) rest)) }
+            ReadsNext cuts text.entry.now (kept_tokens self.new) (option_map (λ r. r.now) rest)) }
         ensures shorter { IfOk result (λ rest. IfSome rest
             (λ r. length r.now < length text.entry.now)) }
         ensures none { IfErr result (λ e. e.cause ≢ Cause.NoMemory → (ds : List Datum) →
             Spells ds text.entry.now → ⊥) }
         ensures memory { IfErr result (λ e. e.cause ≡ Cause.NoMemory →
             IsSoundAfter e.left text.entry.now) }
-        ensures fresh { open_on self.new ≡ nothing_open }
+        ensures fresh { open_levels self.new ≡ nothing_open }
     {
         match self.try_read(alloc, cuts, text) {
             Ok(rest) => Ok(rest),
@@ -206,7 +206,7 @@ impl<'a> TokenBuffer<'a> {
 
     /// The tokens that were kept of the element that was read last.
     pub fn pieces(&self) -> &[Piece<'a>]
-        ensures { token_buffer_tokens result.now ≡ tokens_on self.now }
+        ensures { token_buffer_tokens result.now ≡ kept_tokens self.now }
     {
         self.truncated.pieces()
     }

@@ -1,5 +1,5 @@
--- The orders of all objects, merged by point, are one order over all objects, the line. Batch by batch: cut to an object
--- it is the object's order (`line_of_object`), cut to a process what the process made (`line_of_process`).
+-- The orders of all objects, merged by point, are one order over all objects, the line. Batch by batch: cut to an
+-- object it is the object's order (`line_of_object`), cut to a process what the process made (`line_of_process`).
 use Rattle.std.proofs.Common.{◌≡◌, ◌≢◌, ℕ, ◌<◌, ◌≤◌, ◌==◌, ◌&&◌, Bool, true, false, inl, inr, List, [], ◌∷◌, map}
 use Rattle.std.proofs.Common.{filter, ap, sym, ◌∙◌, arith}
 use Rattle.std.specs.List.{flat_map}

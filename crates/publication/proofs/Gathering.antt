@@ -1,5 +1,5 @@
 -- The logs and journals that a record is made of, taken row by row: what is gathered so far is that of the rows so
--- far. By what one more row adds at the end (`grown`).
+-- far. By what one more row adds at the end (`items_of_each-push`).
 use Rattle.std.proofs.Common.{◌≡◌, ℕ, ◌+◌, ◌<◌, ◌≤◌, List, [], ◌∷◌, ◌++◌, length, get_or, length-append, ap, ◌∙◌, arith}
 use mathlib.Core.Logic.{dite}
 use native.Mathlib.Decide.{ℕ_discrete}
@@ -11,14 +11,14 @@ use Rattle.recorder.specs.Records.{items_of_each}
 use Rattle.publication.specs.Closing.{IsSameBelow}
 
 -- the elements of each vector, with one more vector at the end
-pub grown : {A Z : Type 0} (old new : List (Vec A Z)) (v : Vec A Z) → new ≡ old ++ v ∷ []
+pub items_of_each-push : {A Z : Type 0} (old new : List (Vec A Z)) (v : Vec A Z) → new ≡ old ++ v ∷ []
     → items_of_each new ≡ items_of_each old ++ v.items ∷ []
-grown old new v e = ap items_of_each e ∙ map-append (λ v. v.items) old (v ∷ [])
+items_of_each-push old new v e = ap items_of_each e ∙ map-append (λ v. v.items) old (v ∷ [])
 
 module _ {X : Type 0} where
-  pub one_longer : (rows rows' : List (List X)) (row : List X) (n : ℕ) → rows' ≡ rows ++ row ∷ [] → length rows ≡ n
+  pub length-push : (rows rows' : List (List X)) (row : List X) (n : ℕ) → rows' ≡ rows ++ row ∷ [] → length rows ≡ n
       → length rows' ≡ n + 1
-  one_longer rows rows' row n e long =
+  length-push rows rows' row n e long =
       let a : length rows' ≡ length rows + 1 = ap length e ∙ length-append rows (row ∷ []) in omega arith
 
   pub row_here : (rows rows' : List (List X)) (row : List X) (n : ℕ) → rows' ≡ rows ++ row ∷ [] → length rows ≡ n
@@ -38,6 +38,7 @@ module _ {X : Type 0} where
       (λ same. rw (same, row_here rows rows' row n e long) here)
       (λ other. rw (row_there rows rows' row k e (omega arith)) (before k g (omega arith)))
 
-  pub same_more : (from : ℕ) (first rows rows' : List (List X)) (row : List X) → rows' ≡ rows ++ row ∷ []
+  pub IsSameBelow-push : (from : ℕ) (first rows rows' : List (List X)) (row : List X) → rows' ≡ rows ++ row ∷ []
       → from ≤ length rows → IsSameBelow from first rows → IsSameBelow from first rows'
-  same_more from first rows rows' row e long before k low = row_there rows rows' row k e (omega arith) ∙ before k low
+  IsSameBelow-push from first rows rows' row e long before k low = row_there rows rows' row k e (omega arith)
+      ∙ before k low

@@ -137,14 +137,14 @@ module _ {S O R : Type 0} (content : S → Content) (op_in : O → AnyOp) (reply
   -- ---- a miss, a win and a release
 
   -- after a miss the client's fields still agree with what it knows
-  pub missed_ok : (i : ℕ) (m d : M) → TheClient m → d ≡ (after_miss i m.0, m.1) → TheClient d
-  missed_ok i m d k e = rw e record { agrees = agrees_light k.agrees; free = k.free; in_hand = k.in_hand }
+  pub client_after_miss : (i : ℕ) (m d : M) → TheClient m → d ≡ (after_miss i m.0, m.1) → TheClient d
+  client_after_miss i m d k e = rw e record { agrees = agrees_light k.agrees; free = k.free; in_hand = k.in_hand }
 
   -- the core is out of its slot: m before, a after the win, b with nothing in the slot
-  pub pass_ok : (x : ℕ) (k core : Core S O R) (l : List AnyEntry) (m a b : M) → TheClient m
+  pub pass_after_win : (x : ℕ) (k core : Core S O R) (l : List AnyEntry) (m a b : M) → TheClient m
       → a ≡ (after_win x l m.0, (x, slot.Core k) ∷ m.1) → b ≡ (a.0, (x, slot.Nothing) ∷ rest a.1) → core ≡ k
       → CoreFits content op_in reply_in (kind_at m.0.kinds x) (get_elem? m.0.lists x) k l → x < 16 → ThePass x core b
-  pass_ok x k core l m a b c e f same fits low = rw (f, e, same) record {
+  pass_after_win x k core l m a b c e f same fits low = rw (f, e, same) record {
     agrees = agrees_light c.agrees;
     holds = ap (held.Pass x) (sym fits.0);
     in_hand = ap (λ z. (x, slot.Nothing) ∷ z) c.in_hand;
@@ -153,10 +153,10 @@ module _ {S O R : Type 0} (content : S → Content) (op_in : O → AnyOp) (reply
   }
 
   -- the client after its pass was put back: m before, a with the core in hand, b after the step
-  pub released_ok : (x : ℕ) (core : Core S O R) (m a b : M) → ThePass x core m
+  pub client_after_release : (x : ℕ) (core : Core S O R) (m a b : M) → ThePass x core m
       → a ≡ (m.0, (x, slot.Core core) ∷ rest m.1) → b ≡ (after_release x (log_of op_in reply_in core) a.0, rest a.1)
       → IsAccount x a.0 (log_of op_in reply_in core) → TheClient b
-  released_ok x core m a b p e f account = rw (f, e) record {
+  client_after_release x core m a b p e f account = rw (f, e) record {
     agrees = agrees_light
         (agrees_seeing x (log_of op_in reply_in core) p.low (content core.object, p.fits.1) (rw e at account) p.agrees);
     free = refl;
@@ -202,9 +202,10 @@ module _ {S O R : Type 0} (content : S → Content) (op_in : O → AnyOp) (reply
   )
 
   -- a pass after a miss at a row
-  pub noted_ok : (x : ℕ) (core : Core S O R) (i : ℕ) (m b : M) → ThePass x core m → b ≡ (after_row_miss i x m.0, m.1)
+  pub pass_after_row_miss : (x : ℕ) (core : Core S O R) (i : ℕ) (m b : M) → ThePass x core m
+      → b ≡ (after_row_miss i x m.0, m.1)
       → ThePass x core b
-  noted_ok x core i m b p f = rw f record {
+  pass_after_row_miss x core i m b p f = rw f record {
     agrees = agrees_light p.agrees;
     holds = p.holds;
     in_hand = p.in_hand;

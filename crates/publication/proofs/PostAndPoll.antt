@@ -56,28 +56,28 @@ pub outstanding : {S O R : Type 0} {op_in : O → AnyOp} {reply_in : R → AnyRe
 outstanding e k =
     let k' = outstanding_is e k in (k', own_waiting _ k'.agrees.at_rest (sym k'.agrees.outstanding_is))
 
-journal_long : (ds : List AnyDone) (q : Option AnyRequest) → length (journal_of ds q) ≡ tickets_drawn ds q
-journal_long [] None = refl
-journal_long [] (Some q) = refl
-journal_long (d ∷ ds) q = let n = journal_long ds q in omega arith
+length-journal_of : (ds : List AnyDone) (q : Option AnyRequest) → length (journal_of ds q) ≡ tickets_drawn ds q
+length-journal_of [] None = refl
+length-journal_of [] (Some q) = refl
+length-journal_of (d ∷ ds) q = let n = length-journal_of ds q in omega arith
 
 -- ---- the vector of the journal, and its room
 
 module _ {O R : Type 0} (op_in : O → AnyOp) (reply_in : R → AnyReply) where
   -- the journal's vector is as long as the journal
-  pub events_long : (number calls quota : ℕ) (outstanding : Bool) (j : Journal O R) (v : DeskView)
+  pub length-events : (number calls quota : ℕ) (outstanding : Bool) (j : Journal O R) (v : DeskView)
       → Agrees op_in reply_in number calls quota outstanding j v
       → vec_len j.events ≡ tickets_drawn v.done (own_request v.own)
-  events_long number calls quota outstanding j v k =
+  length-events number calls quota outstanding j v k =
       j.events.ok.0 ∙ (sym (length-map j.events.items (event_in op_in reply_in))
-      ∙ (ap length k.journal_is ∙ journal_long v.done (own_request v.own)))
+      ∙ (ap length k.journal_is ∙ length-journal_of v.done (own_request v.own)))
 
   -- there is room for the return of the outstanding call
   pub room_to_return : (number calls quota : ℕ) (j : Journal O R) (v : DeskView) (q : AnyRequest)
       → Agrees op_in reply_in number calls quota true j v
       → v.own ≡ own.Waiting q → vec_len j.events < vec_capacity j.events
   room_to_return number calls quota j v q k is =
-      let n = events_long number calls quota true j v k in let room = k.room in let within = k.within in
+      let n = length-events number calls quota true j v k in let room = k.room in let within = k.within in
       let count = k.calls_is in
       let tickets : tickets_drawn v.done (own_request v.own) ≡ tickets_drawn v.done (Some q) =
       ap (λ o. tickets_drawn v.done (own_request o)) is in
@@ -88,7 +88,7 @@ module _ {O R : Type 0} (op_in : O → AnyOp) (reply_in : R → AnyReply) where
   pub room_to_call : (number calls quota : ℕ) (j : Journal O R) (v : DeskView)
       → Agrees op_in reply_in number calls quota false j v → calls < quota → vec_len j.events < vec_capacity j.events
   room_to_call number calls quota j v k few =
-      let n = events_long number calls quota false j v k in let room = k.room in let is =
+      let n = length-events number calls quota false j v k in let room = k.room in let is =
       own_idle v.own k.at_rest (sym k.outstanding_is) in let count = k.calls_is in
       let tickets : tickets_drawn v.done (own_request v.own) ≡ tickets_drawn v.done None =
       ap (λ o. tickets_drawn v.done (own_request o)) is in
@@ -121,13 +121,13 @@ module _ {S O R : Type 0} (op_in : O → AnyOp) (reply_in : R → AnyReply) wher
       (k.in_hand ∙ ap (at_hand number) is))
 
   -- the client after a post
-  pub post_ok : (number calls quota : ℕ) (j j' : Journal O R) (q : Request O) (m d : Me (Slot S O R) DeskView)
+  pub client_after_post : (number calls quota : ℕ) (j j' : Journal O R) (q : Request O) (m d : Me (Slot S O R) DeskView)
       → IsClient op_in reply_in number calls quota false j m
       → d ≡ (with_own (own.Waiting (request_in op_in q)) m.0, (48 + number, slot.Nothing) ∷ [])
       → q.object < 16 → calls < quota → j'.events.items ≡ j.events.items ++ Invoked q.ticket q.object q.op ∷ []
       → vec_capacity j'.events ≡ vec_capacity j.events
       → IsClient op_in reply_in number (calls + 1) quota true j' d
-  post_ok number calls quota j j' q m d k e low few more same =
+  client_after_post number calls quota j j' q m d k e low few more same =
       let h = k.agrees in let w : AnyRequest = request_in op_in q in let is =
       own_idle m.0.own h.at_rest (sym h.outstanding_is) in let n = h.calls_is in
       let count : calls_made m.0.done (own_request m.0.own) ≡ length m.0.done + 0 =
@@ -182,7 +182,8 @@ module _ {S O R : Type 0} (op_in : O → AnyOp) (reply_in : R → AnyReply) wher
       (k.in_hand ∙ ap (at_hand number) is))
 
   -- the client after a poll that took the answer
-  pub poll_ok : (number calls quota t : ℕ) (j j' : Journal O R) (q : AnyRequest) (e : Answer R) (l : List AnyEntry)
+  pub client_after_poll : (number calls quota t : ℕ) (j j' : Journal O R) (q : AnyRequest) (e : Answer R)
+      (l : List AnyEntry)
       (m d : Me (Slot S O R) DeskView)
       → IsClient op_in reply_in number calls quota true j m → m.0.own ≡ own.Waiting q → q.object < 16
       → IsLegalLog (kind_at m.0.kinds q.object) l
@@ -194,7 +195,7 @@ module _ {S O R : Type 0} (op_in : O → AnyOp) (reply_in : R → AnyReply) wher
       )
       → j'.events.items ≡ j.events.items ++ Returned t e ∷ [] → vec_capacity j'.events ≡ vec_capacity j.events
       → IsClient op_in reply_in number calls quota false j' d
-  poll_ok number calls quota t j j' q e l m d k is low legal counted f more same =
+  client_after_poll number calls quota t j j' q e l m d k is low legal counted f more same =
       let h = k.agrees in let n = h.calls_is in let w : AnyAnswer =
       answer_in reply_in e in let room = h.room in let wide = h.wide in
       let ds : List AnyDone = m.0.done ++ record { request = q; answer = w; returned = t } ∷ [] in

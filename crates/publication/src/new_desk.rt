@@ -11,7 +11,7 @@ ghost use Rattle.desk_model.specs.Limits.{max_objects, max_clients, max_calls};
 ghost use Rattle.desk_invariant.specs.Views.{table_words, table_slots};
 
 use crate::client::{BoxedMember, Client, Member, Place, Places};
-use crate::desk::{DeskTable, Desk, ROWS};
+use crate::desk::{Desk, DeskTable, ROWS};
 use crate::plays::{Begins, Makes};
 use atomic_table::Table;
 use desk_invariant::{BoxedCore, Core, Journal, Plan, Slot};

@@ -4,7 +4,7 @@ ghost use Rattle.std.specs.Prelude.{◌≡◌, ◌∷◌, ◌++◌, [], true, fa
 ghost use Rattle.publication_list.specs.Inside.{IsRowPlace, after_look, is_missed, tries_of};
 ghost use Rattle.publication_list.specs.Limits.{list_words};
 
-use crate::list_table::{ListSeat, Enlist, HEAD, MARKS, NEXTS, Words};
+use crate::list_table::{Enlist, HEAD, ListSeat, MARKS, NEXTS, Words};
 use crate::plays::{Enlists, Links, Looks, Sees, Wakes};
 use std::marker::Model;
 

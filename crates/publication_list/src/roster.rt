@@ -7,7 +7,7 @@ ghost use Rattle.publication_list.specs.PublicationList.{WalkMeets};
 ghost use Rattle.publication_list.specs.Calls.{AreRowPlaces};
 ghost use Rattle.publication_list.specs.Limits.{list_words, max_rows};
 
-use crate::list_table::{ListTable, ListSeat, Enlist, MARKS, NEXTS};
+use crate::list_table::{Enlist, ListSeat, ListTable, MARKS, NEXTS};
 use crate::place::{Place, try_to_link, wake};
 use crate::plays::{Makes, Sleeps, Unlinks};
 use crate::walker::{Walker, meet, word_to};

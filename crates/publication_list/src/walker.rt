@@ -6,7 +6,7 @@ ghost use Rattle.publication_list.specs.PublicationList.{WalkMeets, word_at};
 ghost use Rattle.publication_list.specs.Inside.{HasMetRows, list_left, made_of, walks_of};
 ghost use Rattle.publication_list.specs.Limits.{list_words};
 
-use crate::list_table::{ListSeat, HEAD, NEXTS, Words};
+use crate::list_table::{HEAD, ListSeat, NEXTS, Words};
 use crate::plays::{Follows, Meets};
 use std::marker::Model;
 

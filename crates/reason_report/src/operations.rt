@@ -144,13 +144,13 @@ fn is_same(left: &Invocation, right: &Invocation) -> bool
 /// What the part counts the operation as, if that is not what the history says about it.
 fn push_counted(
     text: &mut Vec<u8>,
-    told: &Invocation,
+    recorded: &Invocation,
     counted: &Invocation,
 ) -> Result<(), AllocError>
     ensures { OnOk result (text.new.items ≡ text.old.items
-        ++ spec.counted_as_text told.now counted.now) }
+        ++ spec.counted_as_text recorded.now counted.now) }
 {
-    if is_same(told, counted) {
+    if is_same(recorded, counted) {
         return Ok(());
     }
     text.extend_from_slice(b", counted as ")?;
@@ -189,12 +189,16 @@ fn push_heading(
 }
 
 /// What the history says about the operation, and what the part does.
-fn push_said(text: &mut Vec<u8>, told: &Invocation, counted: &Invocation) -> Result<(), AllocError>
+fn push_said(
+    text: &mut Vec<u8>,
+    recorded: &Invocation,
+    counted: &Invocation,
+) -> Result<(), AllocError>
     ensures { OnOk result (text.new.items ≡ text.old.items
-        ++ spec.said_text told.now counted.now) }
+        ++ spec.said_text recorded.now counted.now) }
 {
-    push_call(text, told)?;
-    push_counted(text, told, counted)?;
+    push_call(text, recorded)?;
+    push_counted(text, recorded, counted)?;
     push_end(text, counted.end)
 }
 
@@ -209,8 +213,8 @@ fn push_recorded(
     ensures { OnOk result (text.new.items ≡ text.old.items
         ++ spec.said_text (spec.operation_in events.now operation.now) operation.now) }
 {
-    let told = operation_in(events, operation);
-    push_said(text, &told, operation)
+    let recorded = operation_in(events, operation);
+    push_said(text, &recorded, operation)
 }
 
 fn push_operation(

@@ -28,7 +28,8 @@ fn exceeded(alloc: Global, history: &[u8], reasons: &str) -> Result<Vec<bool>, F
 }
 
 /// Two values were in the queue, and one pending dequeue can have taken one of them. From map 1 on
-/// only one was put in. Event 4 is a pending removal, event 0 is an enqueue, and there is no event 9.
+/// only one was put in. Event 4 is a pending removal, event 0 is an enqueue, and there is no event
+/// 9.
 #[test]
 fn a_queue_was_not_empty(rt: HostRuntime) -> Result<(), Fail> {
     let history = b"

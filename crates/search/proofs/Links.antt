@@ -7,7 +7,8 @@ use Rattle.std.proofs.lemmas.List.{length-set, get_or-set_same, get_or-set_other
 use Rattle.std.proofs.lemmas.Bool.{cases_eq, cases_order}
 use Rattle.model.specs.Lists.{In}
 use Rattle.search.specs.Continuations.{IsLeft, Describes}
-use Rattle.search.specs.Links.{IsSlot, IsStop, IsFilledGap, IsNextLeft, IsSlotBefore, Linked, next_without, before_without}
+use Rattle.search.specs.Links.{IsSlot, IsStop, IsFilledGap, IsNextLeft, IsSlotBefore, Linked, next_without}
+use Rattle.search.specs.Links.{before_without}
 use Rattle.search.specs.Links.{next_with, before_with, AreWithin, LeadsThrough}
 use Rattle.search.specs.Searching.{IsBound}
 
@@ -201,7 +202,8 @@ module _ {n : ℕ} {done nx pv : List ℕ} (h : Linked n done nx pv) where
       inside [] w = w.0
       inside (v ∷ vs) w = w.0
 
-  listed_left : (s : ℕ) (us : List ℕ) (high : ℕ) → s ≤ n → IsSlot n done s → LeadsThrough nx s us high → (k : ℕ) → In k us
+  listed_left : (s : ℕ) (us : List ℕ) (high : ℕ) → s ≤ n → IsSlot n done s → LeadsThrough nx s us high → (k : ℕ)
+      → In k us
       → IsLeft n done k
   listed_left s [] high le sl w k i = absurd i
   listed_left s (u ∷ us) high le sl w k i =

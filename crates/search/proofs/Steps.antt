@@ -44,7 +44,8 @@ call_read items k d l = ap as_call (get_or_default items k d _ l)
 -- the links list these places from the start, if they do so up to the end or to a place that is not below `high`
 pub listed_end : (nx us : List ℕ) (slot high place : ℕ)
     → ((rest : List ℕ) → LeadsThrough nx slot rest high → LeadsThrough nx 0 (us ++ rest) high)
-    → slot < length nx → get_or nx slot 0 ≡ place → ((high ≤ place) ⊎ (length nx ≤ suc place)) → LeadsThrough nx 0 us high
+    → slot < length nx → get_or nx slot 0 ≡ place → ((high ≤ place) ⊎ (length nx ≤ suc place))
+    → LeadsThrough nx 0 us high
 listed_end nx us slot high place front l e end = rw append-nil at (front [] (l, rw e end))
 
 -- the loop over the links has listed all places below `high`
@@ -60,7 +61,8 @@ below_end nx nx2 us i slot high place e front all here end =
 -- one more place of those below `high`
 pub below_step : (n : ℕ) (done nx pv us us2 : List ℕ) (slot place high : ℕ) → Linked n done nx pv → slot ≤ n
     → IsSlot n done slot
-    → ((rest : List ℕ) → LeadsThrough nx slot rest high → LeadsThrough nx 0 (us ++ rest) high) → place ≡ get_or nx slot 0
+    → ((rest : List ℕ) → LeadsThrough nx slot rest high → LeadsThrough nx 0 (us ++ rest) high)
+    → place ≡ get_or nx slot 0
     → place + 1 < length nx → us2 ≡ us ++ place ∷ [] →
     (place + 1 ≤ n) × IsSlot n done (place + 1)
     × ((rest : List ℕ) → LeadsThrough nx (place + 1) rest high → LeadsThrough nx 0 (us2 ++ rest) high)
@@ -174,7 +176,8 @@ module _ {n : ℕ} {call : ℕ → Call} where
   module _ {start : Content} {ls : List Level} {bs : List Content} {here : Position} {to : Turn}
       (w : IsWalk n call start ls bs here to) where
     -- the pair that the search remembers where a walk is dead
-    pub dead_pair : {not_done : List ℕ} → IsDead n call (places ls) here.content → LeadsThrough here.next 0 not_done here.high
+    pub dead_pair : {not_done : List ℕ} → IsDead n call (places ls) here.content
+        → LeadsThrough here.next 0 not_done here.high
         → IsDeadPair n call here.high not_done here.content
     dead_pair d h = record { done = places ls; describes = listed (walk_linked w) (walk_bound w) h; dead = d }
 
@@ -188,7 +191,8 @@ module _ {n : ℕ} {call : ℕ → Call} where
     -- a remembered pair is met: the place that leads to it is dead
     pub hit : {after cp : Content} {nx us : List ℕ} {high hp : ℕ} {gives : AnyReply} → to.at < n
         → next here.content (call to.at).op ≡ Some (after, gives) → nx ≡ next_without here.next here.back to.at
-        → LeadsThrough nx 0 us high → here.high ≤ high → to.at < high → IsDeadPair n call hp us cp → hp ≡ high → cp ≡ after
+        → LeadsThrough nx 0 us high → here.high ≤ high → to.at < high → IsDeadPair n call hp us cp → hp ≡ high
+        → cp ≡ after
         → IsDeadAt n call (places ls) here.content to.at
     hit {after} {cp} {nx} {us} {high} {hp} {gives} l does en lists hi hat pair eh ec =
         let pair2 : IsDeadPair n call high us after = rw (eh, ec) at pair in

@@ -18,7 +18,8 @@ IsCandidate n call done k = (j : ℕ) → IsLeft n done j → j ≢ k → Return
 
 -- each call that returned is done
 abbrev pub AreReturnedDone : (n : ℕ) (call : ℕ → Call) → List ℕ → Type 0
-AreReturnedDone n call done = (j : ℕ) (r : Return) → IsLeft n done j → (call j).returned ≡ Some r → ⊥
+AreReturnedDone n call done = (j : ℕ) (r : Return) → IsLeft n done j → (call j).returned ≡ Some r
+    → ⊥
 
 -- The call at k is possible with the first content, and leaves the second. Its recorded reply, if
 -- there is one, is the one that `next` gives.

@@ -62,5 +62,7 @@ pub record AreWithin (nx pv : List ℕ) (k : ℕ) : Type 0 where
 
 -- from a slot the list has these places, and then one that is not below `high`, or its end
 abbrev pub LeadsThrough : List ℕ → ℕ → List ℕ → ℕ → Type 0
-LeadsThrough nx s [] high = (s < length nx) × ((high ≤ get_or nx s 0) ⊎ (length nx ≤ suc (get_or nx s 0)))
-LeadsThrough nx s (u ∷ us) high = (s < length nx) × (get_or nx s 0 ≡ u) × LeadsThrough nx (suc u) us high
+LeadsThrough nx s [] high = (s < length nx)
+    × ((high ≤ get_or nx s 0) ⊎ (length nx ≤ suc (get_or nx s 0)))
+LeadsThrough nx s (u ∷ us) high = (s < length nx) × (get_or nx s 0 ≡ u)
+    × LeadsThrough nx (suc u) us high

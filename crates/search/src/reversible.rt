@@ -104,7 +104,8 @@ impl Reversible {
         }
     }
 
-    /// The digest of the search after the object has done this operation. Nothing is promised of it.
+    /// The digest of the search after the object has done this operation. Nothing is promised of
+    /// it.
     pub(crate) fn digest(&self, digest: Digest, op: &AnyOp, step: &Step) -> Digest {
         match self {
             Reversible::Queue(values) => Queues::digest(values, digest, op, step),

@@ -33,8 +33,8 @@ impl HeapOp {
 }
 
 /// A min-heap: a bag of integers that returns its least first. An insert takes constant time,
-/// except when the vector grows, and an extract logarithmic time, amortized. The reply is the value that went in or
-/// out. Two heaps are the same if their bags are, whatever was done to them.
+/// except when the vector grows, and an extract logarithmic time, amortized. The reply is the value
+/// that went in or out. Two heaps are the same if their bags are, whatever was done to them.
 #[derive(Drop)]
 pub struct Heap {
     values: PairingHeap,

@@ -100,8 +100,8 @@ fn spells_map(alloc: Global, text: &[u8], map: &ClientMap) -> bool
 
 /// The map of a client, which is written so, with this number of its object. What is written anew
 /// is read again, so that nothing has to be known of where the number was. If the number is not
-/// found, or what is written says something else, this returns `AllocError`; that it never does so is
-/// tested.
+/// found, or what is written says something else, this returns `AllocError`; that it never does so
+/// is tested.
 pub(crate) fn renamed_map(
     alloc: Global,
     map: &ClientMap,

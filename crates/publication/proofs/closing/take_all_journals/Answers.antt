@@ -5,7 +5,7 @@ use mathlib.Core.Logic.{dite}
 use native.Mathlib.Decide.{dec_le}
 use Rattle.recorder.specs.Records.{items_of_each}
 use Rattle.publication.specs.Closing.{values_of, HasJournal, IsJournalOf}
-use Rattle.publication.proofs.Gathering.{grown, row_here, row_there}
+use Rattle.publication.proofs.Gathering.{items_of_each-push, row_here, row_there}
 use Rattle.publication.proofs.closing.take_all_journals.Goals as goal
 
 pub take_journals-requires-clause-present : goal.take_journals-requires-clause-present
@@ -23,7 +23,7 @@ take_journals-requires-2-clause-present g c lfts within =
 
 pub returns-clause-own : goal.returns-clause-own
 returns-clause-own g c =
-    let e = grown c.take_journals.new.journals.items c.push_reserved.new.self.items c.args.own
+    let e = items_of_each-push c.take_journals.new.journals.items c.push_reserved.new.self.items c.args.own
     c.push_reserved.ensures.items in
     c.take_journals-2.ensures.journals.1 c.args.number (omega arith)
     ∙ row_here (items_of_each c.take_journals.new.journals.items)
@@ -31,7 +31,7 @@ returns-clause-own g c =
 
 pub returns-clause-others : goal.returns-clause-others
 returns-clause-others g c = let e =
-    grown c.take_journals.new.journals.items c.push_reserved.new.self.items c.args.own
+    items_of_each-push c.take_journals.new.journals.items c.push_reserved.new.self.items c.args.own
     c.push_reserved.ensures.items in let long = c.take_journals.ensures.journals.0.0 in
     λ d l other. dite (dec_le d c.args.number)
     (λ below. let low : d < c.args.number = omega arith in

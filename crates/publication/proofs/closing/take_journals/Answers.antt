@@ -3,7 +3,7 @@
 use Rattle.std.proofs.Common.{rules, arith, ◌≡◌, sym, subst, ◌∙◌}
 use Rattle.recorder.specs.Records.{items_of_each}
 use Rattle.publication.specs.Closing.{values_of, HasJournal, IsJournalOf, AreJournals}
-use Rattle.publication.proofs.Gathering.{grown, one_longer, rows_more, same_more}
+use Rattle.publication.proofs.Gathering.{items_of_each-push, length-push, rows_more, IsSameBelow-push}
 use Rattle.publication.proofs.closing.take_journals.Goals as goal
 
 pub take_journal-requires-clause-journal : goal.take_journal-requires-clause-journal
@@ -15,7 +15,8 @@ pub loop-client-preserved : goal.loop-client-preserved
 loop-client-preserved g c =
     let i = c.loop-client.invariant in let p = c.push_reserved.ensures in let n = p.len in let count = i.2 in let t =
     c.take_journal.ensures.slots.0 in let near = c.loop-client.auto.client in let long = i.4.0 in
-    let e = grown c.loop-client.journals.items c.push_reserved.new.self.items c.take_journal.result p.items in
+    let e = items_of_each-push c.loop-client.journals.items c.push_reserved.new.self.items c.take_journal.result
+    p.items in
     let journal = subst (λ xs. IsJournalOf xs c.loop-client.client c.take_journal.result.items) i.1
     c.take_journal.ensures.journal in (
       (t.0, (λ k l h. t.1 k (omega arith) h), λ k h. t.2 k (omega arith)),
@@ -23,13 +24,14 @@ loop-client-preserved g c =
       omega arith,
       search rules,
       (
-        one_longer (items_of_each c.loop-client.journals.items)
+        length-push (items_of_each c.loop-client.journals.items)
             (items_of_each c.push_reserved.new.self.items) c.take_journal.result.items c.loop-client.client e i.4.0,
         rows_more (IsJournalOf (values_of c.args.left.now)) c.args.from c.loop-client.client
             (items_of_each c.loop-client.journals.items)
             (items_of_each c.push_reserved.new.self.items) c.take_journal.result.items e i.4.0 i.4.1 journal,
       ),
-      same_more c.args.from (items_of_each c.args.journals.now.items) (items_of_each c.loop-client.journals.items)
+      IsSameBelow-push c.args.from (items_of_each c.args.journals.now.items)
+          (items_of_each c.loop-client.journals.items)
           (items_of_each c.push_reserved.new.self.items) c.take_journal.result.items e (omega arith) i.5,
     )
 

@@ -3,7 +3,7 @@
 use Rattle.std.proofs.Common.{rules, arith, ◌≡◌, sym, subst, ◌∙◌}
 use Rattle.recorder.specs.Records.{items_of_each}
 use Rattle.publication.specs.Closing.{values_of, HasCore, IsLogOf, AreLogs}
-use Rattle.publication.proofs.Gathering.{grown, one_longer, rows_more}
+use Rattle.publication.proofs.Gathering.{items_of_each-push, length-push, rows_more}
 use Rattle.publication.proofs.closing.take_logs.Goals as goal
 
 pub take_log-requires-clause-core : goal.take_log-requires-clause-core
@@ -14,14 +14,14 @@ take_log-requires-clause-core g c lfts within =
 pub loop-x-preserved : goal.loop-x-preserved
 loop-x-preserved g c =
     let i = c.loop-x.invariant in let p = c.push_reserved.ensures in let n = p.len in let count = i.2 in
-    let e = grown c.loop-x.logs.items c.push_reserved.new.self.items c.take_log.result p.items in
+    let e = items_of_each-push c.loop-x.logs.items c.push_reserved.new.self.items c.take_log.result p.items in
     let log = subst (λ xs. IsLogOf xs c.loop-x.x c.take_log.result.items) i.1 c.take_log.ensures.log in (
       c.take_log.ensures.slots.0,
       c.take_log.ensures.slots.1 ∙ i.1,
       omega arith,
       search rules,
       (
-        one_longer (items_of_each c.loop-x.logs.items)
+        length-push (items_of_each c.loop-x.logs.items)
             (items_of_each c.push_reserved.new.self.items) c.take_log.result.items c.loop-x.x e i.4.0,
         λ k h. rows_more (IsLogOf (values_of c.args.left.now)) 0 c.loop-x.x (items_of_each c.loop-x.logs.items)
             (items_of_each c.push_reserved.new.self.items)

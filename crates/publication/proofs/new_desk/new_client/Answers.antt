@@ -1,5 +1,5 @@
--- `new_client`: the client is at its beginning, and the maker is at the next number. Its next step may be to make a seat
--- (`making_keeps_rule`), and the first step of that seat is to begin (`begin_keeps_rule`).
+-- `new_client`: the client is at its beginning, and the maker is at the next number. Its next step may be to make a
+-- seat (`making_keeps_rule`), and the first step of that seat is to begin (`begin_keeps_rule`).
 use Rattle.std.proofs.Common.{arith, ℕ, Bool, refl, sym, ap, subst, ◌∙◌}
 use Rattle.desk_invariant.proofs.Beginnings.{making_keeps_rule, begin_keeps_rule}
 use Rattle.publication.specs.Handles.{IsClient}

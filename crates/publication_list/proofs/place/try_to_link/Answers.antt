@@ -1,5 +1,5 @@
--- `try_to_link`: the seat knows whether the row was put in front or the try missed. Each of the three accesses is allowed
--- by what the seat knows then (`see_allowed`, `link_allowed`, `enlist_allowed`).
+-- `try_to_link`: the seat knows whether the row was put in front or the try missed. Each of the three accesses is
+-- allowed by what the seat knows then (`see_allowed`, `link_allowed`, `enlist_allowed`).
 use Rattle.std.proofs.Common.{arith, ◌∙◌, sym, subst, true}
 use Rattle.publication_list.specs.Inside.{IsRowPlace, tries_of}
 use Rattle.publication_list.proofs.PlaceSteps.{see_allowed, link_allowed, link_leaves_linked, enlist_allowed}

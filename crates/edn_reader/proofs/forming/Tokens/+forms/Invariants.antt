@@ -2,7 +2,7 @@
 -- That gets shorter. The measure is twice its length, plus one in `vector` and `map`, one token later.
 use Rattle.std.proofs.Common.{◌≡◌, ◌+◌, ◌++◌, ◌≤◌, suc, length}
 use Rattle.edn_reader.specs.Forming.{BeginsItems, BeginsPairs}
-use Rattle.edn_reader.specs.Formings.{left_on}
+use Rattle.edn_reader.specs.Formings.{tokens_left}
 use Rattle.edn_reader.specs.View.{views, pair_views}
 use Rattle.edn_reader.proofs.Consumed.{list_tokens, pairs_tokens}
 use Rattle.edn_reader.proofs.forming.Tokens.+forms.Given as goal
@@ -18,7 +18,8 @@ decreases-map l = suc (length l.self.now.rest.now + length l.self.now.rest.now)
 
 abbrev pub invariant-vector-items : goal.invariant-vector-items
 invariant-vector-items l =
-    (left_on l.initial.self ≡ list_tokens (views l.forms.items) ++ left_on l.self) × BeginsItems (left_on l.self)
+    (tokens_left l.initial.self ≡ list_tokens (views l.forms.items) ++ tokens_left l.self)
+    × BeginsItems (tokens_left l.self)
     × (length l.self.rest.now ≤ length l.initial.self.rest.now)
 
 abbrev pub decreases-vector-items : goal.decreases-vector-items
@@ -26,8 +27,8 @@ decreases-vector-items l = length l.self.rest.now
 
 abbrev pub invariant-map-pairs : goal.invariant-map-pairs
 invariant-map-pairs l =
-    (left_on l.initial.self ≡ pairs_tokens (pair_views l.pairs.items) ++ left_on l.self)
-    × BeginsPairs (left_on l.self) × (length l.self.rest.now ≤ length l.initial.self.rest.now)
+    (tokens_left l.initial.self ≡ pairs_tokens (pair_views l.pairs.items) ++ tokens_left l.self)
+    × BeginsPairs (tokens_left l.self) × (length l.self.rest.now ≤ length l.initial.self.rest.now)
 
 abbrev pub decreases-map-pairs : goal.decreases-map-pairs
 decreases-map-pairs l = length l.self.rest.now

@@ -6,7 +6,7 @@ use Rattle.desk_invariant.proofs.Locks.{held_object}
 use Rattle.desk_invariant.proofs.Rows.{look_at_row_keeps_rule, pick_keeps_rule}
 use Rattle.publication.proofs.Dealing.{own_still}
 use Rattle.publication.proofs.Slots.{came_out, same_request, can_exchange}
-use Rattle.publication.proofs.Holds.{noted_ok, hand_ok}
+use Rattle.publication.proofs.Holds.{pass_after_row_miss, hand_ok}
 use Rattle.publication.proofs.CallClauses.{pick_gives, pick_misses}
 use Rattle.publication.proofs.client.Pass.pick.Goals as goal
 
@@ -31,7 +31,8 @@ pub invariant_of-result : goal.invariant_of-result
 invariant_of-result g c =
     let t = ((c.look_and_exchange-found.ensures.tried _ c.args.row _ c.self.invariant.0.holds refl).1
     (search rules)).0 in (
-      noted_ok g.S.SeqObject.content g.S.SeqObject.op_in g.S.SeqObject.reply_in _ _ _ _ _ _ _ _ _ _ c.self.invariant.0
+      pass_after_row_miss g.S.SeqObject.content g.S.SeqObject.op_in g.S.SeqObject.reply_in _ _ _ _ _ _ _ _ _ _
+          c.self.invariant.0
           t,
       own_still _ _ _ _ (ap (λ m. m.0.lists) t) c.self.invariant.1,
     )

@@ -4,7 +4,7 @@ use Rattle.std.proofs.Common.{map, ◌≡◌, rules, arith, sym, ap, ◌∙◌}
 use Rattle.publication_list.specs.Calls.{PlaceSeen}
 use Rattle.desk_invariant.proofs.Locks.{release_keeps_rule}
 use Rattle.publication.proofs.Dealing.{own_still}
-use Rattle.publication.proofs.Holds.{release_ready, released_ok}
+use Rattle.publication.proofs.Holds.{release_ready, client_after_release}
 use Rattle.publication.proofs.CallClauses.{is_released, log_is_seen}
 use Rattle.publication.proofs.client.Pass.release.Goals as goal
 
@@ -21,7 +21,7 @@ pub invariant_of-result : goal.invariant_of-result
 invariant_of-result g c = let p = c.self.invariant.0 in let r =
     release_ready g.S.SeqObject.content g.S.SeqObject.op_in g.S.SeqObject.reply_in _ _ _ _ _ _ c.self.inside.core _ _
     p c.exchange.ensures.3 in let t = c.store.ensures.2 _ r.1 in (
-      released_ok g.S.SeqObject.content g.S.SeqObject.op_in g.S.SeqObject.reply_in _ _ _ _ _ _
+      client_after_release g.S.SeqObject.content g.S.SeqObject.op_in g.S.SeqObject.reply_in _ _ _ _ _ _
           c.self.inside.core _ _ _ p c.exchange.ensures.3 t.0 t.1,
       own_still _ _ _ _ (ap (λ m. m.0.lists) t.0 ∙ ap (λ m. m.0.lists) c.exchange.ensures.3) c.self.invariant.1,
     )

@@ -11,8 +11,8 @@ use Rattle.publication.proofs.Dealing.{own_still}
 use Rattle.publication.specs.Handles.{IsClient, ArePlacesOf}
 use Rattle.publication.specs.Calls.{IsPollAnswer, IsPollMiss}
 use Rattle.publication.proofs.Slots.{can_exchange, came_out, same_answer}
-use Rattle.publication.proofs.Holds.{missed_ok}
-use Rattle.publication.proofs.PostAndPoll.{outstanding, poll_turn, poll_ok, polled, room_to_return}
+use Rattle.publication.proofs.Holds.{client_after_miss}
+use Rattle.publication.proofs.PostAndPoll.{outstanding, poll_turn, client_after_poll, polled, room_to_return}
 use Rattle.publication.proofs.desk.Desk.poll.Goals as goal
 
 pub look_and_exchange-found-requires-clause-look : goal.look_and_exchange-found-requires-clause-look
@@ -42,7 +42,7 @@ invariant_of-client g c =
     let o = (outstanding (sym c.is_outstanding.ensures ∙ c.if-not-is_outstanding.false) k).1 in
     let t = ((c.look_and_exchange-found.ensures.tried c.client.inside.number o.0 k.agrees.number_is refl o.1).1
     (search rules)).0 in (
-      missed_ok g.S.SeqObject.content _ _ _ _ _ _ _ _ _ _ k t,
+      client_after_miss g.S.SeqObject.content _ _ _ _ _ _ _ _ _ _ k t,
       own_still _ _ _ _ (ap (λ m. m.0.lists) t) c.client.invariant.1,
     )
 
@@ -101,7 +101,8 @@ invariant_of-client-in-Answer g c =
     let same = same_answer _ _ (sym (came_out _ _ _ _ _ (ap (λ m. m.1) t.2) c.exchange.ensures.2) ∙ c.in-Answer.is) in
     let turn = poll_turn g.S.SeqObject.op_in g.S.SeqObject.reply_in _ _ _ _ _ o.0 t.0 t.1 _ _ _ _ k o.1 t.2
     c.exchange.ensures.3 f in
-    let ok = poll_ok g.S.SeqObject.op_in g.S.SeqObject.reply_in _ _ _ _ c.client.inside.member.journal _ o.0 t.0
+    let ok = client_after_poll g.S.SeqObject.op_in g.S.SeqObject.reply_in _ _ _ _ c.client.inside.member.journal _
+    o.0 t.0
     t.1 _ _ k o.1 o.2 t.3 t.5 turn
     (p.events ∙ ap (λ a. c.client.inside.member.journal.events.items ++ Returned c.fetch_add-ticket.result a ∷ [])
     (sym same)) p.capacity in

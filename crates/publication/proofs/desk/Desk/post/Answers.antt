@@ -12,7 +12,7 @@ use Rattle.publication.specs.Handles.{Known, IsClient, ArePlacesOf}
 use Rattle.desk_invariant.proofs.Calls.{draw_keeps_rule, post_keeps_rule}
 use Rattle.publication.proofs.Dealing.{own_still}
 use Rattle.publication.proofs.Slots.{came_out, can_exchange, in_slot}
-use Rattle.publication.proofs.PostAndPoll.{own_idle, outstanding_is, post_turn, post_ok, posted, room_to_call}
+use Rattle.publication.proofs.PostAndPoll.{own_idle, outstanding_is, post_turn, client_after_post, posted, room_to_call}
 use Rattle.publication.proofs.desk.Desk.post.Goals as goal
 use Rattle.publication.proofs.desk.Desk.post.Given.{Over}
 use Rattle.publication.proofs.desk.Desk.post.Goals.{After-exchange}
@@ -111,7 +111,8 @@ invariant_of-client g c = let k = before g (goal.at.invariant_of-client g c).Aft
     (record { object = c.args.object; ticket = c.fetch_add-ticket.result; op = c.args.op }) _ _ _ _ _ k e f h
     (c.store.ensures.2 _ (ap (λ z. z.0.own) h ∙ ap (λ z. z.0.own) f)) in
     let low : c.args.object < length c.self.inside.kinds.items = search rules in
-    let ok = post_ok g.S.SeqObject.op_in g.S.SeqObject.reply_in _ _ _ c.client.inside.member.journal _ _ _ _ k turn
+    let ok = client_after_post g.S.SeqObject.op_in g.S.SeqObject.reply_in _ _ _ c.client.inside.member.journal _ _ _ _
+    k turn
     (omega arith)
     (let count = k.agrees.calls_is in
     let left = calls_left g (goal.at.invariant_of-client g c).After-exchange in omega arith) written p.capacity in

@@ -1,5 +1,5 @@
--- `new_with_places`: each owner has one place more, on the new roster and with its own row. The loop takes the last place
--- first, and keeps that the owners from there on have theirs and those before are as they were (`one_grown`).
+-- `new_with_places`: each owner has one place more, on the new roster and with its own row. The loop takes the last
+-- place first, and keeps that the owners from there on have theirs and those before are as they were (`one_grown`).
 use Rattle.std.proofs.Common.{arith, ◌≡◌, length, get_or, set, sym, ap, ◌∙◌, subst}
 use Rattle.publication_list.specs.Calls.{AreRowPlaces}
 use Rattle.publication_list.specs.Dealing.{AreGrown}
