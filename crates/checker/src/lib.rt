@@ -1,4 +1,4 @@
-//! Checks orders of operations.
+//! Checks whether an order of an object's operations is valid, or names its first fault.
 #![tactic(auto)]
 
 mod all;

@@ -1,5 +1,6 @@
-//! Workers: the clients of a desk, each in a thread of its own, which make the calls of a workload;
-//! and workloads, drawn from a seed, so that the same words give the same calls.
+//! The clients of a desk, each in a thread of its own, which make the calls of a workload; and
+//! workloads, drawn from a seed, so that the same words give the same calls. Callers of the library
+//! in other languages are in the folder `callers`.
 #![tactic(auto)]
 
 mod call_numbers;

@@ -38,7 +38,9 @@ fn reason_of(alloc: Global, unread: &Unfit) -> Result<String, AllocError> {
     };
     match takes {
         Takes::Kind => format!(in alloc; "error: --{name} takes one of the words {KINDS}\n"),
-        Takes::TryFirst => format!(in alloc; "error: --{name} takes one of the words {TRY_FIRST_WORDS}\n"),
+        Takes::TryFirst => {
+            format!(in alloc; "error: --{name} takes one of the words {TRY_FIRST_WORDS}\n")
+        }
         Takes::Number(bounds) => format!(in alloc;
             "error: --{name} takes a number from {} to {}\n",
             bounds.least, bounds.most

@@ -1,5 +1,6 @@
-//! Reads and writes EDN, in a profile of its own: bytes in and out, the text of forms, and what
-//! `edn_reader` has in public, so that a caller names one crate.
+//! EDN, in a profile of its own: bytes in and out, the text of forms, the values that a map has for
+//! its keys, and what the reader, the crate `edn_reader`, has in public. A caller names this crate
+//! alone.
 #![tactic(auto)]
 
 mod decimal;

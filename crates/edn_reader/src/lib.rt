@@ -1,4 +1,4 @@
-//! Reads EDN, in a profile of its own.
+//! Reads EDN, in a profile of its own. Other crates use it through `edn`, which also writes.
 //!
 //! A text is UTF-8, at most 268,435,456 bytes, and a sequence of elements: `nil`, `true`, `false`,
 //! integers of 64 bits, strings, keywords, vectors in brackets, and maps in braces, whose keys are

@@ -1,5 +1,5 @@
-//! Judges histories of concurrent objects by certificates: texts in memory, and texts that come
-//! from sources.
+//! Judges histories of concurrent objects by certificates: reads both texts, in memory or from
+//! sources, has `checker` check the orders, and returns a verdict.
 #![tactic(auto)]
 
 mod check;

@@ -1,4 +1,5 @@
-//! A desk: sequential objects served to many threads by flat combining, with one log an object.
+//! A desk: sequential objects served to many threads by flat combining, with one log an object. The
+//! list of the rows that a combiner looks at is in `publication_list`.
 //!
 //! A client posts a call in its row and polls for the answer. A client that wins an object may
 //! serve the requests of the rows for it. No call waits: each takes a bounded number of steps on

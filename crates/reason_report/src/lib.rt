@@ -1,5 +1,5 @@
-//! The lines that say why an object has no valid order: the operations of a part, and the reason as
-//! text.
+//! The lines that explain why an object has no valid order: the operations of a part, and the
+//! reason as text. The lines of verdicts are in `report`.
 #![tactic(auto)]
 
 mod operations;

@@ -1,4 +1,5 @@
-//! What a judge of histories says: verdicts, the counts of a history, and their lines.
+//! Verdicts of a check, the counts of a history, and their lines. The lines that explain why an
+//! object has no valid order are in `reason_report`.
 #![tactic(auto)]
 
 mod checked;
