@@ -4,7 +4,7 @@
 
 Each text is a short history that gen.py's forms or Jepsen's would have, with certificates; none to six bytes or parts of one of the two are
 changed. Both programs check it, and their lines, which name the first fault and its place, and exit statuses must be the same. A text on
-which they differ is kept in DIR. Printed are how many texts were well formed, and how many differed; the status is 1 where any did."""
+which they differ is kept in DIR. Printed are how many texts were well formed, and how many differed; the status is 1 if any did."""
 import argparse
 import concurrent.futures
 import os

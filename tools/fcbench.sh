@@ -37,7 +37,7 @@ case $#-${1:-} in
     exit 64 ;;
 esac
 case $1 in
-  check | verify | refute | search | split | merge | run | simulate | help | -*) ;;
+  check | search | refute | verify | split | merge | run | simulate | help | -*) ;;
   *) echo 'fcbench: the commands of the tools are judge, find, draw and import' >&2 ;;
 esac
 exec "$FCBENCH" "$@"

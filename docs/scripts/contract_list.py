@@ -10,9 +10,11 @@ import re
 import sys
 
 sys.dont_write_bytecode = True
+ROOT = os.path.dirname(os.path.dirname(os.path.dirname(os.path.realpath(__file__))))
+sys.path[:0] = [f"{ROOT}/scripts", os.path.dirname(os.path.realpath(__file__))]
 
-from crate_tables import ROOT, groups  # noqa: E402
 from arguments import arguments_or_exit  # noqa: E402
+from crate_tables import groups  # noqa: E402
 from crates_list import dependencies  # noqa: E402
 
 HEAD = """# The contracts, crate by crate

@@ -3,7 +3,7 @@
 
     docs/scripts/crate_tables.py [--check]
 
-The words of each row stay. With --check nothing is written: the exit status is 1 where a row is missing, is of no crate, is in
+The words of each row stay. With --check nothing is written: the exit status is 1 if a row is missing, is of no crate, is in
 another group or order than in crates.txt, or names other crates."""
 import os
 import re

@@ -13,9 +13,11 @@ import sys
 import tempfile
 
 sys.dont_write_bytecode = True
+ROOT = os.path.dirname(os.path.dirname(os.path.dirname(os.path.realpath(__file__))))
+sys.path[:0] = [f"{ROOT}/scripts", os.path.dirname(os.path.realpath(__file__))]
 
-from contract_list import ROOT, functions  # noqa: E402
 from arguments import arguments_or_exit  # noqa: E402
+from contract_list import functions  # noqa: E402
 
 
 def contracts(root):

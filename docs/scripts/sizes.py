@@ -3,8 +3,8 @@
 
     docs/scripts/sizes.py [--check]
 
-The lines are all lines, with comments, imports and blank ones, in hundreds. With --check the exit status is 1 where a number of
-the page is off by more than 200 lines and by more than a fiftieth."""
+The lines are all lines, with comments, imports and blank ones, rounded to hundreds. With --check the exit status is 1 if a number
+of the page is off by more than 200 lines and by more than a fiftieth."""
 import os
 import re
 import sys

@@ -9,6 +9,7 @@ import sys
 import tokenize
 
 from .running import OF_TOOLS, ROOT
+from .words import COMMANDS
 
 sys.path[:0] = [f"{ROOT}/scripts", f"{ROOT}/docs/scripts", f"{ROOT}/bench"]
 
@@ -417,11 +418,22 @@ def usages(program, report):
             report.equal(f"usages: {script} {word}", (status, status == 0, status != 0), (ran.returncode, bool(ran.stdout), bool(ran.stderr)), ran)
 
 
-def lists_of_tools(program, report):
-    """Both scripts that choose a program, one of which is installed alone, name the commands of the tools, and no others."""
-    for script in ("fcbench", "tools/fcbench.sh"):
-        named = re.search(r"^is_of_tools\(\) \{\n  case \$\{1:-\} in ([\w |]+)\) return 0 ;; esac$", read(f"{ROOT}/{script}"), re.M)
-        report.equal(f"lists_of_tools: {script}", " | ".join(OF_TOOLS), named and named[1])
+def in_words(names):
+    """The names as a sentence lists them."""
+    return f"{', '.join(names[:-1])} and {names[-1]}"
+
+
+def lists_of_commands(program, report):
+    """Both scripts that choose a program, one of which is installed alone, name the commands of the tools and of the verifier, and no others."""
+    scripts_of_bash = {script: read(f"{ROOT}/{script}") for script in ("fcbench", "tools/fcbench.sh")}
+    for script, text in scripts_of_bash.items():
+        named = re.search(r"^is_of_tools\(\) \{\n  case \$\{1:-\} in ([\w |]+)\) return 0 ;; esac$", text, re.M)
+        report.equal(f"lists_of_commands: of the tools, {script}", " | ".join(OF_TOOLS), named and named[1])
+    chooser = scripts_of_bash["tools/fcbench.sh"]
+    report.holds("lists_of_commands: of the tools, in the message", f"the commands of the tools are {in_words(OF_TOOLS)}'" in chooser)
+    report.holds("lists_of_commands: of the verifier, in help", f"'{in_words(COMMANDS)} are commands of the verifier," in scripts_of_bash["fcbench"])
+    named = re.search(r"^  ([\w |]+) \| help \| -\*\) ;;$", chooser, re.M)
+    report.equal("lists_of_commands: of the verifier, tools/fcbench.sh", " | ".join(COMMANDS), named and named[1])
 
 
 def sizes_of_reasons(program, report):
@@ -433,5 +445,5 @@ def sizes_of_reasons(program, report):
 
 PARTS = (
     documents, links, names_of_several, names_of_rows, named_clauses, definitions_of_clauses, plain_words, widths, heads_of_proofs, snippets, usages,
-    like_lines, lists_of_tools, sizes_of_reasons,
+    like_lines, lists_of_commands, sizes_of_reasons,
 )
