@@ -13,7 +13,7 @@ use Rattle.edn_reader.specs.Truncation.{integers_in}
 use Rattle.edn_reader.specs.Datum.{Datum, dictionary, Entries, items_of}
 use Rattle.edn_reader.specs.View.{view, views}
 use Rattle.edn_reader.specs.declared.form.Form.{Form}
-use Rattle.edn_fields.specs.Fields.{value_at, natural_in, object_in}
+use Rattle.edn.specs.Fields.{value_at, natural_in, object_in}
 use Rattle.certificate.specs.Denotes.{Reading, order_in, reading_with, certificate_of, reading_of, AreDistinct, Denotes}
 use Rattle.certificate.specs.Faults.{cert_fault_number, IsCertFault, HasNoCertFault, IsFirstFault}
 use Rattle.certificate.specs.Inside.{IsFaultAmong, AreCertificatesRead}

@@ -13,7 +13,7 @@ use Rattle.certificate.specs.Faults.{IsCertSoundAt}
 use Rattle.certificate.specs.Inside.{IsFaultAmong, AreCertificatesRead, has}
 use Rattle.certificate.specs.Texts.{IsCertFaultIn, AreCertificatesReadOrFaulty, IsCertificateReading}
 use Rattle.certificate.proofs.Reading.{no_fault, fault_here, only_fault, nothing_here}
-use Rattle.edn_fields.proofs.FirstFaults.{first_more}
+use Rattle.edn.proofs.FirstFaults.{first_more}
 
 -- more forms after those that were looked at
 sound_more : (ds : List Datum) (d : Datum) (n : ℕ) → IsCertSoundAt ds n → IsCertSoundAt (ds ++ d ∷ []) n

@@ -10,7 +10,7 @@ use Rattle.edn_reader.specs.Token.{Token, open_vector, close_vector, open_map, c
 use Rattle.edn_reader.specs.Sound.{BeginWith}
 use Rattle.edn_reader.proofs.Fronts.{both_begin, front_of}
 use Rattle.edn_reader.proofs.UsualFronts.{here, after_one, field, first_field}
-use Rattle.edn_fields.specs.Fields.{object_in}
+use Rattle.edn.specs.Fields.{object_in}
 use Rattle.certificate.specs.declared.Certificate.{Certificate}
 use Rattle.certificate.specs.UsualForms.{ReadsUsual, numbers_tokens, ReadsOrder}
 use Rattle.certificate.proofs.Writing.{datum_of, datum_fits, datum_denotes, numbers_data}

@@ -3,7 +3,7 @@ use Rattle.std.specs.Prelude.{◌≡◌, ◌≢◌, ℕ, ℤ, List, Option, Some
 use Rattle.std.specs.Prelude.{AllPairs}
 use Rattle.edn_reader.specs.Truncation.{integer_vector_of}
 use Rattle.edn_reader.specs.Datum.{Datum, atom, vector, dictionary}
-use Rattle.edn_fields.specs.Fields.{value_at, natural_in, object_in}
+use Rattle.edn.specs.Fields.{value_at, natural_in, object_in}
 use Rattle.certificate.specs.declared.Certificate.{Certificate}
 
 -- what a certificate says: for an object an order of operations, by their numbers

@@ -1,7 +1,7 @@
 -- What can be wrong with the forms of a text of certificates, and which fault of it is the first.
 use Rattle.std.specs.Prelude.{◌≡◌, ℕ, List, ◌∷◌, ◌++◌, length, Some, None, Contains}
 use Rattle.edn_reader.specs.Datum.{Datum}
-use Rattle.edn_fields.specs.FirstFaults.{AreFaultless, IsFirstFaultBy}
+use Rattle.edn.specs.FirstFaults.{AreFaultless, IsFirstFaultBy}
 use Rattle.certificate.specs.Denotes.{Reading, certificate_of}
 use Rattle.certificate.specs.declared.fault.CertFaultKind.{CertFaultKind}
 use Rattle.certificate.specs.declared.fault.CertFaultKind.TheVariants.{NotACertificate}

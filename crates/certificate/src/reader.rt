@@ -23,7 +23,7 @@ fn are_integers(forms: &[Form]) -> bool
     ensures { result ≡ is_some (integers_in (items_of (views forms.now))) }
 {
     for form in forms {
-        if edn_fields::integer(form).is_none() {
+        if edn::integer(form).is_none() {
             return false;
         }
     }
@@ -37,7 +37,7 @@ fn integers_of(alloc: Global, forms: &[Form]) -> Result<Vec<i64>, AllocError>
 {
     let mut integers = Vec::new(alloc);
     for form in forms {
-        if let Some(n) = edn_fields::integer(form) {
+        if let Some(n) = edn::integer(form) {
             integers.push(n)?;
         }
     }
@@ -69,11 +69,11 @@ fn parts_in(form: &Form) -> Option<(u32, &[Form])>
     let Form::Map(entries) = form else {
         return None;
     };
-    let number = edn_fields::natural(edn_fields::value_at(entries, b"object"));
-    let Some(object) = edn_fields::object(number) else {
+    let number = edn::natural(edn::value_at(entries, b"object"));
+    let Some(object) = edn::object_number(number) else {
         return None;
     };
-    let Some(forms) = order_in(edn_fields::value_at(entries, b"order")) else {
+    let Some(forms) = order_in(edn::value_at(entries, b"order")) else {
         return None;
     };
     Some((object, forms))

@@ -6,8 +6,7 @@ ghost use Rattle.std.specs.Str.{IsUtf8};
 ghost use Rattle.certificate.specs.UsualForms.{ReadsUsual, ReadsOrder};
 
 use crate::Certificate;
-use edn::{after, after_line_feed, integer_at, natural_at};
-use edn_fields::object;
+use edn::{after, after_line_feed, integer_at, natural_at, object_number};
 use std::alloc::{AllocError, Global};
 
 /// The text without the space that it begins with, if it begins with one.
@@ -72,7 +71,7 @@ pub(crate) fn usual_certificate(alloc: Global, text: &[u8]) -> Option<(Certifica
     ensures { IfSome result (λ x. ReadsUsual text.entry.now x.0 x.1.now) }
 {
     let (number, rest) = natural_at(after(after_line_feed(text), b"{:object ")?)?;
-    let object = object(Some(number))?;
+    let object = object_number(Some(number))?;
     let (order, rest) = order_after(alloc, after(rest, b", :order [")?)?;
     let rest = after(rest, b"}")?;
     Some((Certificate { object, order }, rest))

@@ -24,8 +24,7 @@ use Rattle.checker.specs.declared.refusal.Refusal.TheVariants.{NoCertificate, St
 use Rattle.checker.specs.Faults.{IsFirstFault}
 use Rattle.checker.specs.Refusals.{RefusesOrder, HasCertificate, AreValid, IsRefusalAt, IsLeastStrange, IsFirstRefusal}
 use Rattle.checker.specs.Checking.{IsCertificatePlace, AreCertificatePlaces, AreAllPlaces, IsFine, IsRefused}
-use Rattle.checker.specs.Checking.{AreForThese, IsLeastBesides}
-use Rattle.checker.specs.Checking.{IsLeastPlaced}
+use Rattle.checker.specs.Checking.{AreForThese, IsLeastBesides, IsLeastPlaced}
 
 -- one more certificate has its place
 pub one_placed : (certificates : List Certificate) (m n : NumberMap ℕ) (k : ℕ) (d : Certificate)

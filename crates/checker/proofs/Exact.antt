@@ -9,8 +9,7 @@ use Rattle.model.specs.declared.AnyReply.{AnyReply}
 use Rattle.model.specs.Objects.{Content, empty}
 use Rattle.model.specs.Orders.{Call, Return, ReturnsBefore, RepliesAlong, IsValidOrder}
 use Rattle.model.specs.Lists.{In}
-use Rattle.model.proofs.Lists.{Pairs, in_map, in_map_from, in_from_contains, contains_from_in, all_at}
-use Rattle.model.proofs.Lists.{pairs_from_all}
+use Rattle.model.proofs.Lists.{Pairs, in_map, in_map_from, in_from_contains, contains_from_in, all_at, pairs_from_all}
 use Rattle.checker.specs.declared.refusal.OrderFault.{OrderFault}
 use Rattle.checker.specs.declared.refusal.OrderFault.TheVariants.{Omitted}
 use Rattle.checker.specs.Faults.{call_with_number, IsFirstFault}

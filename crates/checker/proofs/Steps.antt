@@ -13,8 +13,7 @@ use Rattle.model.specs.declared.Kind.{Kind}
 use Rattle.model.specs.Objects.{Content, kind_with}
 use Rattle.model.specs.Orders.{Call, Return}
 use Rattle.model.specs.Lists.{In}
-use Rattle.model.proofs.Lists.{in_append, in_from_contains, contains_from_in, all_from_in, all_at, in_left}
-use Rattle.model.proofs.Lists.{in_right}
+use Rattle.model.proofs.Lists.{in_append, in_from_contains, contains_from_in, all_from_in, all_at, in_left, in_right}
 use Rattle.events.specs.declared.operations.End.{End}
 use Rattle.events.specs.declared.operations.End.TheVariants.{Failed}
 use Rattle.events.specs.declared.operations.Invocation.{Invocation}

@@ -4,8 +4,7 @@ ghost use Rattle.std.specs.Prelude.{◌≡◌, ◌<◌, ◌≤◌, [], length, m
 ghost use Rattle.std.specs.Prelude.{vec_capacity};
 ghost use Rattle.model.specs.Objects.{empty, kind_with};
 ghost use Rattle.clients.specs.Made.{HasWorked, IsNew, IsDeskFor, IsDone, ClosedBy, IsRunRecord};
-ghost use Rattle.clients.specs.Made.{HaveTold};
-ghost use Rattle.clients.specs.Made.{AreNew};
+ghost use Rattle.clients.specs.Made.{HaveTold, AreNew};
 
 use crate::Workload;
 use crate::log_room::reserve_logs;
@@ -28,7 +27,7 @@ pub enum RunFault {
 }
 
 impl From<AllocError> for RunFault {
-    ghost use Rattle.clients.specs.declared.run.RunFault.TheVariants.{NoMemory};
+    ghost use Rattle.clients.specs.declared.run.RunFault.TheVariants.{NoMemory, NoThread};
 
     ghost from_gives = { λ _ e. e ≡ NoMemory };
 
@@ -38,8 +37,6 @@ impl From<AllocError> for RunFault {
 }
 
 impl<F: Drop> From<SpawnError<F>> for RunFault {
-    ghost use Rattle.clients.specs.declared.run.RunFault.TheVariants.{NoThread};
-
     ghost from_gives = { λ _ e. e ≡ NoThread };
 
     fn from(_refused: SpawnError<F>) -> RunFault {

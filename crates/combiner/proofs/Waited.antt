@@ -4,8 +4,7 @@ use Rattle.std.proofs.Common.{◌≡◌, ℕ, ◌+◌, ◌<◌, [], ◌∷◌, �
 use Rattle.std.proofs.Common.{append_assoc}
 use Rattle.model.specs.declared.AnyOp.{AnyOp}
 use Rattle.desk_model.specs.World.{AnyEntry, AnyRequest, AnyAnswer, kind_at, logged, entries_of_client, served}
-use Rattle.desk_model.specs.World.{journal_of}
-use Rattle.desk_model.specs.World.{IsLegalLog, StartsWith}
+use Rattle.desk_model.specs.World.{journal_of, IsLegalLog, StartsWith}
 use Rattle.desk_model.proofs.Entries.{starts_longer}
 use Rattle.desk_model.specs.declared.JournalEvent.TheVariants.{Invoked, Returned}
 use Rattle.desk_invariant.specs.declared.board.DeskView.{DeskView}

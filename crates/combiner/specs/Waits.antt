@@ -2,8 +2,7 @@
 use Rattle.std.specs.Prelude.{◌≡◌, ℕ, ◌+◌, ◌<◌, [], ◌∷◌, ◌++◌, length, All}
 use Rattle.model.specs.declared.AnyOp.{AnyOp}
 use Rattle.desk_model.specs.World.{AnyRequest, AnyAnswer, kind_at, logged, entries_of_client}
-use Rattle.desk_model.specs.World.{served}
-use Rattle.desk_model.specs.World.{IsLegalLog, StartsWith}
+use Rattle.desk_model.specs.World.{served, IsLegalLog, StartsWith}
 use Rattle.desk_model.specs.declared.JournalEvent.TheVariants.{Invoked, Returned}
 use Rattle.desk_invariant.specs.declared.board.Own.TheVariants as own
 use Rattle.desk_invariant.specs.declared.board.DeskView.{DeskView}

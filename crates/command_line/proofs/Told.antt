@@ -1,8 +1,7 @@
 -- What clap is told, argument by argument and command by command. Each step takes the first of the
 -- rows that are left, and adds its rule or its shape.
-use Rattle.std.proofs.Common.{◌≡◌, ◌∙◌, ◌<◌, ◌+◌, ◌||◌, ℕ, Bool, true, false, cond, List, ◌∷◌, Some, length, drop}
-use Rattle.std.proofs.Common.{map, get_or}
-use Rattle.std.proofs.Common.{refl, sym, ap, subst}
+use Rattle.std.proofs.Common.{◌≡◌, ◌∙◌, ◌<◌, ◌+◌, ◌||◌, ℕ, Bool, true, false, cond, List, ◌∷◌, Some, length, drop, map}
+use Rattle.std.proofs.Common.{get_or, refl, sym, ap, subst}
 use Rattle.std.specs.Prelude.{find}
 use Rattle.std.proofs.lemmas.List.{at_drop_more}
 use Rattle.clap.specs.Built.{AddsArg, AddsSubcommand}

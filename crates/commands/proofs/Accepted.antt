@@ -1,6 +1,5 @@
 -- The output for a sound record is a yes, except where an allocation fails.
-use Rattle.std.proofs.Common.{arith}
-use Rattle.std.proofs.Common.{◌≡◌, ◌≢◌, ◌∙◌, ℕ, List, [], ◌++◌, true, inl, inr, refl, sym, ap, append_assoc}
+use Rattle.std.proofs.Common.{arith, ◌≡◌, ◌≢◌, ◌∙◌, ℕ, List, [], ◌++◌, true, inl, inr, refl, sym, ap, append_assoc}
 use Rattle.model.specs.declared.Kind.{Kind}
 use Rattle.desk_model.specs.World.{AnyEntry, AnyEvent}
 use Rattle.desk_model.specs.Records.{IsSoundRecord}
@@ -15,8 +14,7 @@ use Rattle.history_commands.specs.declared.status.Status.{Status}
 use Rattle.history_commands.specs.declared.status.Status.TheVariants as status_is
 use Rattle.history_commands.specs.Comments.{comment_lines}
 use Rattle.commands.specs.Runs.{IsAcceptedOutput, IsAcceptedRun, IsReported, IsRunOutput, HasSoundRecord, Says}
-use Rattle.commands.specs.Runs.{journals_of}
-use Rattle.commands.specs.Runs.{logs_of, work_of}
+use Rattle.commands.specs.Runs.{journals_of, logs_of, work_of}
 use Rattle.commands.proofs.Reports.{sound_as_it_is}
 
 module _ (kinds : List Kind) (quota : ℕ) (journals : ℕ → List AnyEvent) (logs : ℕ → List AnyEntry) (between : List ℕ)

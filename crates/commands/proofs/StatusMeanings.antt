@@ -1,10 +1,8 @@
 -- What the exit status of a command says of the history in its first file, by the status of its output: the number 0 is
 -- that of a yes alone, and 1 that of a no alone.
-use Rattle.std.proofs.Common.{◌≡◌, ◌≢◌, ◌∙◌, ℕ, true, List, Option, inl, inr, sym, refl}
-use Rattle.std.proofs.Common.{Bool}
+use Rattle.std.proofs.Common.{◌≡◌, ◌≢◌, ◌∙◌, ℕ, true, List, Option, inl, inr, sym, refl, Bool}
 use Rattle.command_line.specs.declared.asking.Line.{Line}
-use Rattle.command_line.specs.declared.asking.Line.TheVariants.{Check, Search, Refute, Verify, Run, Simulate}
-use Rattle.command_line.specs.declared.asking.Line.TheVariants.{OnFolder}
+use Rattle.command_line.specs.declared.asking.Line.TheVariants.{Check, Search, Refute, Verify, Run, Simulate, OnFolder}
 use Rattle.judging.specs.Checks.{IsLinearizableRead, IsNotLinearizableRead}
 use Rattle.history_commands.specs.Outputs.{status_number}
 use Rattle.history_commands.specs.declared.status.Status.{Status}

@@ -8,8 +8,7 @@ ghost use Rattle.checker.specs.Refusals.{AreValid};
 ghost use Rattle.judging.specs.Verdicts.{IsYesUnlessMemory, SaysOfCertificates};
 ghost use Rattle.history_commands.specs.Comments.{comment_lines};
 ghost use Rattle.commands.specs.Runs.{IsReported, IsRunResult, IsTextOf, Says, journals_of};
-ghost use Rattle.commands.specs.Runs.{logs_of};
-ghost use Rattle.commands.specs.Runs.{work_of};
+ghost use Rattle.commands.specs.Runs.{logs_of, work_of};
 ghost use Rattle.clients.specs.Made.{IsRunRecord};
 
 use certificate::Certificate;

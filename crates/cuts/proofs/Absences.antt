@@ -1,28 +1,24 @@
 -- Where a value definitely is not in an object before some number, an order is valid without what was done with it
 -- before: along the order the part contains all other values, and the balance of this one holds (`Conserved`).
 use Rattle.std.proofs.Common.{rules, ◌≡◌, ◌≢◌, ◌⊎◌, inl, inr, ℕ, ℤ, pos, ◌<◌, ◌≤◌, ◌+◌, nat_lt, Bool, true, false, not}
-use Rattle.std.proofs.Common.{◌&&◌, ◌||◌, cond, List, [], ◌∷◌, ◌++◌}
-use Rattle.std.proofs.Common.{Option, Some, None, AllPairs, Contains, IfSome, IsSome, length, map, filter, refl, ap}
-use Rattle.std.proofs.Common.{sym, ◌∙◌, subst, arith}
+use Rattle.std.proofs.Common.{◌&&◌, ◌||◌, cond, List, [], ◌∷◌, ◌++◌, Option, Some, None, AllPairs, Contains, IfSome}
+use Rattle.std.proofs.Common.{IsSome, length, map, filter, refl, ap, sym, ◌∙◌, subst, arith}
 use Rattle.std.proofs.lemmas.Bool.Decides.{nat_tests}
 use Rattle.std.specs.Ordering.{int_eq}
 use Rattle.model.specs.declared.Kind.{Kind}
 use Rattle.model.specs.declared.AnyOp.{AnyOp}
 use Rattle.model.specs.declared.AnyOp.TheVariants.{Enqueue, Dequeue, Push, Pop, Insert, ExtractMin}
 use Rattle.model.specs.declared.AnyReply.{AnyReply}
-use Rattle.model.specs.Objects.{Content, queue, stack, heap, empty}
-use Rattle.model.specs.Objects.{with_value, next}
+use Rattle.model.specs.Objects.{Content, queue, stack, heap, empty, with_value, next}
 use Rattle.model.specs.Orders.{Call, Return, ReturnsBefore, RepliesAlong, IsValidOrder}
 use Rattle.model.specs.Lists.{In}
 use Rattle.model.proofs.Lists.{Pairs, in_filter, in_filter_passes, in_filter_from, filter_all, pairs_filter}
-use Rattle.model.proofs.Lists.{contains_from_in, all_from_in}
-use Rattle.model.proofs.Lists.{all_from_pairs, pairs_map}
+use Rattle.model.proofs.Lists.{contains_from_in, all_from_in, all_from_pairs, pairs_map}
 use Rattle.cuts.specs.Parts.{reply_of, takes_out, ended_before}
 use Rattle.cuts.specs.Kinds.Containers.{puts_in}
 use Rattle.cuts.specs.Absent.{is_put_before, is_taken_before, IsAbsent, calls_without}
 use Rattle.cuts.proofs.Ordered.{calls_apart, in_calls, in_entries, named_apart, entries_apart, in_time_order}
-use Rattle.cuts.proofs.Conserved.{one, tally, count_tally, kept_size, size_empty, turn, Turn}
-use Rattle.cuts.proofs.Conserved.{count_among}
+use Rattle.cuts.proofs.Conserved.{one, tally, count_tally, kept_size, size_empty, turn, Turn, count_among}
 use Rattle.cuts.proofs.Contents.{IsRising, filter_in, filter_out, after_in, after_out, with_value_in}
 use Rattle.cuts.proofs.Contents.{with_value_out, rising_with_value}
 use Rattle.std.proofs.lemmas.Bool.{or_parts}

@@ -1,9 +1,8 @@
 -- What definitely was ahead of what a removal found was taken out before it: the order is split at the removal, and
 -- counts of its front are compared. A queue and a stack that gave a value have cases of their own (`InFront`).
-use Rattle.std.proofs.Common.{◌≡◌, ◌≢◌, ◌⊎◌, inl, inr, ℕ, ℤ, ◌<◌, ◌≤◌, ◌==◌, nat_lt, min}
-use Rattle.std.proofs.Common.{Bool, true, false, not, ◌&&◌, ◌||◌, cond, List, [], ◌∷◌, ◌++◌, Option}
-use Rattle.std.proofs.Common.{Some, None, All, AllPairs, Contains, IfSome, IsSome, count_by, refl}
-use Rattle.std.proofs.Common.{ap, sym, ◌∙◌, subst, arith}
+use Rattle.std.proofs.Common.{◌≡◌, ◌≢◌, ◌⊎◌, inl, inr, ℕ, ℤ, ◌<◌, ◌≤◌, ◌==◌, nat_lt, min, Bool, true, false, not, ◌&&◌}
+use Rattle.std.proofs.Common.{◌||◌, cond, List, [], ◌∷◌, ◌++◌, Option, Some, None, All, AllPairs, Contains, IfSome}
+use Rattle.std.proofs.Common.{IsSome, count_by, refl, ap, sym, ◌∙◌, subst, arith}
 use Rattle.std.proofs.lemmas.Bool.Decides.{nat_tests}
 use Rattle.std.proofs.lemmas.Option.{same_Some}
 use Rattle.std.specs.Ordering.{int_eq}
@@ -20,18 +19,14 @@ use Rattle.model.specs.Lists.{In}
 use Rattle.model.proofs.Lists.{Pairs, in_append, in_left, in_split, in_from_contains, all_at}
 use Rattle.model.proofs.Lists.{pairs_from_all, pairs_weaker}
 use Rattle.cuts.specs.Parts.{ended_before}
-use Rattle.cuts.specs.Kinds.Containers.{puts_in, is_removal}
-use Rattle.cuts.specs.Ahead.{found_in, found_by, first_put, ahead_before}
-use Rattle.cuts.specs.Kinds.Containers.{is_value_ahead}
-use Rattle.cuts.specs.Ahead.{is_settled, is_put_ahead, may_precede}
+use Rattle.cuts.specs.Kinds.Containers.{puts_in, is_removal, is_value_ahead}
+use Rattle.cuts.specs.Ahead.{found_in, found_by, first_put, ahead_before, is_settled, is_put_ahead, may_precede}
 use Rattle.cuts.proofs.Ordered.{calls_apart, in_calls, in_entries, numbers_apart, in_time_order}
 use Rattle.cuts.proofs.Conserved.{tally, count_tally, tally_le, count_among}
 use Rattle.std.proofs.lemmas.Bool.{and_from}
-use Rattle.cuts.proofs.Emptied.{pairs_front, pairs_to}
-use Rattle.cuts.proofs.Emptied.{pairs_beyond, put_by, may_by, spent}
-use Rattle.cuts.proofs.InFront.{every, queue_spent, until_put, fresh_until, in_until}
-use Rattle.cuts.proofs.InFront.{first_least, stack_spent, since_put, since_none, since_along}
-use Rattle.cuts.proofs.InFront.{since_tally, in_since}
+use Rattle.cuts.proofs.Emptied.{pairs_front, pairs_to, pairs_beyond, put_by, may_by, spent}
+use Rattle.cuts.proofs.InFront.{every, queue_spent, until_put, fresh_until, in_until, first_least, stack_spent}
+use Rattle.cuts.proofs.InFront.{since_put, since_none, since_along, since_tally, in_since}
 use Rattle.cuts.proofs.Booleans.{each_passes, false_is_not_true, both_true}
 
 -- ---- the calls, and those in an order

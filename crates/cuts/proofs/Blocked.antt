@@ -13,19 +13,16 @@ use Rattle.model.specs.Objects.{kind_of}
 use Rattle.model.specs.Orders.{Call, HasNoValidOrder}
 use Rattle.model.proofs.Lists.{in_from_contains, contains_from_in, all_at, all_from_in, pairs_from_all}
 use Rattle.cuts.specs.Parts.{ended_before}
-use Rattle.cuts.specs.Kinds.Containers.{puts_in}
+use Rattle.cuts.specs.Kinds.Containers.{puts_in, is_value_ahead}
 use Rattle.events.specs.declared.operations.End.{End}
 use Rattle.events.specs.declared.operations.Invocation.{Invocation}
 use Rattle.events.specs.Operations.{call_with, call_of, calls_of, return_of, ObjectCalls, IsObjectHistory}
-use Rattle.cuts.specs.CutOperations.{is_put, is_over, op_found, op_first_put, op_ahead_before}
-use Rattle.cuts.specs.CutOperations.{op_is_settled, are_settled, op_is_put_ahead, op_may_take}
-use Rattle.cuts.specs.CutOperations.{op_may_precede, IsRemoval}
+use Rattle.cuts.specs.CutOperations.{is_put, is_over, op_found, op_first_put, op_ahead_before, op_is_settled}
+use Rattle.cuts.specs.CutOperations.{are_settled, op_is_put_ahead, op_may_take, op_may_precede, IsRemoval}
 use Rattle.cuts.proofs.CutOperations.{rising_calls, calls_end, call_cases}
 use Rattle.cuts.proofs.Sequences.{in_filter_map, in_filter_map_from, one_number}
 use Rattle.cuts.proofs.CountedCalls.{passes, count_calls}
-use Rattle.cuts.specs.Ahead.{found_by, first_put, ahead_before, is_settled}
-use Rattle.cuts.specs.Kinds.Containers.{is_value_ahead}
-use Rattle.cuts.specs.Ahead.{is_put_ahead, may_precede, IsBlocked}
+use Rattle.cuts.specs.Ahead.{found_by, first_put, ahead_before, is_settled, is_put_ahead, may_precede, IsBlocked}
 use Rattle.cuts.proofs.Ahead.{pair_first, ahead_bounded}
 use Rattle.cuts.proofs.Booleans.{false_is_not_true}
 

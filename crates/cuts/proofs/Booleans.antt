@@ -1,8 +1,7 @@
 -- What tests decide: the cases of a test, and what follows where one gives true. These are stated once
 -- here for all proofs of the crate, and each is immediate.
-use Rattle.std.proofs.Common.{◌≡◌, ◌⊎◌, inl, inr, ◌<◌, ◌&&◌, ℕ, nat_lt, Bool, true, false, Option, Some}
-use Rattle.std.proofs.Common.{None, IfSome, refl, arith}
-use Rattle.std.proofs.Common.{ap, ◌∙◌, List, [], ◌∷◌}
+use Rattle.std.proofs.Common.{◌≡◌, ◌⊎◌, inl, inr, ◌<◌, ◌&&◌, ℕ, nat_lt, Bool, true, false, Option, Some, None, IfSome}
+use Rattle.std.proofs.Common.{refl, arith, ap, ◌∙◌, List, [], ◌∷◌}
 use Rattle.std.specs.List.{list_all}
 use Rattle.model.specs.Lists.{In}
 use Rattle.std.specs.Prelude.{ℤ}

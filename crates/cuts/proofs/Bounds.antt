@@ -1,10 +1,8 @@
 -- A content is taken away no more often than it was there before and was set: each step keeps the balance, by cases of
 -- the operations, and the steps of an order are added up.
-use Rattle.std.proofs.Common.{rules, ◌≡◌, inl, inr, ℕ, ℤ, ◌<◌, ◌≤◌, ◌+◌, ◌==◌, nat_lt, Bool}
-use Rattle.std.proofs.Common.{true, false, not, ◌&&◌, cond}
-use Rattle.std.proofs.Common.{List, [], ◌∷◌, length, Option, Some, None, All, AllPairs, IfSome, IsSome}
-use Rattle.std.proofs.Common.{filter, refl, ap}
-use Rattle.std.proofs.Common.{sym, ◌∙◌, subst, arith}
+use Rattle.std.proofs.Common.{rules, ◌≡◌, inl, inr, ℕ, ℤ, ◌<◌, ◌≤◌, ◌+◌, ◌==◌, nat_lt, Bool, true, false, not, ◌&&◌}
+use Rattle.std.proofs.Common.{cond, List, [], ◌∷◌, length, Option, Some, None, All, AllPairs, IfSome, IsSome, filter}
+use Rattle.std.proofs.Common.{refl, ap, sym, ◌∙◌, subst, arith}
 use Rattle.std.specs.Prelude.{is_none}
 use Rattle.std.proofs.lemmas.Int.{ints}
 use Rattle.std.proofs.lemmas.Bool.{eqb-true, and_from}
@@ -19,8 +17,7 @@ use Rattle.model.specs.declared.AnyReply.{AnyReply}
 use Rattle.model.specs.declared.AnyReply.TheVariants as reply
 use Rattle.model.specs.Objects as objects
 use Rattle.model.specs.Objects.{Content, queue, stack, heap, register, table, mutex, elements, owner, empty}
-use Rattle.model.specs.Objects.{contains_value, next}
-use Rattle.model.specs.Objects.{inserted_if, is_absent, has_value}
+use Rattle.model.specs.Objects.{contains_value, next, inserted_if, is_absent, has_value}
 use Rattle.model.specs.Orders.{Call, Return, ReturnsBefore, RepliesAlong, IsValidOrder}
 use Rattle.model.specs.Lists.{In}
 use Rattle.model.proofs.Lists.{Pairs, all_at}

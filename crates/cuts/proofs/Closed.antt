@@ -4,12 +4,10 @@ use Rattle.std.proofs.Common.{filter, All, AllPairs, Contains, IsSome, refl, ari
 use Rattle.model.specs.declared.Kind.{Kind}
 use Rattle.model.specs.Objects.{empty, kind_of}
 use Rattle.model.specs.Orders.{Call, ReturnsBefore, IsValidOrder}
-use Rattle.model.proofs.Lists.{in_filter, in_filter_passes, in_filter_from}
-use Rattle.model.proofs.Lists.{contains_from_in, all_from_in, all_at}
+use Rattle.model.proofs.Lists.{in_filter, in_filter_passes, in_filter_from, contains_from_in, all_from_in, all_at}
 use Rattle.model.proofs.Lists.{all_from_pairs, pairs_from_all, pairs_map, pairs_weaker}
 use Rattle.model.proofs.Orders.{same_pos}
-use Rattle.cuts.specs.Parts.{reply_of, is_pending_removal, put_count, taken_count, pending_before, IsClosed}
-use Rattle.cuts.specs.Parts.{kept_calls}
+use Rattle.cuts.specs.Parts.{reply_of, is_pending_removal, put_count, taken_count, pending_before, IsClosed, kept_calls}
 use Rattle.cuts.specs.Kinds.Keeping.{fits}
 use Rattle.cuts.proofs.Ordered.{in_calls, in_entries, numbers_apart, in_time_order}
 use Rattle.cuts.proofs.Contents.{empty_shadow}

@@ -1,15 +1,13 @@
 -- How many kept values are put in and taken out along calls: each step keeps the balance with what is contained, by
 -- cases of the operations, and the calls of an order are counted among those of the history.
-use Rattle.std.proofs.Common.{rules, ◌≡◌, ◌≢◌, inl, inr, ℕ, ℤ, ◌<◌, ◌≤◌, ◌+◌, Bool, true, false, ◌&&◌, cond}
-use Rattle.std.proofs.Common.{List, [], ◌∷◌, ◌++◌, length}
-use Rattle.std.proofs.Common.{Option, Some, None, AllPairs, IfSome, IsSome, is_some, filter, count_by}
-use Rattle.std.proofs.Common.{refl, ap, sym, ◌∙◌, subst, arith}
+use Rattle.std.proofs.Common.{rules, ◌≡◌, ◌≢◌, inl, inr, ℕ, ℤ, ◌<◌, ◌≤◌, ◌+◌, Bool, true, false, ◌&&◌, cond, List, []}
+use Rattle.std.proofs.Common.{◌∷◌, ◌++◌, length, Option, Some, None, AllPairs, IfSome, IsSome, is_some, filter}
+use Rattle.std.proofs.Common.{count_by, refl, ap, sym, ◌∙◌, subst, arith}
 use Rattle.std.proofs.lemmas.List.Recursion.{is_count_by}
 use Rattle.model.specs.declared.Kind.{Kind}
 use Rattle.model.specs.declared.AnyOp.{AnyOp}
 use Rattle.model.specs.declared.AnyReply.{AnyReply}
-use Rattle.model.specs.Objects.{Content, queue, stack, heap, empty}
-use Rattle.model.specs.Objects.{with_value, next}
+use Rattle.model.specs.Objects.{Content, queue, stack, heap, empty, with_value, next}
 use Rattle.model.specs.Orders.{Call, Return, RepliesAlong, IsValidOrder}
 use Rattle.model.specs.Lists.{In}
 use Rattle.model.proofs.Lists.{Pairs, in_append, in_left, in_right, in_split}

@@ -18,8 +18,7 @@ use Rattle.model.specs.declared.AnyOp.TheVariants.{FetchAdd, GetCount, LockBy, U
 use Rattle.model.specs.declared.AnyReply.{AnyReply}
 use Rattle.model.specs.declared.AnyReply.TheVariants.{Value, Swapped, NotSwapped, Flag}
 use Rattle.model.specs.Objects.{Content, queue, stack, heap, register, table, mutex, elements, count, owner, empty}
-use Rattle.model.specs.Objects.{with_value, contains_value, next}
-use Rattle.model.specs.Objects.{inserted_if, is_absent, has_value}
+use Rattle.model.specs.Objects.{with_value, contains_value, next, inserted_if, is_absent, has_value}
 use Rattle.model.specs.Lists.{In}
 use Rattle.model.proofs.Lists.{Pairs, in_filter}
 use Rattle.cuts.specs.Kinds.Keeping.{is_same, fits, fits_removal, fits_read, fits_cas, fits_create, fits_del}

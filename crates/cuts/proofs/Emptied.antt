@@ -1,8 +1,7 @@
 -- What is put in before a removal that finds nothing, or the least value of a heap, is taken out before it: the balance
 -- of `Conserved` holds along the calls before it, and where they end the object contains none of these values.
-use Rattle.std.proofs.Common.{rules, ◌≡◌, inl, inr, ℤ, ◌≤◌, ◌≤ℤ◌, ◌+◌, int_lt, Bool, true, false}
-use Rattle.std.proofs.Common.{List, [], ◌∷◌, ◌++◌, length, Option, Some, None, IfSome, filter}
-use Rattle.std.proofs.Common.{refl, sym, ◌∙◌, subst, arith}
+use Rattle.std.proofs.Common.{rules, ◌≡◌, inl, inr, ℤ, ◌≤◌, ◌≤ℤ◌, ◌+◌, int_lt, Bool, true, false, List, [], ◌∷◌, ◌++◌}
+use Rattle.std.proofs.Common.{length, Option, Some, None, IfSome, filter, refl, sym, ◌∙◌, subst, arith}
 use Rattle.std.proofs.lemmas.Int.{ints}
 use Rattle.std.proofs.lemmas.Option.{same_Some}
 use Rattle.model.specs.declared.Kind.{Kind}
@@ -10,15 +9,13 @@ use Rattle.model.specs.declared.AnyOp.{AnyOp}
 use Rattle.model.specs.declared.AnyOp.TheVariants.{Dequeue, Pop, Insert, ExtractMin}
 use Rattle.model.specs.declared.AnyReply.{AnyReply}
 use Rattle.model.specs.declared.AnyReply.TheVariants.{Value}
-use Rattle.model.specs.Objects.{Content, heap}
-use Rattle.model.specs.Objects.{empty, next}
+use Rattle.model.specs.Objects.{Content, heap, empty, next}
 use Rattle.model.specs.Orders.{Call, Return, RepliesAlong}
 use Rattle.model.specs.Lists.{In}
 use Rattle.model.proofs.Lists.{Pairs, in_left, in_middle}
 use Rattle.cuts.specs.Parts.{reply_of, takes_out}
-use Rattle.cuts.specs.Kinds.Containers.{puts_in, is_removal}
+use Rattle.cuts.specs.Kinds.Containers.{puts_in, is_removal, is_value_ahead}
 use Rattle.cuts.specs.Ahead.{may_take}
-use Rattle.cuts.specs.Kinds.Containers.{is_value_ahead}
 use Rattle.cuts.proofs.Contents.{IsRising, rising_with_value}
 use Rattle.cuts.proofs.Conserved.{one, tally, kept_size, size_empty, turn}
 

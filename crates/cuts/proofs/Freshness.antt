@@ -9,15 +9,13 @@ use Rattle.std.specs.FinSet as set
 use Rattle.model.specs.declared.Kind.{Kind}
 use Rattle.model.specs.declared.Kind.TheVariants.{Counter}
 use Rattle.model.specs.declared.AnyOp.{AnyOp}
-use Rattle.model.specs.declared.AnyOp.TheVariants.{Dequeue, Pop, ExtractMin, Write, Read}
-use Rattle.model.specs.declared.AnyOp.TheVariants.{Cas, Put, Get, Del, Acquire, Release}
-use Rattle.model.specs.declared.AnyOp.TheVariants.{Clear, Create, PutIfAbsent, Replace, Assoc, Dissoc, Add, Remove, Has}
-use Rattle.model.specs.declared.AnyOp.TheVariants.{FetchAdd, GetCount, LockBy, UnlockBy}
+use Rattle.model.specs.declared.AnyOp.TheVariants.{Dequeue, Pop, ExtractMin, Write, Read, Cas, Put, Get, Del, Acquire}
+use Rattle.model.specs.declared.AnyOp.TheVariants.{Release, Clear, Create, PutIfAbsent, Replace, Assoc, Dissoc, Add}
+use Rattle.model.specs.declared.AnyOp.TheVariants.{Remove, Has, FetchAdd, GetCount, LockBy, UnlockBy}
 use Rattle.model.specs.declared.AnyReply.{AnyReply}
 use Rattle.model.specs.declared.AnyReply.TheVariants.{Value, Swapped, NotSwapped, Flag}
 use Rattle.model.specs.Objects.{kind_of, Content, queue, stack, heap, register, table, mutex, elements, count, owner}
-use Rattle.model.specs.Objects.{empty, contains_value, next}
-use Rattle.model.specs.Objects.{inserted_if, is_absent, has_value, is_i64}
+use Rattle.model.specs.Objects.{empty, contains_value, next, inserted_if, is_absent, has_value, is_i64}
 use Rattle.cuts.specs.Kinds.Keeping.{fits}
 use Rattle.cuts.specs.Kinds.Starts.{key_of, leaves, leaves_count}
 use Rattle.cuts.proofs.Contents.{IsShadow}

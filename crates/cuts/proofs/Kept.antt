@@ -1,9 +1,8 @@
 -- Closed projections: the checks of `keeping.rt` establish that the part is closed. What they count over operations is
 -- counted over calls, and what they find first is found by induction over the operations.
-use Rattle.std.proofs.Common.{rules, ◌≡◌, ◌≢◌, not, inl, inr, zero, ℕ, ℤ, ◌<◌, ◌≤◌, ◌+◌, ◌-◌, ◌==◌, nat_lt, Bool}
-use Rattle.std.proofs.Common.{true, false, ◌&&◌, ◌||◌, cond, List, [], ◌∷◌}
-use Rattle.std.proofs.Common.{Option, Some, None, AllPairs, count_by, filter, length, get_or, drop, refl, ap, sym}
-use Rattle.std.proofs.Common.{◌∙◌, subst, arith}
+use Rattle.std.proofs.Common.{rules, ◌≡◌, ◌≢◌, not, inl, inr, zero, ℕ, ℤ, ◌<◌, ◌≤◌, ◌+◌, ◌-◌, ◌==◌, nat_lt, Bool, true}
+use Rattle.std.proofs.Common.{false, ◌&&◌, ◌||◌, cond, List, [], ◌∷◌, Option, Some, None, AllPairs, count_by, filter}
+use Rattle.std.proofs.Common.{length, get_or, drop, refl, ap, sym, ◌∙◌, subst, arith}
 use Rattle.std.specs.List.{filter_map, list_all}
 use Rattle.std.proofs.Math.Seq.{drop-cons}
 use Rattle.std.proofs.lemmas.Bool.Decides.{nat_tests}
@@ -23,8 +22,7 @@ use Rattle.cuts.specs.Kinds.Containers.{puts_in}
 use Rattle.cuts.specs.declared.keeping.Values.{Values}
 use Rattle.cuts.specs.declared.keeping.Values.TheVariants as values
 use Rattle.cuts.specs.Cuts.{keeps_all, keeps_value, IsPart, NoneFailed}
-use Rattle.cuts.specs.CutOperations.{has_failed, op_fits, is_kept_call, is_put, is_taken, is_open_removal}
-use Rattle.cuts.specs.CutOperations.{keeps_first}
+use Rattle.cuts.specs.CutOperations.{has_failed, op_fits, is_kept_call, is_put, is_taken, is_open_removal, keeps_first}
 use Rattle.cuts.proofs.Conserved.{one, tally, count_tally, and_false}
 use Rattle.cuts.proofs.Closed.{projection_valid}
 use Rattle.cuts.proofs.Sequences.{in_filter_map_from}

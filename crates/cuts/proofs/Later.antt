@@ -17,9 +17,8 @@ use Rattle.events.specs.declared.operations.End.{End}
 use Rattle.events.specs.declared.operations.End.TheVariants.{Returned, Pending, Failed}
 use Rattle.events.specs.declared.operations.Invocation.{Invocation}
 use Rattle.events.specs.Operations.{call_with, call_of, calls_of, return_of, ObjectCalls, IsObjectHistory}
-use Rattle.cuts.specs.Parts.{IsStart, written_before}
+use Rattle.cuts.specs.Parts.{IsStart, written_before, call_from, calls_from}
 use Rattle.cuts.specs.Kinds.Starts.{leaves, key_of}
-use Rattle.cuts.specs.Parts.{call_from, calls_from}
 use Rattle.cuts.specs.Cuts.{IsPart, IsSuffix}
 use Rattle.cuts.specs.CutOperations.{has_failed, IsOnKey, is_over, as_returned, as_write, as_pending}
 use Rattle.cuts.specs.CutOperations.{overlapping_operation, operation_later, operation_from}

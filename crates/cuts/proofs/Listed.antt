@@ -16,9 +16,8 @@ use Rattle.model.specs.Orders.{Call, Return, ReturnsBefore, IsValidOrder}
 use Rattle.model.proofs.Orders.{returned_some}
 use Rattle.model.specs.Lists.{In}
 use Rattle.model.proofs.Lists.{in_filter, in_filter_passes, in_filter_from, in_map, in_map_from, filter_same}
-use Rattle.model.proofs.Lists.{filter_all, filter-filter}
-use Rattle.model.proofs.Lists.{in_from_contains, contains_from_in, all_from_in, all_at, all_from_pairs}
-use Rattle.model.proofs.Lists.{pairs_from_all, pairs_map, pairs_weaker}
+use Rattle.model.proofs.Lists.{filter_all, filter-filter, in_from_contains, contains_from_in, all_from_in, all_at}
+use Rattle.model.proofs.Lists.{all_from_pairs, pairs_from_all, pairs_map, pairs_weaker}
 use Rattle.cuts.specs.declared.cutting.Cut.{Cut}
 use Rattle.cuts.specs.declared.cutting.Cut.TheVariants.{From, Until, Without, Keep, Cell, Entry}
 use Rattle.cuts.specs.Parts.{IsStart, pending_call, call_later}

@@ -7,8 +7,7 @@ use Rattle.model.specs.declared.AnyReply.{AnyReply}
 use Rattle.model.specs.Objects.{Content, empty, next}
 use Rattle.model.specs.Orders.{Call, Return, ReturnsBefore, RepliesAlong, IsValidOrder}
 use Rattle.model.specs.Lists.{In}
-use Rattle.model.proofs.Lists.{contains_from_in, all_from_in, all_from_pairs}
-use Rattle.model.proofs.Lists.{pairs_map}
+use Rattle.model.proofs.Lists.{contains_from_in, all_from_in, all_from_pairs, pairs_map}
 use Rattle.cuts.proofs.Ordered.{in_calls, in_entries, named_apart, in_time_order}
 use Rattle.cuts.proofs.Simulation.{pick, in_pick, pairs_pick}
 use Rattle.cuts.proofs.Sequences.{in_filter_map, in_filter_map_from, pairs_filter_map}

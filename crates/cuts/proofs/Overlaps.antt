@@ -8,13 +8,10 @@ use Rattle.std.proofs.lemmas.Option.{same_Some}
 use Rattle.model.specs.declared.Kind.{Kind}
 use Rattle.model.specs.declared.Kind.TheVariants.{Register}
 use Rattle.model.specs.declared.AnyOp.{AnyOp}
-use Rattle.model.specs.declared.AnyOp.TheVariants.{Write, Read}
-use Rattle.model.specs.declared.AnyOp.TheVariants.{Cas}
-use Rattle.model.specs.declared.AnyOp.TheVariants.{Create}
+use Rattle.model.specs.declared.AnyOp.TheVariants.{Write, Read, Cas, Create}
 use Rattle.model.specs.declared.AnyReply.{AnyReply}
 use Rattle.model.specs.declared.AnyReply.TheVariants.{Value, Swapped, Flag}
-use Rattle.model.specs.Objects.{Content, register, empty}
-use Rattle.model.specs.Objects.{next, kind_of}
+use Rattle.model.specs.Objects.{Content, register, empty, next, kind_of}
 use Rattle.model.specs.Orders.{Call, Return, ReturnsBefore, RepliesAlong}
 use Rattle.model.specs.Lists.{In}
 use Rattle.cuts.specs.Parts.{ended_before, written_before, write_call, pending_call, overlapping, call_later}

@@ -2,8 +2,7 @@
 use Rattle.std.proofs.Common.{rules, ◌≡◌, IfSome}
 use Rattle.model.specs.declared.AnyOp.{AnyOp}
 use Rattle.model.specs.declared.AnyReply.{AnyReply}
-use Rattle.model.specs.Objects.{Content}
-use Rattle.model.specs.Objects.{next, kind_of, kind_with}
+use Rattle.model.specs.Objects.{Content, next, kind_of, kind_with}
 
 -- the operation and what it leaves have the kind of this content
 abbrev Same : Content → AnyOp → Content × AnyReply → Type 0

@@ -10,8 +10,7 @@ use Rattle.model.specs.declared.Kind.{Kind}
 use Rattle.model.specs.declared.Kind.TheVariants as kind
 use Rattle.model.specs.declared.AnyOp.{AnyOp}
 use Rattle.model.specs.declared.AnyReply.{AnyReply}
-use Rattle.model.specs.Objects.{Content, register, table, empty}
-use Rattle.model.specs.Objects.{next, kind_of, kind_with}
+use Rattle.model.specs.Objects.{Content, register, table, empty, next, kind_of, kind_with}
 use Rattle.model.specs.Orders.{Call, IsValidOrder}
 use Rattle.model.proofs.Lists.{all_at}
 use Rattle.model.proofs.Objects.{kind_of_empty}
@@ -29,8 +28,7 @@ use Rattle.cuts.specs.Cells.{done_at, opened_at, call_at, calls_at}
 use Rattle.cuts.specs.Cuts.{IsPart}
 use Rattle.cuts.specs.CutOperations.{operation_at}
 use Rattle.cuts.proofs.CutOperations.{IsCutOperationOf, cut_into, cut_calls, cut_lives}
-use Rattle.cuts.proofs.Recasts.{IsInto, DoneOf, OpenOf, Steps, recast_maps, recast_operation, recast_call}
-use Rattle.cuts.proofs.Recasts.{recast_lives}
+use Rattle.cuts.proofs.Recasts.{IsInto, DoneOf, OpenOf, Steps, recast_maps, recast_operation, recast_call, recast_lives}
 use Rattle.cuts.proofs.Mapped.{mapped_valid}
 use Rattle.cuts.proofs.OwnKind.{same_kind}
 use Rattle.cuts.proofs.Booleans.{some_at}

@@ -8,9 +8,8 @@ use Rattle.model.specs.declared.Kind.{Kind}
 use Rattle.model.specs.Objects.{Content, empty}
 use Rattle.model.specs.Orders.{Call, Return, ReturnsBefore, RepliesAlong, IsValidOrder}
 use Rattle.model.specs.Lists.{In}
-use Rattle.model.proofs.Lists.{Pairs, in_filter, in_filter_from, in_map, in_map_from}
-use Rattle.model.proofs.Lists.{contains_from_in, all_from_in, all_at}
-use Rattle.model.proofs.Lists.{all_from_pairs, pairs_weaker, pairs_map}
+use Rattle.model.proofs.Lists.{Pairs, in_filter, in_filter_from, in_map, in_map_from, contains_from_in, all_from_in}
+use Rattle.model.proofs.Lists.{all_at, all_from_pairs, pairs_weaker, pairs_map}
 use Rattle.cuts.specs.Parts.{return_before, call_before, calls_before}
 use Rattle.cuts.proofs.Ordered.{in_calls, in_entries, named_apart, in_time_order}
 use Rattle.cuts.proofs.Booleans.{false_is_not_true}

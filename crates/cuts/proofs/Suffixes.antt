@@ -1,9 +1,8 @@
 -- If it is known what an object contains after some call, the rest of a valid order is a valid order of the suffix
 -- that begins there.
 use Rattle.std.proofs.lemmas.Bool.Decides.{nat_tests}
-use Rattle.std.proofs.Common.{◌≡◌, ◌≢◌, ◌⊎◌, inl, inr, ℕ, ℤ, pos, ◌<◌, Bool, true, false, List}
-use Rattle.std.proofs.Common.{[], ◌∷◌, ◌++◌, Option, Some, None}
-use Rattle.std.proofs.Common.{IfSome, IsSome, is_some, map, All, Contains, refl, ap, sym, ◌∙◌, subst, arith}
+use Rattle.std.proofs.Common.{◌≡◌, ◌≢◌, ◌⊎◌, inl, inr, ℕ, ℤ, pos, ◌<◌, Bool, true, false, List, [], ◌∷◌, ◌++◌, Option}
+use Rattle.std.proofs.Common.{Some, None, IfSome, IsSome, is_some, map, All, Contains, refl, ap, sym, ◌∙◌, subst, arith}
 use Rattle.std.specs.List.{filter_map}
 use Rattle.std.proofs.lemmas.Option.{same_Some}
 use Rattle.model.proofs.Orders.{same_pos}
@@ -16,9 +15,8 @@ use Rattle.model.specs.declared.AnyReply.TheVariants.{Value}
 use Rattle.model.specs.Objects.{Content, empty, next, kind_of}
 use Rattle.model.specs.Orders.{Call, Return, ReturnsBefore, RepliesAlong, IsValidOrder}
 use Rattle.model.specs.Lists.{In}
-use Rattle.model.proofs.Lists.{Pairs, in_append, in_left, in_right, in_split, in_map, in_map_from}
-use Rattle.model.proofs.Lists.{in_from_contains, contains_from_in}
-use Rattle.model.proofs.Lists.{all_from_in, all_at, all_from_pairs, pairs_weaker, pairs_map}
+use Rattle.model.proofs.Lists.{Pairs, in_append, in_left, in_right, in_split, in_map, in_map_from, in_from_contains}
+use Rattle.model.proofs.Lists.{contains_from_in, all_from_in, all_at, all_from_pairs, pairs_weaker, pairs_map}
 use Rattle.model.proofs.Lists.{pairs_append}
 use Rattle.cuts.specs.Parts.{reply_of, IsStart, ended_before, call_later, returned_call, call_from, calls_from}
 use Rattle.cuts.specs.Kinds.Starts.{key_of, leaves}

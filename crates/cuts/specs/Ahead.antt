@@ -1,8 +1,7 @@
 -- What definitely was ahead of what a removal found: these values must have been taken out before
 -- it.
-use Rattle.std.specs.Prelude.{◌≡◌, ◌==◌, ◌<◌, ℕ, ℤ, nat_lt, min, Bool, true, not}
-use Rattle.std.specs.Prelude.{◌&&◌, ◌||◌, List, Contains, count_by, if◌then◌else◌}
-use Rattle.std.specs.Prelude.{Option, Some, None}
+use Rattle.std.specs.Prelude.{◌≡◌, ◌==◌, ◌<◌, ℕ, ℤ, nat_lt, min, Bool, true, not, ◌&&◌, ◌||◌, List}
+use Rattle.std.specs.Prelude.{Contains, count_by, if◌then◌else◌, Option, Some, None}
 use Rattle.std.specs.Option.{option_map_or}
 use Rattle.std.specs.List.{find, list_all}
 use Rattle.std.specs.Ordering.{int_eq}

@@ -4,8 +4,7 @@ use Rattle.std.specs.Prelude.{List, Option, Some, None, count_by, if◌then◌el
 use Rattle.model.specs.declared.Kind.{Kind}
 use Rattle.model.specs.Orders.{Call}
 use Rattle.cuts.specs.declared.counting.Counted.{Counted}
-use Rattle.cuts.specs.declared.counting.Counted.TheVariants.{Value, Entry, NoEntry}
-use Rattle.cuts.specs.declared.counting.Counted.TheVariants.{Held, Free}
+use Rattle.cuts.specs.declared.counting.Counted.TheVariants.{Value, Entry, NoEntry, Held, Free}
 use Rattle.cuts.specs.declared.counting.Count.{Count}
 use Rattle.cuts.specs.Parts.{reply_of, ended_before}
 use Rattle.cuts.specs.Kinds.Counting.{sets, takes, is_single}

@@ -17,8 +17,7 @@ use Rattle.cuts.specs.Parts.{IsClosed, kept_calls, calls_before, IsStart, calls_
 use Rattle.cuts.specs.declared.keeping.Values.{Values}
 use Rattle.cuts.specs.declared.keeping.Values.TheVariants as which
 use Rattle.cuts.specs.declared.cutting.Cut.{Cut}
-use Rattle.cuts.specs.declared.cutting.Cut.TheVariants.{From, Until, Without, Keep}
-use Rattle.cuts.specs.declared.cutting.Cut.TheVariants.{Cell, Entry}
+use Rattle.cuts.specs.declared.cutting.Cut.TheVariants.{From, Until, Without, Keep, Cell, Entry}
 
 -- none of these operations failed
 abbrev pub NoneFailed : List Invocation → Type 0

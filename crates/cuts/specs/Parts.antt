@@ -1,8 +1,7 @@
 -- Parts of the calls of an object. If the calls have a valid order, the part has one.
-use Rattle.std.specs.Prelude.{◌≡◌, ◌==◌, ◌≤◌, ◌+◌, ℕ, ℤ, nat_lt, Bool, true, false}
-use Rattle.std.specs.Prelude.{not, ◌&&◌}
-use Rattle.std.specs.Prelude.{List, All, Contains, map, filter, count_by, if◌then◌else◌}
-use Rattle.std.specs.Prelude.{Option, Some, None, is_some, option_map}
+use Rattle.std.specs.Prelude.{◌≡◌, ◌==◌, ◌≤◌, ◌+◌, ℕ, ℤ, nat_lt, Bool, true, false, not, ◌&&◌, List}
+use Rattle.std.specs.Prelude.{All, Contains, map, filter, count_by, if◌then◌else◌, Option, Some}
+use Rattle.std.specs.Prelude.{None, is_some, option_map}
 use Rattle.std.specs.Option.{option_map_or}
 use Rattle.std.specs.List.{filter_map}
 use Rattle.model.specs.declared.AnyOp.{AnyOp}

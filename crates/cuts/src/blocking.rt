@@ -11,8 +11,7 @@ ghost use Rattle.events.specs.Operations.{calls_of};
 ghost use Rattle.cuts.specs.Ahead.{IsBlocked};
 ghost use Rattle.cuts.specs.Kinds.Containers as containers;
 ghost use Rattle.cuts.specs.CutOperations as cut_operations;
-ghost use Rattle.cuts.specs.CutOperations.{op_ahead_before, op_first_put, op_found};
-ghost use Rattle.cuts.specs.CutOperations.{is_put};
+ghost use Rattle.cuts.specs.CutOperations.{op_ahead_before, op_first_put, op_found, is_put};
 ghost use Rattle.cuts.specs.CutOperations.{op_is_put_ahead, op_is_settled, IsRemoval};
 ghost use Rattle.cuts.specs.CutOperations.{op_may_precede, op_may_take};
 

@@ -7,8 +7,7 @@ ghost use Rattle.events.specs.Operations.{calls_of};
 ghost use Rattle.cuts.specs.Parts.{kept_calls};
 ghost use Rattle.cuts.specs.Cuts.{keeps_all, keeps_value, keeps_number, IsClosedPart, IsPart};
 ghost use Rattle.cuts.specs.CutOperations.{op_fits, is_put, is_taken, is_open_removal};
-ghost use Rattle.cuts.specs.CutOperations.{is_kept_call};
-ghost use Rattle.cuts.specs.CutOperations.{keeps_first};
+ghost use Rattle.cuts.specs.CutOperations.{is_kept_call, keeps_first};
 
 use crate::kinds::containers::{is_removal, put_value};
 use crate::kinds::keeping::reply_fits;

@@ -13,8 +13,7 @@ ghost use Rattle.cuts.specs.Kinds.Starts.{leaves};
 ghost use Rattle.cuts.specs.Kinds.Starts as starts;
 ghost use Rattle.cuts.specs.Cuts.{IsSuffix, IsPart};
 ghost use Rattle.cuts.specs.CutOperations.{has_failed, is_over, overlapping_operation};
-ghost use Rattle.cuts.specs.CutOperations.{operation_later};
-ghost use Rattle.cuts.specs.CutOperations.{operation_from, IsOnKey};
+ghost use Rattle.cuts.specs.CutOperations.{operation_later, operation_from, IsOnKey};
 
 use crate::kinds::register::setting;
 use crate::kinds::starts::{First, first_of, key_of, written};

@@ -22,8 +22,7 @@ use Rattle.desk_invariant.specs.declared.board.PutBack.{PutBack}
 use Rattle.desk_invariant.specs.declared.board.Role.TheVariants as role
 use Rattle.desk_invariant.specs.declared.board.DeskView.{DeskView}
 use Rattle.desk_model.specs.World.{AnyRequest, absent, idle, posted, picked, World, initial_world, kind_at}
-use Rattle.desk_model.specs.World.{entries_of_client}
-use Rattle.desk_model.specs.World.{StartsWith, request_of}
+use Rattle.desk_model.specs.World.{entries_of_client, StartsWith, request_of}
 use Rattle.desk_model.specs.Transitions.{changed, staged}
 use Rattle.desk_model.proofs.Changed.{changed_here, changed_else}
 use Rattle.desk_model.proofs.Initial.{sound_initial, sound_coming}

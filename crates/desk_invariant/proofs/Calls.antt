@@ -26,8 +26,7 @@ use Rattle.desk_model.specs.declared.Request.{Request}
 use Rattle.desk_model.specs.declared.Answer.{Answer}
 use Rattle.desk_model.specs.World.{AnyEntry, AnyRequest, AnyAnswer, AnyDone, Stage, idle, drawn, posted, picked}
 use Rattle.desk_model.specs.World.{answered, taken, World, kind_at, logged, logged_on, entries_of_client, served}
-use Rattle.desk_model.specs.World.{served_now}
-use Rattle.desk_model.specs.World.{request_of, calls_made, journal_of, IsLegalLog, StartsWith}
+use Rattle.desk_model.specs.World.{served_now, request_of, calls_made, journal_of, IsLegalLog, StartsWith}
 use Rattle.desk_model.specs.Transitions.{changed, staged, ticked}
 use Rattle.desk_model.specs.Images.{request_in, answer_in}
 use Rattle.desk_model.proofs.Changed.{changed_here, changed_else}

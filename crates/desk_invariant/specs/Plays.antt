@@ -15,16 +15,14 @@ use Rattle.desk_invariant.specs.declared.board.DeskView.{DeskView}
 use Rattle.desk_model.specs.declared.Request.{Request}
 use Rattle.desk_model.specs.declared.Answer.{Answer}
 use Rattle.desk_model.specs.World.{AnyEntry, AnyRequest, AnyAnswer, kind_at, logged}
-use Rattle.desk_model.specs.World.{entries_of_client}
-use Rattle.desk_model.specs.World.{served, IsLegalLog, StartsWith}
+use Rattle.desk_model.specs.World.{entries_of_client, served, IsLegalLog, StartsWith}
 use Rattle.desk_model.specs.Images.{request_in, answer_in}
 use Rattle.desk_invariant.specs.Views.{row_place, end_place, seen_of, received_of, after_miss}
 use Rattle.desk_invariant.specs.Views.{after_row_miss, after_win, after_pick, after_put_back}
 use Rattle.desk_invariant.specs.Views.{after_answer, IsAccount, after_release, with_own, after_take}
-use Rattle.desk_invariant.specs.Views.{after_return, after_meet, after_end}
-use Rattle.desk_invariant.specs.Views.{after_end_seen, after_end_unset}
+use Rattle.desk_invariant.specs.Views.{after_return, after_meet, after_end, after_end_seen}
+use Rattle.desk_invariant.specs.Views.{after_end_unset, answered_word, call_slot, journal_slot}
 use Rattle.desk_invariant.specs.Rule.{CoreFits}
-use Rattle.desk_invariant.specs.Views.{answered_word, call_slot, journal_slot}
 use Rattle.desk_model.specs.Limits.{max_objects}
 
 module _ {S O R : Type 0} (content : S → Content) (op_in : O → AnyOp) (reply_in : R → AnyReply)

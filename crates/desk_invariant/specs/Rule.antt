@@ -29,8 +29,7 @@ use Rattle.desk_model.specs.declared.Answer.{Answer}
 use Rattle.desk_model.specs.World.{AnyEntry, AnyRequest, AnyAnswer, AnyDone, Stage, absent, idle}
 use Rattle.desk_model.specs.World.{drawn, posted, picked, answered, taken, World, kind_at}
 use Rattle.desk_model.specs.World.{entries_of_client, served, request_of, journal_of, journal_in}
-use Rattle.desk_model.specs.World.{Replays}
-use Rattle.desk_model.specs.World.{StartsWith}
+use Rattle.desk_model.specs.World.{Replays, StartsWith}
 use Rattle.desk_model.specs.Sound.{Sound}
 use Rattle.desk_model.specs.Images.{request_in, answer_in, entry_in, event_in}
 use Rattle.desk_invariant.specs.Views.{row_place, end_place, clock_place, seen_of, received_of}

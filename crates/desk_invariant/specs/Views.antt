@@ -11,8 +11,7 @@ use Rattle.desk_invariant.specs.declared.board.Leaving.{Leaving}
 use Rattle.desk_invariant.specs.declared.board.Role.TheVariants as role
 use Rattle.desk_invariant.specs.declared.board.DeskView.{DeskView}
 use Rattle.desk_model.specs.World.{AnyEntry, AnyRequest, AnyAnswer, AnyEvent, logged_on}
-use Rattle.desk_model.specs.World.{entries_of_client}
-use Rattle.desk_model.specs.World.{served, journal_of}
+use Rattle.desk_model.specs.World.{entries_of_client, served, journal_of}
 use Rattle.desk_model.specs.Limits.{max_objects}
 
 -- The place of the first row among the words of the table. Before it are the locks, by the number

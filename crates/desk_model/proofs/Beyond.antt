@@ -6,8 +6,7 @@ use Rattle.model.specs.declared.Kind.{Kind}
 use Rattle.desk_model.specs.declared.JournalEvent.TheVariants.{Returned}
 use Rattle.desk_model.specs.World.{AnyEntry, AnyRequest, AnyAnswer, AnyEvent, AnyDone, Stage, absent, idle, drawn}
 use Rattle.desk_model.specs.World.{posted, picked, answered, taken, World, logged_on, entries_of_client, served}
-use Rattle.desk_model.specs.World.{served_now}
-use Rattle.desk_model.specs.World.{request_of, invoked, journal_of, journal_in}
+use Rattle.desk_model.specs.World.{served_now, request_of, invoked, journal_of, journal_in}
 use Rattle.desk_model.specs.Sound.{IsAmong, Sound}
 use Rattle.desk_model.proofs.Entries.{logged_else}
 use Rattle.desk_model.proofs.Tickets.{journal_begun}

@@ -11,8 +11,7 @@ use Rattle.model.specs.Objects.{kind_of}
 use Rattle.desk_model.specs.declared.Answer.TheVariants.{Reply, Refused}
 use Rattle.desk_model.specs.World.{AnyEntry, AnyRequest, AnyAnswer, AnyDone, Stage, absent, idle, drawn, posted, picked}
 use Rattle.desk_model.specs.World.{answered, taken, World, kind_at, logged, logged_on, entries_of_client, served}
-use Rattle.desk_model.specs.World.{served_now}
-use Rattle.desk_model.specs.World.{request_of, calls_made, tickets_drawn, IsLegalLog, StartsWith}
+use Rattle.desk_model.specs.World.{served_now, request_of, calls_made, tickets_drawn, IsLegalLog, StartsWith}
 use Rattle.desk_model.specs.Transitions.{changed, staged, ticked, held_by, handed, served_by, ended_by}
 use Rattle.desk_model.specs.Sound.{Sound, SoundJournals, total}
 use Rattle.desk_model.proofs.Changed.{changed_here, changed_else, changed_all}

@@ -8,8 +8,7 @@ use Rattle.model.specs.Objects.{Content, empty, next}
 use Rattle.desk_model.specs.declared.Answer.TheVariants.{Reply, Refused}
 use Rattle.desk_model.specs.Images.{entry_in, event_in}
 use Rattle.desk_model.specs.World.{AnyEntry, AnyEvent, AnyRequest, AnyAnswer, AnyDone, logged, logged_on}
-use Rattle.desk_model.specs.World.{entries_of_client}
-use Rattle.desk_model.specs.World.{served, Replays, IsLegalLog, StartsWith, Serves}
+use Rattle.desk_model.specs.World.{entries_of_client, served, Replays, IsLegalLog, StartsWith, Serves}
 
 -- a beginning of a beginning of a log is a beginning of the log
 pub starts_longer : (xs ys zs : List AnyEntry) → StartsWith xs ys → StartsWith ys zs → StartsWith xs zs

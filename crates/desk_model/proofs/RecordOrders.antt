@@ -9,17 +9,15 @@ use Rattle.model.proofs.Lists.{Pairs, in_filter, in_filter_passes, in_filter_fro
 use Rattle.model.proofs.Lists.{pairs_weaker, contains_from_in, all_from_in, all_at, all_from_pairs, in_right}
 use Rattle.desk_model.specs.declared.JournalEvent.TheVariants.{Invoked}
 use Rattle.desk_model.specs.World.{AnyEntry, World, kind_at, entries_of_client, logged, request_of, journal_in}
-use Rattle.desk_model.specs.World.{tickets_in}
-use Rattle.desk_model.specs.World.{ticket_of}
+use Rattle.desk_model.specs.World.{tickets_in, ticket_of}
 use Rattle.desk_model.specs.Sound.{Sound, IsInTime}
 use Rattle.desk_model.specs.Records.{order_of, IsSoundRecord}
 use Rattle.locality.proofs.Entries.{number_of}
 use Rattle.locality.proofs.Merge.{one_number}
 use Rattle.desk_model.proofs.Effects.{clock_few}
 use Rattle.desk_model.proofs.Sources.{put_in, served_is, IsOf, is_of, put_rises, IsOver, is_over}
-use Rattle.desk_model.proofs.Chosen.{Along, chosen, entry_beside, call_beside, pairs_beside, SaysSame}
-use Rattle.desk_model.proofs.Chosen.{numbers_beside, replies_beside, once_in_order, in_own_entries, tickets_once}
-use Rattle.desk_model.proofs.Chosen.{in_front}
+use Rattle.desk_model.proofs.Chosen.{Along, chosen, entry_beside, call_beside, pairs_beside, SaysSame, numbers_beside}
+use Rattle.desk_model.proofs.Chosen.{replies_beside, once_in_order, in_own_entries, tickets_once, in_front}
 use Rattle.desk_model.proofs.RecordHistory.{calls_by, tickets_rise, history, history_denoted, history_well_formed}
 use Rattle.desk_model.proofs.RecordHistory.{calls_up, calls_of_client}
 use Rattle.model.proofs.Orders.{returned_some}

@@ -9,10 +9,9 @@ use Rattle.model.specs.declared.AnyOp.{AnyOp}
 use Rattle.model.specs.declared.AnyOp.TheVariants.{Cas}
 use Rattle.model.specs.declared.AnyReply.{AnyReply}
 use Rattle.model.specs.declared.AnyReply.TheVariants.{Swapped, NotSwapped}
-use Rattle.model.specs.Objects.{Content, queue, stack, heap, register, table, mutex, elements, count, owner}
-use Rattle.model.specs.Objects.{kind_with, empty, contains_value, stepped, next}
-use Rattle.model.specs.Objects.{next_queue, next_stack, next_heap, next_register, next_map, next_mutex}
-use Rattle.model.specs.Objects.{next_set, next_counter, next_lock}
+use Rattle.model.specs.Objects.{Content, queue, stack, heap, register, table, mutex, elements, count, owner, kind_with}
+use Rattle.model.specs.Objects.{empty, contains_value, stepped, next, next_queue, next_stack, next_heap, next_register}
+use Rattle.model.specs.Objects.{next_map, next_mutex, next_set, next_counter, next_lock}
 use Rattle.model.proofs.Objects.{kind_of_empty}
 use Rattle.desk_model.specs.World.{AnyEntry, Replays}
 

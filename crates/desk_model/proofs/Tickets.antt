@@ -14,8 +14,7 @@ use Rattle.desk_model.specs.declared.Answer.TheVariants.{Reply, Refused}
 use Rattle.desk_model.specs.declared.JournalEvent.TheVariants.{Returned}
 use Rattle.desk_model.specs.World.{AnyEntry, AnyRequest, AnyAnswer, AnyEvent, AnyDone, Stage, absent, idle, drawn}
 use Rattle.desk_model.specs.World.{taken, World, kind_at, logged, entries_of_client, served, served_now, request_of}
-use Rattle.desk_model.specs.World.{invoked}
-use Rattle.desk_model.specs.World.{journal_of, journal_in, ticket_of, tickets_in, StartsWith}
+use Rattle.desk_model.specs.World.{invoked, journal_of, journal_in, ticket_of, tickets_in, StartsWith}
 use Rattle.desk_model.specs.Transitions.{changed, ticked}
 use Rattle.desk_model.specs.Sound.{ShareOut, IsAmong, IsInTime, SoundJournals, Sound}
 use Rattle.desk_model.proofs.Entries.{logged_here}

@@ -4,6 +4,7 @@
 #![tactic(auto)]
 
 mod decimal;
+mod fields;
 mod sink;
 mod source;
 mod writer;
@@ -13,6 +14,10 @@ pub use edn_reader::{
     EdnFault, Elements, FaultKind, Form, MAX_LENGTH, Name, Piece, after, after_gap,
     after_line_feed, ends_word, fits, integer_at, joined_spell, lines_spell, natural_at,
     one_reading, read_forms, text_spells,
+};
+pub use fields::{
+    MAX_OBJECT, OperationValues, integer, keyword, keyword_first, natural, natural_first,
+    object_number, same_bytes, value_at, values_of,
 };
 pub use sink::{Device, Failed, Out, Sink};
 pub use source::{In, Source, Supply};

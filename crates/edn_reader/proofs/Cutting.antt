@@ -9,9 +9,8 @@ use Rattle.edn_reader.specs.Datum.{nil, keyword, Datum, atom, vector, dictionary
 use Rattle.edn_reader.specs.Datum.{no_entries, entry}
 use Rattle.edn_reader.specs.Token.{Token, open_vector, close_vector, open_map, close_map, leaf, tokens_of}
 use Rattle.edn_reader.specs.Token.{items_tokens, entries_tokens}
-use Rattle.edn_reader.specs.Truncation.{most_items, truncated_item, truncated_items, truncated_value}
-use Rattle.edn_reader.specs.Truncation.{truncated_entries, truncated, kept_of, Keep}
-use Rattle.edn_reader.specs.Truncation.{nothing_kept, keep_item, pass_over, keep, keep_all}
+use Rattle.edn_reader.specs.Truncation.{most_items, truncated_item, truncated_items, truncated_value, truncated_entries}
+use Rattle.edn_reader.specs.Truncation.{truncated, kept_of, Keep, nothing_kept, keep_item, pass_over, keep, keep_all}
 
 abbrev at : List Token → Bool → ℕ → ℕ → Keep
 at ts m b r = record { tokens = ts; cuts = true; in_map = m; below = b; room = r }

@@ -16,8 +16,7 @@ use Rattle.edn_reader.specs.View.{view, views, pair_views}
 use Rattle.edn_reader.specs.declared.form.Form.{Form}
 use Rattle.edn_reader.specs.declared.form.Name.{Name}
 use Rattle.edn_reader.specs.declared.piece.Piece.{Piece}
-use Rattle.edn_reader.specs.declared.piece.Piece.TheVariants.{OpenVector, CloseVector, OpenMap, CloseMap}
-use Rattle.edn_reader.specs.declared.piece.Piece.TheVariants.{Keyword}
+use Rattle.edn_reader.specs.declared.piece.Piece.TheVariants.{OpenVector, CloseVector, OpenMap, CloseMap, Keyword}
 use Rattle.edn_reader.proofs.Keys.{pair_views-append}
 use Rattle.edn_reader.proofs.Consumed.{list_tokens, pairs_tokens, list_tokens-append, pairs_tokens-append}
 use Rattle.edn_reader.proofs.Prefixes.{tails, same_datum, not_nothing, not_close_vector}

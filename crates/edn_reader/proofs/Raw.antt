@@ -5,13 +5,12 @@ use Rattle.std.proofs.Common.{sym, ap, ◌∙◌, arith, inl, inr}
 use Rattle.std.specs.Prelude.{◌==◌, option_map}
 use Rattle.std.proofs.lemmas.Bool.{ne_eqb}
 use Rattle.edn_reader.specs.Spells.{escape_of, IsQuoted, IsEscaped}
-use Rattle.edn_reader.specs.Reading.{with_byte, string_at, string_end}
+use Rattle.edn_reader.specs.Reading.{with_byte, string_at, string_end, got, got_string}
 use Rattle.edn_reader.specs.Pieces.{unquoted, unescaped}
 use Rattle.edn_reader.proofs.FrontsInTexts.{take-front}
 use Rattle.edn_reader.proofs.Strings.{some_is, string_is, string_less}
 use Rattle.edn_reader.specs.Datum.{string, atom}
 use Rattle.edn_reader.specs.Token.{leaf}
-use Rattle.edn_reader.specs.Reading.{got, got_string}
 
 same_end : (b : ℕ) (o : Option (List ℕ × List ℕ))
     → option_map (λ (p : List ℕ × List ℕ). p.1) (with_byte b o) ≡ option_map (λ (p : List ℕ × List ℕ). p.1) o

@@ -1,7 +1,6 @@
 -- The text that is written for a form spells it: by induction on the form, with each token in front of what is spelled
 -- after it.
-use Rattle.std.proofs.Common.{◌≡◌, ℕ, Bool, true, false, cond, List, [], ◌∷◌, ◌++◌, refl, ap}
-use Rattle.std.proofs.Common.{append_assoc, inl, inr}
+use Rattle.std.proofs.Common.{◌≡◌, ℕ, Bool, true, false, cond, List, [], ◌∷◌, ◌++◌, refl, ap, append_assoc, inl, inr}
 use Rattle.std.specs.Prelude.{◌==◌, ◌||◌, not, codes, Some}
 use Rattle.std.specs.Fmt.{signed_decimal}
 use Rattle.std.proofs.lemmas.Bool.{eqb-true, eqb-false}

@@ -4,8 +4,7 @@ use Rattle.edn_reader.specs.declared.fault.FaultKind.{FaultKind}
 use Rattle.edn_reader.specs.declared.fault.FaultKind.TheVariants.{BadUtf8, Unfinished, BadToken}
 use Rattle.edn_reader.specs.declared.fault.FaultKind.TheVariants.{NumberRange, DuplicateKey, OddMap}
 use Rattle.edn_reader.specs.declared.fault.FaultKind.TheVariants.{KeyKind, TooDeep, NotInProfile}
-use Rattle.edn_reader.specs.declared.fault.FaultKind.TheVariants.{TooLong}
-use Rattle.edn_reader.specs.declared.fault.FaultKind.TheVariants.{NoMemory}
+use Rattle.edn_reader.specs.declared.fault.FaultKind.TheVariants.{TooLong, NoMemory}
 
 -- the number that is printed after the letter E
 abbrev pub number_of : FaultKind → ℕ

@@ -3,8 +3,7 @@ use Rattle.std.specs.Prelude.{ℕ, ◌^◌, ℤ, pos, Bool, true, false, ◌&&�
 use Rattle.std.specs.Prelude.{if◌then◌else◌, List, [], ◌∷◌, ◌++◌, length, Option, Some, None}
 use Rattle.std.specs.Prelude.{option_map, option_and_then, codes}
 use Rattle.edn_reader.specs.Datum.{Atom, nil, boolean, integer, string, keyword, Datum, atom}
-use Rattle.edn_reader.specs.Datum.{vector}
-use Rattle.edn_reader.specs.Datum.{dictionary, items_of, entries_of, max_open}
+use Rattle.edn_reader.specs.Datum.{vector, dictionary, items_of, entries_of, max_open}
 use Rattle.edn_reader.specs.Token.{Token, open_vector, close_vector, open_map, close_map, leaf}
 use Rattle.edn_reader.specs.Bytes.{is_separator, is_token_byte, is_digit, is_name_byte, is_name}
 use Rattle.std.specs.Str.{bytes_eq}

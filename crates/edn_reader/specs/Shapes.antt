@@ -5,12 +5,10 @@ use Rattle.std.specs.Prelude.{◌++◌, length, map, Option, Some, None, option_
 use Rattle.std.specs.Borrow.{Bor}
 use Rattle.std.specs.Str.{bytes_eq}
 use Rattle.edn_reader.specs.Datum.{nil, boolean, integer, string, keyword, Datum, atom, vector}
-use Rattle.edn_reader.specs.Datum.{dictionary}
-use Rattle.edn_reader.specs.Datum.{max_open}
+use Rattle.edn_reader.specs.Datum.{dictionary, max_open}
 use Rattle.edn_reader.specs.Token.{Token, open_vector, close_vector, open_map, close_map, leaf}
 use Rattle.edn_reader.specs.Reading.{Next, end, bad, got, Frame, in_text, in_vector, in_map}
-use Rattle.edn_reader.specs.Reading.{in_pair}
-use Rattle.edn_reader.specs.Reading.{State}
+use Rattle.edn_reader.specs.Reading.{in_pair, State}
 
 -- a map has its keys, and may wait for the value of the last
 pub data Shape : Type 0 where

@@ -7,8 +7,7 @@ use Rattle.std.specs.Prelude.{Option, Some, None, if◌then◌else◌}
 use Rattle.std.specs.Str.{IsUtf8}
 use Rattle.std.specs.List.{list_all}
 use Rattle.edn_reader.specs.Datum.{Atom, nil, boolean, integer, string, keyword, Datum, atom}
-use Rattle.edn_reader.specs.Datum.{ItemsFit}
-use Rattle.edn_reader.specs.Datum.{items_of, max_open}
+use Rattle.edn_reader.specs.Datum.{ItemsFit, items_of, max_open}
 use Rattle.edn_reader.specs.Token.{Token, open_vector, close_vector, open_map, close_map, leaf}
 use Rattle.edn_reader.specs.Token.{items_tokens}
 use Rattle.edn_reader.specs.Bytes.{is_separator, is_token_byte, is_digit, is_name}

@@ -3,8 +3,7 @@
 use Rattle.std.specs.Prelude.{ℕ, zero, suc, ◌+◌, ◌-◌, ◌==◌, ℤ, Bool, true, false, if◌then◌else◌}
 use Rattle.std.specs.Prelude.{List, [], ◌∷◌, ◌++◌, Option, Some, None, option_map, option_and_then}
 use Rattle.edn_reader.specs.Datum.{nil, integer, Datum, atom, vector, dictionary, Items, no_items}
-use Rattle.edn_reader.specs.Datum.{item}
-use Rattle.edn_reader.specs.Datum.{Entries, no_entries, entry}
+use Rattle.edn_reader.specs.Datum.{item, Entries, no_entries, entry}
 use Rattle.edn_reader.specs.Token.{Token, open_vector, close_vector, open_map, close_map, leaf}
 
 -- how many elements of a vector are kept

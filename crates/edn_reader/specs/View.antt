@@ -2,8 +2,7 @@
 use Rattle.std.specs.Prelude.{ℕ, List, map, string_bytes}
 use Rattle.std.specs.Global.{Vec}
 use Rattle.edn_reader.specs.Datum.{Items, Entries, nil, boolean, integer, string, keyword, Datum}
-use Rattle.edn_reader.specs.Datum.{atom}
-use Rattle.edn_reader.specs.Datum.{vector, dictionary, items_of, entries_of}
+use Rattle.edn_reader.specs.Datum.{atom, vector, dictionary, items_of, entries_of}
 use Rattle.edn_reader.specs.declared.form.Name.{Name}
 use Rattle.edn_reader.specs.declared.form.Form.{Form, fold-Form}
 use Rattle.edn_reader.specs.declared.form.Form.TheOpen.{Form-F}

@@ -4,7 +4,7 @@ use Rattle.std.proofs.Common.{◌≡◌, ◌+◌, inl, inr, List, [], ◌∷◌,
 use Rattle.std.proofs.Common.{zero-add, arith}
 use Rattle.std.proofs.lemmas.List.{length-append}
 use Rattle.edn_reader.specs.Datum.{Datum}
-use Rattle.edn_fields.specs.FirstFaults.{IsFirstFaultBy}
+use Rattle.edn.specs.FirstFaults.{IsFirstFaultBy}
 use Rattle.events.specs.declared.event.Event.{Event}
 use Rattle.history.specs.declared.fault.HistoryFaultKind.{HistoryFaultKind}
 use Rattle.history.specs.declared.fault.HistoryFaultKind.TheVariants.{TooMany, NoMemory}

@@ -12,7 +12,7 @@ use Rattle.std.proofs.lemmas.Option.{same_Some}
 use Rattle.number_map.specs.Lookup.{value_of}
 use Rattle.model.specs.declared.Kind.{Kind}
 use Rattle.model.proofs.Lists.{all_from_in, all_at, contains_from_in, in_from_contains, in_left, in_right}
-use Rattle.edn_fields.specs.Fields.{max_object}
+use Rattle.edn.specs.Fields.{max_object}
 use Rattle.edn_reader.specs.Datum.{Datum}
 use Rattle.edn_reader.proofs.FormsInARow.{Along}
 use Rattle.seq_objects.specs.declared.function.Function.{Function}

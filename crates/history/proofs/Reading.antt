@@ -11,7 +11,7 @@ use Rattle.history.specs.declared.seen.Seen.{Seen}
 use Rattle.history.specs.declared.fault.HistoryFault.{HistoryFault}
 use Rattle.history.specs.declared.fault.HistoryFaultKind.{HistoryFaultKind}
 use Rattle.history.specs.Maps.{client_of}
-use Rattle.edn_fields.specs.FirstFaults.{AreFaultless}
+use Rattle.edn.specs.FirstFaults.{AreFaultless}
 use Rattle.history.specs.Faults.{max_maps, IsHistoryFormFault, HasNoHistoryFault, IsFirstFault}
 use Rattle.history.specs.Denotes.{event_of, events_of_forms, Denotes}
 use Rattle.history.specs.Seen.{IsSeen, HasNoFault, HasFirst, IsFormRead}

@@ -10,8 +10,8 @@ use Rattle.edn_reader.specs.Token.{Token, close_vector, leaf, tokens_of, items_t
 use Rattle.edn_reader.specs.Pieces.{token_buffer_tokens}
 use Rattle.edn_reader.specs.declared.Piece.{Piece}
 use Rattle.seq_objects.specs.declared.value.Value.{Value}
-use Rattle.edn_fields.specs.Fields.{value_at, natural_in, keyword_in, value_in}
-use Rattle.edn_fields.specs.Values.{IsValue}
+use Rattle.edn.specs.Fields.{value_at, natural_in, keyword_in, value_in}
+use Rattle.edn.specs.Values.{IsValue}
 use Rattle.history.specs.Maps.{type_named, object_at, tuple_in, plain_value, client_with, client_in}
 use Rattle.history.specs.Views.{client_map, IsClient, tuple_first, plain_first}
 use Rattle.history.specs.declared.client_map.ClientMap.{ClientMap}

@@ -4,7 +4,7 @@ use Rattle.std.proofs.Common.{take, refl, sym, subst, arith}
 use Rattle.std.specs.Option.{is_some}
 use Rattle.std.proofs.lemmas.List.{length-append, take_all, take-append-le}
 use Rattle.edn_reader.specs.Datum.{Datum}
-use Rattle.edn_fields.proofs.FirstFaults.{first_more}
+use Rattle.edn.proofs.FirstFaults.{first_more}
 use Rattle.events.specs.declared.event.Event.{Event}
 use Rattle.events.specs.Events.{IsProper}
 use Rattle.history.specs.declared.seen.Seen.{Seen}

@@ -4,8 +4,8 @@ use Rattle.std.specs.Prelude.{option_map, is_some}
 use Rattle.edn_reader.specs.Truncation.{most_items, truncated_item, truncated_items, truncated_value, truncated_entries}
 use Rattle.edn_reader.specs.Truncation.{truncated, integer_in}
 use Rattle.edn_reader.specs.Datum.{Datum, vector, dictionary, Items, no_items, item, Entries}
-use Rattle.edn_fields.specs.Fields.{value_at, natural_in, keyword_in, value_in}
-use Rattle.edn_fields.proofs.Truncation.{value_of_truncated, natural_of_truncated, keyword_of_truncated}
+use Rattle.edn.specs.Fields.{value_at, natural_in, keyword_in, value_in}
+use Rattle.edn.proofs.Truncation.{value_of_truncated, natural_of_truncated, keyword_of_truncated}
 use Rattle.history.specs.Maps.{MapType, type_in, object_at, tuple_in, plain_value, ClientMap, client_with, client_in}
 use Rattle.history.specs.Views.{client_map, IsClient, Says}
 use Rattle.history.specs.declared.client_map.ClientMap as code

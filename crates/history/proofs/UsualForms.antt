@@ -19,8 +19,8 @@ use Rattle.seq_objects.specs.declared.function.Function.{Function}
 use Rattle.seq_objects.specs.declared.value.Value.{Value}
 use Rattle.seq_objects.specs.declared.value.Value.TheVariants.{Nil, False, True, Int, Pair}
 use Rattle.seq_objects.specs.Functions.{name_of}
-use Rattle.edn_fields.specs.Fields.{same_bytes, value_at}
-use Rattle.edn_fields.proofs.Finding.{same_bytes_is}
+use Rattle.edn.specs.Fields.{same_bytes, value_at}
+use Rattle.edn.proofs.Finding.{same_bytes_is}
 use Rattle.history.specs.Maps as spec
 use Rattle.history.specs.Maps.{type_named, short_in, object_at, client_with}
 use Rattle.history.specs.Views.{map_type, client_map}

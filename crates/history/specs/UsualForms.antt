@@ -5,7 +5,7 @@ use Rattle.edn_reader.specs.Datum.{Atom, Datum, atom, Entries, Lacks, DatumFits,
 use Rattle.edn_reader.specs.Elements.{SpellsFront}
 use Rattle.edn_reader.specs.Sound.{BeginWith}
 use Rattle.edn_reader.specs.Token.{close_map, leaf, tokens_of, entries_tokens}
-use Rattle.edn_fields.specs.Fields.{value_at}
+use Rattle.edn.specs.Fields.{value_at}
 use Rattle.seq_objects.specs.declared.value.Value.{Value}
 use Rattle.history.specs.Maps.{object_at, plain_value}
 use Rattle.history.specs.Views.{Says}

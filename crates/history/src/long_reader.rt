@@ -3,7 +3,7 @@
 ghost use Rattle.std.specs.Prelude.{◌≡◌, ◌≢◌, ◌<◌, ◌++◌, ◌∷◌, [], List, length, IfOk, IfErr};
 ghost use Rattle.std.specs.Prelude.{option_to_list};
 ghost use Rattle.edn_reader.specs.Datum.{Datum};
-ghost use Rattle.edn_fields.specs.FirstFaults.{IsFirstFaultBy};
+ghost use Rattle.edn.specs.FirstFaults.{IsFirstFaultBy};
 ghost use Rattle.history.specs.Denotes.{events_of_forms};
 ghost use Rattle.history.specs.Faults.{IsMapFault, IsFaultlessAtAnyLength, history_fault_number};
 ghost use Rattle.history.specs.LongReading.{AreReadAtAnyLength, IsOfPlace};

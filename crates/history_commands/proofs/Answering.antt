@@ -1,7 +1,6 @@
 -- What the answers of a search show, and the text that is made of them.
 use Rattle.std.proofs.Common.{◌≡◌, ◌∙◌, ◌<◌, ◌||◌, ℕ, suc, true, List, [], ◌∷◌, map, All, Any, AllPairs, Contains}
-use Rattle.std.proofs.Common.{Option}
-use Rattle.std.proofs.Common.{Some, refl, sym, arith}
+use Rattle.std.proofs.Common.{Option, Some, refl, sym, arith}
 use Rattle.std.specs.Prelude.{◌↔◌}
 use Rattle.std.specs.List.{list_all, list_any}
 use Rattle.model.specs.Linearizable.{IsLinearizable}

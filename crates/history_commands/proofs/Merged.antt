@@ -21,8 +21,7 @@ use Rattle.verifying.specs.declared.decision.Decision.{Decision}
 use Rattle.verifying.specs.declared.decision.Decision.TheVariants.{Order, Impossible, OutOfSteps, NoMemory, Open}
 use Rattle.verifying.specs.declared.decision.ShownReason.{ShownReason}
 use Rattle.verifying.specs.Decisions.{AreDecisionsOn, IsDecisionOn, IsShownReason, certificate_decided}
-use Rattle.verifying.specs.Decisions.{certificates_decided}
-use Rattle.verifying.specs.Decisions.{is_impossible, is_order}
+use Rattle.verifying.specs.Decisions.{certificates_decided, is_impossible, is_order}
 use Rattle.history_commands.specs.Merged.{Answer, AnswersClaims, AnswersShard, AreInOrder, AreLinesWith, AreMerged}
 use Rattle.history_commands.specs.Merged.{IsExplainedShard, IsMerge, IsMergeOutput, Shard, finding_on, lines_by}
 use Rattle.history_commands.specs.Merged.{seen_lines, shown_on, whole_name, worse, worst}

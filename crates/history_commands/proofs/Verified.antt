@@ -24,9 +24,8 @@ use Rattle.std.specs.Prelude.{Ok}
 use Rattle.edn_reader.specs.Sound.{IsShort}
 use Rattle.history_commands.specs.Searches.{IsHistoryUnread}
 use Rattle.history_commands.specs.Verified.{decision_lines, impossible_lines, verified_status, IsVerifiedOutput}
-use Rattle.history_commands.specs.Verified.{LacksSomeOrder}
-use Rattle.history_commands.specs.Verified.{DenotesClaims, IsEvidenceFault, IsExplained, IsVerdictBy, IsVerdictText}
-use Rattle.history_commands.specs.Verified.{IsVerification, IsVerificationOutput}
+use Rattle.history_commands.specs.Verified.{LacksSomeOrder, DenotesClaims, IsEvidenceFault, IsExplained, IsVerdictBy}
+use Rattle.history_commands.specs.Verified.{IsVerdictText, IsVerification, IsVerificationOutput}
 use Rattle.history_commands.specs.Outputs.{lines_on, status_of}
 use Rattle.history_commands.specs.declared.status.Status.TheVariants as status_is
 use Rattle.history_commands.specs.declared.status.Status.{Status}

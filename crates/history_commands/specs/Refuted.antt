@@ -18,8 +18,7 @@ use Rattle.refutation.specs.declared.refuting.WhyNotShown.TheVariants.{OutOfStep
 use Rattle.refutation.specs.declared.refuting.WhyNotShown.TheVariants as why_not
 use Rattle.refutation.specs.declared.refuting.ReasonAnswer.{ReasonAnswer}
 use Rattle.refutation.specs.declared.refuting.ReasonAnswer.TheVariants.{Impossible, NotShown}
-use Rattle.refutation.specs.declared.refuting.ReasonAnswer.TheVariants.{NoPart}
-use Rattle.refutation.specs.declared.refuting.ReasonAnswer.TheVariants.{OtherObject}
+use Rattle.refutation.specs.declared.refuting.ReasonAnswer.TheVariants.{NoPart, OtherObject}
 use Rattle.refutation.specs.Refutations.{IsReasonAnswer, shows_impossible, steps_of}
 use Rattle.reason_report.specs.Operations.{operations_text}
 use Rattle.refutation.specs.Denotes.{Denotes}

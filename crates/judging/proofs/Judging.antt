@@ -16,8 +16,7 @@ use Rattle.judging.specs.declared.texts.TextFailure.{TextFailure}
 use Rattle.judging.specs.declared.texts.TextFailure.TheVariants as stop
 use Rattle.judging.specs.declared.texts.TextFailure.TheVariants.{Faulty}
 use Rattle.judging.specs.Texts.{AreValidTexts, DenoteOnly, DenotesHistory, DenotesCertificates, HasHistory}
-use Rattle.judging.specs.Texts.{IsCertificatesFault, IsHistoryFault}
-use Rattle.judging.specs.Texts.{IsHistoryRead, IsLinearizableText, verdict_of}
+use Rattle.judging.specs.Texts.{IsCertificatesFault, IsHistoryFault, IsHistoryRead, IsLinearizableText, verdict_of}
 use Rattle.judging.specs.Verdicts.{AreBothRead, IsJudgement, IsYesUnlessMemory, SaysOfTexts, SaysOfCertificates, OnYes}
 use Rattle.judging.proofs.Accepting.{same_valid}
 use Rattle.judging.proofs.Naming.{where_ok}

@@ -19,9 +19,8 @@ use Rattle.std.proofs.lemmas.Map.Lookups.{exact_unsigned}
 use Rattle.std.proofs.lemmas.Map.Views.{All-found, btree_map_get_iff}
 use Rattle.model.specs.Orders.{calls_on}
 use Rattle.model.specs.Lists.{In}
-use Rattle.model.proofs.Lists.{Pairs, in_append, in_left, in_middle, in_map, in_map_from, pairs_map}
-use Rattle.model.proofs.Lists.{pairs_weaker, pairs_from_map}
-use Rattle.model.proofs.Lists.{in_from_contains, contains_from_in, all_at, all_from_in, all_from_pairs}
+use Rattle.model.proofs.Lists.{Pairs, in_append, in_left, in_middle, in_map, in_map_from, pairs_map, pairs_weaker}
+use Rattle.model.proofs.Lists.{pairs_from_map, in_from_contains, contains_from_in, all_at, all_from_in, all_from_pairs}
 use Rattle.events.specs.declared.event.Event.{Event}
 use Rattle.events.specs.Events.{IsNamed, kind_of_object, denoted}
 use Rattle.events.specs.Operations.{ObjectCalls, operations_on, calls_of}

@@ -1,16 +1,14 @@
 -- Worker w checks the places w, w + workers, and so on; so each place has one worker (`its_worker`), and the least of
 -- the refusals that workers found first is the first of all (`first_of_all`). By the remainders of places.
-use Rattle.std.proofs.Common.{◌≡◌, ◌≢◌, ℕ, zero, suc, ◌+◌, ◌*◌, ◌/◌, ◌%◌, ◌<◌, ◌≤◌, ◌++◌, ◌∷◌, [], List, All}
-use Rattle.std.proofs.Common.{AllPairs, Contains, length, get_or}
-use Rattle.std.proofs.Common.{take, Result, Ok, Err, IsOk, Option, Some, None, IfNone, inl, inr, refl, ap, sym, ◌∙◌}
-use Rattle.std.proofs.Common.{subst, arith}
+use Rattle.std.proofs.Common.{◌≡◌, ◌≢◌, ℕ, zero, suc, ◌+◌, ◌*◌, ◌/◌, ◌%◌, ◌<◌, ◌≤◌, ◌++◌, ◌∷◌, [], List, All, AllPairs}
+use Rattle.std.proofs.Common.{Contains, length, get_or, take, Result, Ok, Err, IsOk, Option, Some, None, IfNone, inl}
+use Rattle.std.proofs.Common.{inr, refl, ap, sym, ◌∙◌, subst, arith}
 use Rattle.std.proofs.Math.Nat.{lt_of_mul-lt-mul_right, mul-lt-mul_of_pos_right, mod-lt, mod-add-div'}
 use Rattle.std.proofs.lemmas.Bool.{cases_order}
 use Rattle.std.proofs.lemmas.List.{get_or_default, take_all}
 use Rattle.std.proofs.lemmas.List.Elements.{All-push, Contains-push, Contains-append_left}
 use Rattle.model.specs.Lists.{In}
-use Rattle.model.proofs.Lists.{all_from_in}
-use Rattle.model.proofs.Lists.{all_at}
+use Rattle.model.proofs.Lists.{all_from_in, all_at}
 use Rattle.events.specs.declared.event.Event.{Event}
 use Rattle.events.specs.Operations.{ObjectCalls, calls_of}
 use Rattle.certificate.specs.declared.Certificate.{Certificate}

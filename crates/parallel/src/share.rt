@@ -1,12 +1,10 @@
 //! The objects that one worker checks.
 
 ghost use Rattle.std.specs.Prelude.{◌≡◌, ◌<◌, ◌≤◌, ℕ, length, OnOk, IfErr, IfSome, IfNone, IsOk};
-ghost use Rattle.std.specs.Prelude.{◌+◌};
-ghost use Rattle.std.specs.Prelude.{All, AllPairs, Contains, Err};
+ghost use Rattle.std.specs.Prelude.{◌+◌, All, AllPairs, Contains, Err};
 ghost use Rattle.certificate.specs.declared.Certificate.{Certificate};
 ghost use Rattle.checker.specs.Checking.{AreAllPlaces};
-ghost use Rattle.parallel.specs.Shares.{FallsTo, IsFineAt, IsFirstOfShare, IsNotBefore};
-ghost use Rattle.parallel.specs.Shares.{IsEarlier};
+ghost use Rattle.parallel.specs.Shares.{FallsTo, IsFineAt, IsFirstOfShare, IsNotBefore, IsEarlier};
 ghost use Rattle.parallel.specs.Shares.{max_workers};
 
 use certificate::Certificate;

@@ -6,8 +6,7 @@ ghost use Rattle.certificate.specs.Denotes.{AreDistinct};
 ghost use Rattle.checker.specs.Refusals.{AreValid, IsCheckAnswer, IsFirstRefusal};
 ghost use Rattle.checker.specs.Checking.{AreAllPlaces};
 ghost use Rattle.parallel.specs.Gathered.{AreAll};
-ghost use Rattle.parallel.specs.Shares.{IsShare};
-ghost use Rattle.parallel.specs.Shares.{max_workers};
+ghost use Rattle.parallel.specs.Shares.{IsShare, max_workers};
 
 use crate::gathering::split_by_workers;
 use crate::share::{RefusedObject, check_share, least};

@@ -14,8 +14,7 @@ use Rattle.desk_invariant.specs.declared.board.DeskView.{DeskView}
 use Rattle.desk_invariant.specs.Views.{row_place, seen_of, own_request, journal, is_waiting}
 use Rattle.desk_invariant.specs.Views.{after_miss, after_row_miss, after_win, after_pick}
 use Rattle.desk_invariant.specs.Views.{after_put_back, after_answer, with_own, after_take}
-use Rattle.desk_invariant.specs.Views.{after_return, after_meet, after_end_unset}
-use Rattle.desk_invariant.specs.Views.{IsAccount}
+use Rattle.desk_invariant.specs.Views.{after_return, after_meet, after_end_unset, IsAccount}
 use Rattle.desk_model.specs.Images.{entry_in, event_in}
 use Rattle.desk_model.specs.Records.{IsSoundRecord}
 use Rattle.recorder.specs.Records.{Recorded, journal_at, log_at}

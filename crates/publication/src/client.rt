@@ -25,7 +25,7 @@ pub(crate) struct Places {
 }
 
 impl Model for Places {
-    ghost use Rattle.std.specs.Prelude.{◌≡◌, List, length};
+    ghost use Rattle.std.specs.Prelude.{◌≡◌, List, length, map};
     ghost use Rattle.publication_list.specs.Calls.{PlaceSeen};
     ghost use Rattle.desk_model.specs.Limits.{max_objects};
 
@@ -176,8 +176,7 @@ pub struct Client<S: SeqObject> {
 }
 
 impl<S: SeqObject> Model for Client<S> {
-    ghost use Rattle.std.specs.Prelude.{map};
-    ghost use Rattle.publication.specs.Handles.{Known, IsClient, ArePlacesOf};
+    ghost use Rattle.publication.specs.Handles.{Known, IsClient, ArePlacesOf, Holding, IsPass};
 
     ghost Value = { Known };
 
@@ -207,8 +206,7 @@ pub struct Pass<S: SeqObject> {
 }
 
 impl<S: SeqObject> Model for Pass<S> {
-    ghost use Rattle.std.specs.Prelude.{map};
-    ghost use Rattle.publication.specs.Handles.{Holding, IsPass, ArePlacesOf, log_of, state_of};
+    ghost use Rattle.publication.specs.Handles.{log_of, state_of, Handling, IsHand};
 
     ghost Value = { Holding };
 
@@ -243,8 +241,6 @@ pub struct Hand<S: SeqObject> {
 
 impl<S: SeqObject> Model for Hand<S> {
     ghost use Rattle.desk_model.specs.Images.{request_in};
-    ghost use Rattle.std.specs.Prelude.{map};
-    ghost use Rattle.publication.specs.Handles.{Handling, IsHand, ArePlacesOf, log_of, state_of};
 
     ghost Value = { Handling };
 

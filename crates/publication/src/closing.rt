@@ -5,14 +5,13 @@ ghost use Rattle.std.specs.Prelude.{slice_index_or, vec_len, vec_capacity, IfOk,
 ghost use Rattle.std.specs.Prelude.{IfNone, if◌then◌else◌};
 ghost use Rattle.recorder.specs.Records.{items_of_each};
 ghost use Rattle.desk_invariant.specs.Views.{after_end_seen, after_end_unset, end_notice};
-ghost use Rattle.desk_invariant.specs.Views.{after_notice};
+ghost use Rattle.desk_invariant.specs.Views.{after_notice, table_slots};
 ghost use Rattle.publication.specs.Handles.{IsRoom};
 ghost use Rattle.publication.specs.Calls.{IsClosedRecord, IsStillThere};
 ghost use Rattle.publication.specs.Closing.{values_of, IsTakenTo, HasCore, HasJournal, IsLogOf};
 ghost use Rattle.publication.specs.Closing.{IsJournalOf, AreLogs, AreJournals, IsSameBelow};
 ghost use Rattle.publication.specs.Closing.{HaveEnded, HasLearntEnds};
 ghost use Rattle.desk_model.specs.Limits.{max_objects, max_clients};
-ghost use Rattle.desk_invariant.specs.Views.{table_slots};
 
 use crate::client::{Client, Place};
 use crate::desk::{Desk, ENDS};

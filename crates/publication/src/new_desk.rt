@@ -3,12 +3,11 @@
 ghost use Rattle.std.specs.Prelude.{◌≡◌, ◌+◌, ◌<◌, ◌≤◌, [], length, map, All, IfOk, vec_len};
 ghost use Rattle.std.specs.Prelude.{vec_capacity};
 ghost use Rattle.model.specs.Objects.{empty, kind_with};
-ghost use Rattle.desk_invariant.specs.Views.{maker_of};
+ghost use Rattle.desk_invariant.specs.Views.{maker_of, table_words, table_slots};
 ghost use Rattle.publication.specs.Handles.{AllBegun, IsRoom, begun, fresh_places};
 ghost use Rattle.publication.specs.Making.{AreCores, IsLaid, AreEmpty, kinds_with, HasRoom};
 ghost use Rattle.publication.specs.Making.{IsSmall, AreDealt, rosters_of, AreWalkersOf, IsFresh};
 ghost use Rattle.desk_model.specs.Limits.{max_objects, max_clients, max_calls};
-ghost use Rattle.desk_invariant.specs.Views.{table_words, table_slots};
 
 use crate::client::{BoxedMember, Client, Member, Place, Places};
 use crate::desk::{Desk, DeskTable, ROWS};

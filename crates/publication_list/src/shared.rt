@@ -35,8 +35,7 @@ pub struct SharedPlace {
 
 impl Model for SharedPlace {
     ghost use Rattle.std.specs.Prelude.{◌≡◌};
-    ghost use Rattle.std.specs.Arc.{arc_value};
-    ghost use Rattle.publication_list.specs.Calls.{PlaceSeen};
+    ghost use Rattle.publication_list.specs.Calls.{PlaceSeen, WalkerSeen};
 
     ghost Value = { PlaceSeen };
 
@@ -62,10 +61,6 @@ pub struct SharedWalker {
 }
 
 impl Model for SharedWalker {
-    ghost use Rattle.std.specs.Prelude.{◌≡◌};
-    ghost use Rattle.std.specs.Arc.{arc_value};
-    ghost use Rattle.publication_list.specs.Calls.{WalkerSeen};
-
     ghost Value = { WalkerSeen };
 
     ghost view = { λ w. w.walker };

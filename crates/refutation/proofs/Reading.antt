@@ -5,7 +5,7 @@ use Rattle.std.proofs.lemmas.List.{drop_more, take_more, take-append-drop, lengt
 use Rattle.edn_reader.specs.Datum.{Datum}
 use Rattle.edn_reader.specs.View.{view, views}
 use Rattle.edn_reader.specs.declared.form.Form.{Form}
-use Rattle.edn_fields.specs.FirstFaults.{AreFaultless}
+use Rattle.edn.specs.FirstFaults.{AreFaultless}
 use Rattle.refutation.specs.declared.reason.Reason.{Reason}
 use Rattle.refutation.specs.Denotes.{reason_in, reason_seen, Denotes}
 use Rattle.refutation.specs.Faults.{reason_fault_number, IsReasonFault, IsFirstFault, AreReasonsSoundBefore}

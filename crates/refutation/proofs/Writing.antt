@@ -19,7 +19,7 @@ use Rattle.edn_reader.specs.Text.{text_of, items_text, entries_text}
 use Rattle.edn_reader.specs.Text as edn
 use Rattle.edn_reader.specs.Laws.{EachSpelled}
 use Rattle.edn_reader.proofs.Joined.{text_spells_it, lines_spell_them}
-use Rattle.edn_fields.specs.Fields.{same_bytes, value_at}
+use Rattle.edn.specs.Fields.{same_bytes, value_at}
 use Rattle.cuts.specs.declared.keeping.Values.{Values}
 use Rattle.cuts.specs.declared.keeping.Values.TheVariants.{All, Only}
 use Rattle.cuts.specs.declared.cutting.Cut.{Cut}

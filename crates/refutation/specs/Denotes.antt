@@ -7,7 +7,7 @@ use Rattle.std.specs.BTreeSet.{insert_key}
 use Rattle.edn_reader.specs.Truncation.{integer_in}
 use Rattle.edn_reader.specs.Datum.{Datum, atom, keyword, vector, dictionary, Items, no_items, item}
 use Rattle.edn_reader.specs.Datum.{Entries}
-use Rattle.edn_fields.specs.Fields.{same_bytes, value_at, natural_in, object_in}
+use Rattle.edn.specs.Fields.{same_bytes, value_at, natural_in, object_in}
 use Rattle.cuts.specs.declared.keeping.Values.{Values}
 use Rattle.cuts.specs.declared.keeping.Values.TheVariants.{All, Only}
 use Rattle.cuts.specs.declared.cutting.Cut.{Cut}

@@ -1,7 +1,7 @@
 -- What can be wrong with the forms of a text of reasons, and which fault of it is the first.
 use Rattle.std.specs.Prelude.{◌≡◌, ℕ, List, ◌∷◌, ◌++◌, length, None}
 use Rattle.edn_reader.specs.Datum.{Datum}
-use Rattle.edn_fields.specs.FirstFaults.{AreFaultless, IsFirstFaultBy}
+use Rattle.edn.specs.FirstFaults.{AreFaultless, IsFirstFaultBy}
 use Rattle.refutation.specs.Denotes.{reason_in}
 use Rattle.refutation.specs.declared.fault.ReasonFaultKind.{ReasonFaultKind}
 use Rattle.refutation.specs.declared.fault.ReasonFaultKind.TheVariants.{NotAReason, NoMemory}

@@ -5,7 +5,7 @@ use Rattle.std.specs.Fmt.{signed_decimal}
 use Rattle.edn_reader.specs.Datum.{Datum}
 use Rattle.edn_reader.specs.Spells.{Spells}
 use Rattle.edn_reader.specs.Text.{between}
-use Rattle.edn_fields.specs.Fields.{max_object}
+use Rattle.edn.specs.Fields.{max_object}
 use Rattle.cuts.specs.declared.keeping.Values.{Values}
 use Rattle.cuts.specs.declared.keeping.Values.TheVariants as values
 use Rattle.cuts.specs.declared.cutting.Cut.{Cut}

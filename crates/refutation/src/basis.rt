@@ -2,7 +2,7 @@
 //! with these entries, does not say what it reads.
 
 ghost use Rattle.std.specs.Prelude.{◌≡◌, Option, option_map, codes};
-ghost use Rattle.edn_fields.specs.Fields.{value_at};
+ghost use Rattle.edn.specs.Fields.{value_at};
 ghost use Rattle.edn_reader.specs.Datum.{entries_of};
 ghost use Rattle.edn_reader.specs.View.{view, pair_views};
 ghost use Rattle.refutation.specs.Denotes as spec;
@@ -11,8 +11,7 @@ use crate::cut::optional_int_at;
 use crate::sets::number;
 use crate::{Basis, Trial};
 use cuts::{Count, Counted};
-use edn::{Form, Name};
-use edn_fields::{is_same, value_at};
+use edn::{Form, Name, same_bytes, value_at};
 use search::TryFirst;
 
 /// Reads which content is counted: `:value`, `:key` and `:value`, `:key` alone, `:held` or `:free`.
@@ -81,10 +80,10 @@ fn read_first(form: Option<&Form>) -> Option<TryFirst>
 {
     match form {
         None => Some(TryFirst::LeastNumber),
-        Some(Form::Keyword(word)) if is_same(word.as_bytes(), b"number") => {
+        Some(Form::Keyword(word)) if same_bytes(word.as_bytes(), b"number") => {
             Some(TryFirst::LeastNumber)
         }
-        Some(Form::Keyword(word)) if is_same(word.as_bytes(), b"return") => {
+        Some(Form::Keyword(word)) if same_bytes(word.as_bytes(), b"return") => {
             Some(TryFirst::LeastReturn)
         }
         Some(_) => None,

@@ -7,8 +7,7 @@ ghost use Rattle.refutation.specs.Denotes as spec;
 
 use crate::sets::{number, numbers, values};
 use cuts::Cut;
-use edn::{Form, Name};
-use edn_fields::value_at;
+use edn::{Form, Name, value_at};
 use std::alloc::{AllocError, Global};
 
 /// The integer under a key.
@@ -16,7 +15,7 @@ fn int_at(entries: &[(Name, Form)], key: &[u8]) -> Option<i64>
     ensures { result ≡ spec.int_at key.now (entries_of (pair_views entries.now)) }
 {
     match value_at(entries, key) {
-        Some(form) => edn_fields::integer(form),
+        Some(form) => edn::integer(form),
         None => None,
     }
 }
@@ -27,7 +26,7 @@ pub(crate) fn optional_int_at(entries: &[(Name, Form)], key: &[u8]) -> Option<Op
 {
     match value_at(entries, key) {
         None => Some(None),
-        Some(form) => edn_fields::integer(form).map(Some),
+        Some(form) => edn::integer(form).map(Some),
     }
 }
 

@@ -11,8 +11,7 @@ use crate::Reason;
 use crate::basis::read_basis;
 use crate::cut::cuts;
 use crate::fault::{ReasonFault, ReasonFaultKind};
-use edn::Form;
-use edn_fields::value_at;
+use edn::{Form, value_at};
 use std::alloc::{AllocError, Global};
 
 /// Reads a form as a reason, if it is one.
@@ -25,8 +24,8 @@ pub fn reason_in(alloc: Global, form: &Form) -> Result<Option<Reason>, AllocErro
     let Form::Map(entries) = form else {
         return Ok(None);
     };
-    let number = edn_fields::natural(value_at(entries, b"object"));
-    let Some(object) = edn_fields::object(number) else {
+    let number = edn::natural(value_at(entries, b"object"));
+    let Some(object) = edn::object_number(number) else {
         return Ok(None);
     };
     let Some(cuts) = cuts(alloc, value_at(entries, b"cuts"))? else {

@@ -14,7 +14,7 @@ use std::collections::BTreeSet;
 pub(crate) fn number(form: Option<&Form>) -> Option<u32>
     ensures { result ≡ spec.number_in (option_map (λ f. view f.now) form.entry) }
 {
-    match edn_fields::natural(form) {
+    match edn::natural(form) {
         Some(n) if n <= 4_294_967_295 => Some(n as u32),
         _ => None,
     }
@@ -27,7 +27,7 @@ fn integers(alloc: Global, forms: &[Form]) -> Result<Option<BTreeSet<i64>>, Allo
 {
     let mut set = BTreeSet::new(alloc);
     for form in forms {
-        let Some(n) = edn_fields::integer(form) else {
+        let Some(n) = edn::integer(form) else {
             return Ok(None);
         };
         set.insert(n)?;
@@ -61,7 +61,7 @@ pub(crate) fn values(alloc: Global, form: Option<&Form>) -> Result<Option<Values
             Some(set) => Ok(Some(Values::Only(set))),
             None => Ok(None),
         },
-        Some(Form::Keyword(word)) if edn_fields::is_same(word.as_bytes(), b"all") => {
+        Some(Form::Keyword(word)) if edn::same_bytes(word.as_bytes(), b"all") => {
             Ok(Some(Values::All))
         }
         _ => Ok(None),

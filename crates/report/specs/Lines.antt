@@ -13,8 +13,7 @@ use Rattle.checker.specs.declared.refusal.Refusal.TheVariants as refusal
 use Rattle.seq_objects.specs.Functions.{word_of}
 use Rattle.seq_objects.specs.Values.{reply_value}
 use Rattle.seq_objects.specs.declared.value.Value.{Value}
-use Rattle.seq_objects.specs.declared.value.Value.TheVariants.{Nil, False, True, Int, Pair}
-use Rattle.seq_objects.specs.declared.value.Value.TheVariants.{Triple}
+use Rattle.seq_objects.specs.declared.value.Value.TheVariants.{Nil, False, True, Int, Pair, Triple}
 use Rattle.report.specs.declared.verdict.KindCount.{KindCount}
 use Rattle.report.specs.declared.verdict.Summary.{Summary}
 use Rattle.report.specs.declared.verdict.Fault.{Fault}

@@ -8,8 +8,7 @@ use Rattle.std.proofs.lemmas.Bool.{cases_eq, cases_order}
 use Rattle.model.specs.Lists.{In}
 use Rattle.search.specs.Continuations.{IsLeft, Describes}
 use Rattle.search.specs.Links.{IsSlot, IsStop, IsFilledGap, IsNextLeft, IsSlotBefore, Linked, next_without}
-use Rattle.search.specs.Links.{before_without}
-use Rattle.search.specs.Links.{next_with, before_with, AreWithin, LeadsThrough}
+use Rattle.search.specs.Links.{before_without, next_with, before_with, AreWithin, LeadsThrough}
 use Rattle.search.specs.Searching.{IsBound}
 
 -- ---- slots and stops

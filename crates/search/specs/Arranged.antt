@@ -3,8 +3,7 @@ use Rattle.std.specs.Prelude.{◌≡◌, ℕ, zero, suc, ◌<◌, ◌≤◌, ◌
 use Rattle.std.specs.Prelude.{Some, IsSome, List, length, is_some, get_or, if◌then◌else◌}
 use Rattle.std.specs.List.{list_any}
 use Rattle.model.specs.declared.Kind.{Kind}
-use Rattle.model.specs.Objects.{some_op}
-use Rattle.model.specs.Objects.{kind_of}
+use Rattle.model.specs.Objects.{some_op, kind_of}
 use Rattle.model.specs.Orders.{Call, Return}
 use Rattle.events.specs.declared.operations.Invocation.{Invocation}
 use Rattle.events.specs.declared.operations.End.TheVariants.{Pending}

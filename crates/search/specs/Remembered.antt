@@ -1,6 +1,5 @@
 -- The pairs that a search remembers as dead.
-use Rattle.std.specs.Prelude.{◌≡◌, ℕ, ◌<◌, ◌⊎◌, List, [], ◌∷◌, ◌++◌, Option, Some, None}
-use Rattle.std.specs.Prelude.{length}
+use Rattle.std.specs.Prelude.{◌≡◌, ℕ, ◌<◌, ◌⊎◌, List, [], ◌∷◌, ◌++◌, Option, Some, None, length}
 use Rattle.std.specs.List.{HoldsAt}
 use Rattle.model.specs.Objects.{Content}
 use Rattle.search.specs.Undoing.{content_kept}

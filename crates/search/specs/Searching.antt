@@ -12,11 +12,10 @@ use Rattle.search.specs.declared.trials.Trials.{Trials}
 use Rattle.search.specs.declared.pairs.Pair.{Pair}
 use Rattle.search.specs.declared.dead.Dead.{Dead}
 use Rattle.search.specs.declared.walk.State.{State}
-use Rattle.search.specs.Arranged.{call_at, owes, count_below, IsArranged}
+use Rattle.search.specs.Arranged.{call_at, owes, count_below, IsArranged, no_return}
 use Rattle.search.specs.Continuations.{IsLeft, IsCandidate, DoesCall, Continues, IsDead}
 use Rattle.search.specs.Continuations.{IsDeadAt, IsTried, IsDeadPair}
 use Rattle.search.specs.Links.{Linked, IsStop, AreWithin, next_with, before_with}
-use Rattle.search.specs.Arranged.{no_return}
 
 -- the places of the calls that the levels of a search placed
 abbrev pub places : List Level → List ℕ

@@ -10,8 +10,7 @@ use Rattle.model.specs.Objects.{Content, queue, stack, heap, register, table, mu
 use Rattle.model.specs.Objects.{count, owner, next}
 use Rattle.search.specs.declared.reversible.Reversible.{Reversible}
 use Rattle.search.specs.declared.reversible.Reversible.TheVariants.{Queue, Stack, Heap, Register}
-use Rattle.search.specs.declared.reversible.Reversible.TheVariants.{Map, Mutex, Set, Counter}
-use Rattle.search.specs.declared.reversible.Reversible.TheVariants.{Lock}
+use Rattle.search.specs.declared.reversible.Reversible.TheVariants.{Map, Mutex, Set, Counter, Lock}
 use Rattle.search.specs.declared.kept.Kept.{Kept}
 use Rattle.search.specs.declared.kept.Kept.TheVariants as kept
 use Rattle.search.specs.declared.step.Undo.{Undo}

@@ -3,8 +3,7 @@
 
 ghost use Rattle.std.specs.Prelude.{◌≡◌, ◌⊎◌, [], IsTrue, IfOk, OnOk};
 ghost use Rattle.search.specs.Undoing.{reversible_content};
-ghost use Rattle.search.specs.Remembered.{HasPair, AreDeadKept, IsRemembered};
-ghost use Rattle.search.specs.Remembered.{IsRememberedIfSome};
+ghost use Rattle.search.specs.Remembered.{HasPair, AreDeadKept, IsRemembered, IsRememberedIfSome};
 
 use crate::Reversible;
 use crate::not_done::NotDone;

@@ -11,8 +11,7 @@ ghost use Rattle.search.specs.Arranged.{call_at, no_return};
 ghost use Rattle.search.specs.Links.{Linked};
 ghost use Rattle.search.specs.Outcomes.{max_places};
 ghost use Rattle.search.specs.Searching.{places, content_before, AreTrials, AreOwed, IsLeast};
-ghost use Rattle.search.specs.Searching.{IsOrder, IsNoOrder, IsDeadHere, IsDeadAtPlace};
-ghost use Rattle.search.specs.Searching.{IsPairDead};
+ghost use Rattle.search.specs.Searching.{IsOrder, IsNoOrder, IsDeadHere, IsDeadAtPlace, IsPairDead};
 ghost use Rattle.search.specs.Searching.{IsSearching, IsSearchingAt};
 
 use crate::dead::Dead;

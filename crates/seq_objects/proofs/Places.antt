@@ -1,12 +1,11 @@
 -- Each function is at its own place among all (`get_or-place`), and there are 27. By cases on the function.
 use Rattle.std.proofs.Common.{◌≡◌, ℕ, ◌<◌, get_or, refl, lit<}
 use Rattle.seq_objects.specs.declared.function.Function.{Function}
-use Rattle.seq_objects.specs.declared.function.Function.TheVariants.{Enqueue, Dequeue, Push, Pop, Insert}
-use Rattle.seq_objects.specs.declared.function.Function.TheVariants.{ExtractMin, Write, Read, Cas, Put, Get, Del}
-use Rattle.seq_objects.specs.declared.function.Function.TheVariants.{Acquire, Release}
-use Rattle.seq_objects.specs.declared.function.Function.TheVariants.{Clear, Create, PutIfAbsent, Replace, Assoc}
-use Rattle.seq_objects.specs.declared.function.Function.TheVariants.{Dissoc, Add, Remove, Has, FetchAdd, GetCount}
-use Rattle.seq_objects.specs.declared.function.Function.TheVariants.{LockBy, UnlockBy}
+use Rattle.seq_objects.specs.declared.function.Function.TheVariants.{Enqueue, Dequeue, Push, Pop, Insert, ExtractMin}
+use Rattle.seq_objects.specs.declared.function.Function.TheVariants.{Write, Read, Cas, Put, Get, Del, Acquire, Release}
+use Rattle.seq_objects.specs.declared.function.Function.TheVariants.{Clear, Create, PutIfAbsent, Replace, Assoc, Dissoc}
+use Rattle.seq_objects.specs.declared.function.Function.TheVariants.{Add, Remove, Has, FetchAdd, GetCount, LockBy}
+use Rattle.seq_objects.specs.declared.function.Function.TheVariants.{UnlockBy}
 use Rattle.seq_objects.specs.Functions.{all_functions}
 
 -- the place of a function in the list of all

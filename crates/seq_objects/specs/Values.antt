@@ -3,10 +3,9 @@ use Rattle.std.specs.Prelude.{true, false, Option, Some, None}
 use Rattle.model.specs.declared.AnyOp.{AnyOp}
 use Rattle.model.specs.declared.AnyOp.TheVariants.{Enqueue, Dequeue, Push, Pop, Insert, ExtractMin}
 use Rattle.model.specs.declared.AnyOp.TheVariants.{Write, Read, Cas, Put, Get, Del, Acquire}
-use Rattle.model.specs.declared.AnyOp.TheVariants.{Release}
-use Rattle.model.specs.declared.AnyOp.TheVariants.{Clear, Create, PutIfAbsent, Replace, Assoc}
-use Rattle.model.specs.declared.AnyOp.TheVariants.{Dissoc, Add, Remove, Has, FetchAdd, GetCount}
-use Rattle.model.specs.declared.AnyOp.TheVariants.{LockBy, UnlockBy}
+use Rattle.model.specs.declared.AnyOp.TheVariants.{Release, Clear, Create, PutIfAbsent, Replace}
+use Rattle.model.specs.declared.AnyOp.TheVariants.{Assoc, Dissoc, Add, Remove, Has, FetchAdd}
+use Rattle.model.specs.declared.AnyOp.TheVariants.{GetCount, LockBy, UnlockBy}
 use Rattle.model.specs.declared.AnyReply.{AnyReply}
 use Rattle.model.specs.declared.AnyReply.TheVariants as reply
 use Rattle.seq_objects.specs.declared.function.Function.{Function}

@@ -8,7 +8,7 @@ use Rattle.edn_reader.specs.Sound.{IsUnreadable}
 use Rattle.edn_reader.specs.Spells.{Spells}
 use Rattle.edn_reader.specs.declared.fault.EdnFault.{EdnFault}
 use Rattle.edn_reader.specs.declared.fault.FaultKind.TheVariants.{TooLong, Unfinished}
-use Rattle.edn_fields.specs.FirstFaults.{IsFirstFaultBy}
+use Rattle.edn.specs.FirstFaults.{IsFirstFaultBy}
 use Rattle.history.specs.Faults.{IsFaultlessAtAnyLength, IsMapFault, history_fault_number}
 use Rattle.history.specs.Maps.{ClientMap, client_of}
 use Rattle.history.specs.declared.fault.HistoryFault.{HistoryFault}

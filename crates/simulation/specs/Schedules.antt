@@ -1,11 +1,10 @@
 -- What the text of a schedule says: a header, and then a step of a client for each further form.
-use Rattle.std.specs.Prelude.{◌≡◌, ℕ, ◌-◌, ◌<◌, ◌≤◌, nat_le, ◌&&◌, List, ◌∷◌}
-use Rattle.std.specs.Prelude.{Option, Some, None, codes}
-use Rattle.std.specs.Prelude.{map, option_map, option_and_then, if◌then◌else◌}
+use Rattle.std.specs.Prelude.{◌≡◌, ℕ, ◌-◌, ◌<◌, ◌≤◌, nat_le, ◌&&◌, List, ◌∷◌, Option, Some, None}
+use Rattle.std.specs.Prelude.{codes, map, option_map, option_and_then, if◌then◌else◌}
 use Rattle.edn_reader.specs.Datum.{Datum, atom, vector, dictionary, Entries}
 use Rattle.model.specs.declared.AnyOp.{AnyOp}
 use Rattle.seq_objects.specs.Values.{op_with}
-use Rattle.edn_fields.specs.Fields.{same_bytes, value_at, natural_in, keyword_in, value_in}
+use Rattle.edn.specs.Fields.{same_bytes, value_at, natural_in, keyword_in, value_in}
 use Rattle.history.specs.Maps.{plain_value}
 use Rattle.history.specs.Names.{function_named}
 use Rattle.machine.specs.declared.step.Step.{Step}

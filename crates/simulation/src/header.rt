@@ -6,8 +6,7 @@ ghost use Rattle.edn_reader.specs.View.{view, pair_views};
 ghost use Rattle.simulation.specs.Schedules as spec;
 ghost use Rattle.simulation.specs.Schedules.{IsWithin};
 
-use edn::{Form, Name};
-use edn_fields::{keyword, natural, value_at};
+use edn::{Form, Name, keyword, natural, value_at};
 use seq_objects::{Kinds, kinds_named};
 
 /// The most objects of a machine.

@@ -3,12 +3,11 @@
 ghost use Rattle.std.specs.Prelude.{◌≡◌, Some, codes, option_and_then, option_map};
 ghost use Rattle.edn_reader.specs.Datum.{dictionary, entries_of};
 ghost use Rattle.edn_reader.specs.View.{view, pair_views};
-ghost use Rattle.edn_fields.specs.Fields.{keyword_in, value_at};
+ghost use Rattle.edn.specs.Fields.{keyword_in, value_at};
 ghost use Rattle.simulation.specs.Schedules as spec;
 
 use crate::header::{MAX_CLIENTS, MAX_OBJECTS, number_at};
-use edn::{Form, Name};
-use edn_fields::{is_same, keyword, value_at};
+use edn::{Form, Name, keyword, same_bytes, value_at};
 use history::{function, plain_value};
 use machine::Step;
 use model::AnyOp;
@@ -79,23 +78,23 @@ fn pick_in(entries: &[(Name, Form)]) -> Option<Step<AnyOp>>
 fn step_named(name: &[u8], entries: &[(Name, Form)]) -> Option<Step<AnyOp>>
     ensures { result ≡ spec.step_named name.now (entries_of (pair_views entries.now)) }
 {
-    if is_same(name, b"draw") {
+    if same_bytes(name, b"draw") {
         draw_in(entries)
-    } else if is_same(name, b"post") {
+    } else if same_bytes(name, b"post") {
         Some(Step::Post)
-    } else if is_same(name, b"win") {
+    } else if same_bytes(name, b"win") {
         win_in(entries)
-    } else if is_same(name, b"pick") {
+    } else if same_bytes(name, b"pick") {
         pick_in(entries)
-    } else if is_same(name, b"answer") {
+    } else if same_bytes(name, b"answer") {
         Some(Step::Answer)
-    } else if is_same(name, b"put-back") {
+    } else if same_bytes(name, b"put-back") {
         Some(Step::PutBack)
-    } else if is_same(name, b"take") {
+    } else if same_bytes(name, b"take") {
         Some(Step::Take)
-    } else if is_same(name, b"release") {
+    } else if same_bytes(name, b"release") {
         Some(Step::Release)
-    } else if is_same(name, b"end") {
+    } else if same_bytes(name, b"end") {
         Some(Step::End)
     } else {
         None

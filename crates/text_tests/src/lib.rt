@@ -1,4 +1,4 @@
-//! Tests of the public calls of `edn` and `edn_fields`. They are in a crate of their own, so that
+//! Tests of the public calls of `edn`. They are in a crate of their own, so that
 //! each of these libraries is proved once, and not again for its tests.
 #![tactic(auto)]
 

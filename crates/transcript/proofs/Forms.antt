@@ -7,7 +7,7 @@ use Rattle.seq_objects.specs.Functions.{name_of}
 use Rattle.seq_objects.specs.Values.{function_in, op_with, op_value}
 use Rattle.events.specs.declared.event.Action.{Action}
 use Rattle.events.specs.declared.event.Action.TheVariants.{Invoke, Ok, Fail, Info}
-use Rattle.edn_fields.specs.Fields.{max_object}
+use Rattle.edn.specs.Fields.{max_object}
 use Rattle.history.specs.Maps.{ClientMap, MapType, invoke, ok, fail, info, client_of, short_in, type_named, plain_value}
 use Rattle.history.specs.Names.{function_named}
 use Rattle.history.specs.Denotes.{action_of}

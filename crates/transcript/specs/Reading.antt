@@ -8,7 +8,7 @@ use Rattle.desk_model.specs.World.{AnyEntry, AnyEvent, ticket_of}
 use Rattle.desk_model.specs.Sound.{ShareOut}
 use Rattle.desk_model.specs.Records.{IsSoundRecord}
 use Rattle.events.specs.declared.event.Event.{Event}
-use Rattle.edn_fields.specs.Fields.{max_object}
+use Rattle.edn.specs.Fields.{max_object}
 use Rattle.recorder.specs.Histories.{AreEventsOf, IsRecord}
 use Rattle.transcript.specs.Written.{IsHistoryText}
 use Rattle.desk_model.specs.Limits.{max_calls}

@@ -20,8 +20,7 @@ use Rattle.verifying.specs.Denotes.{claim_object}
 use Rattle.verifying.specs.declared.decision.Decision.{Decision}
 use Rattle.verifying.specs.declared.decision.Decision.TheVariants.{Order, Impossible}
 use Rattle.verifying.specs.Decisions.{certificate_decided, IfImpossible, IsDecision, IsValidClaim, IsShownReason}
-use Rattle.verifying.specs.Decisions.{IsUntrue}
-use Rattle.verifying.specs.Decisions.{LacksOrder, AsksForAnySearch, is_impossible, is_order}
+use Rattle.verifying.specs.Decisions.{IsUntrue, LacksOrder, AsksForAnySearch, is_impossible, is_order}
 
 -- a decision, with its arguments in the order of `Certifies`
 abbrev pub IsDecided : List Claim → ℕ → ℕ → Kind → List Call → Decision → Type 0

@@ -13,8 +13,7 @@ use Rattle.verifying.specs.declared.decision.ShownReason.{ShownReason}
 use Rattle.verifying.specs.declared.decision.Decision.{Decision}
 use Rattle.verifying.specs.declared.decision.Decision.TheVariants.{Order, Impossible, OutOfSteps, NoMemory, Open}
 use Rattle.verifying.specs.Decisions.{IfOrder, IfImpossible, IfOutOfSteps, IsClaimAnswer, IsDecision, IsUntrue}
-use Rattle.verifying.specs.Decisions.{AsksForAnySearch}
-use Rattle.verifying.specs.Decisions.{is_open, is_shown}
+use Rattle.verifying.specs.Decisions.{AsksForAnySearch, is_open, is_shown}
 
 -- ---- lists that are longer by one
 

@@ -5,7 +5,7 @@ use Rattle.std.proofs.lemmas.List.{take_more, length-take-le, length-map, map-ap
 use Rattle.edn_reader.specs.Datum.{Datum}
 use Rattle.edn_reader.specs.View.{view, views}
 use Rattle.edn_reader.specs.declared.form.Form.{Form}
-use Rattle.edn_fields.specs.FirstFaults.{AreFaultless}
+use Rattle.edn.specs.FirstFaults.{AreFaultless}
 use Rattle.verifying.specs.declared.claim.Claim.{Claim}
 use Rattle.verifying.specs.Denotes.{claim_in, claim_seen, Denotes}
 use Rattle.verifying.specs.Faults.{fault_rank, IsClaimFault, IsFirstFault, AreClaimsSoundBefore}

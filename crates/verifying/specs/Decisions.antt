@@ -16,8 +16,7 @@ use Rattle.search.specs.Answers.{IsCertificateOf}
 use Rattle.refutation.specs.declared.reason.Reason.{Reason}
 use Rattle.refutation.specs.declared.refuting.WhyNotShown.TheVariants.{Possible, NotExceeded}
 use Rattle.refutation.specs.Refutations.{PartHasNoValidOrder, IsWhyNotShown, IsNamedPart}
-use Rattle.refutation.specs.Refutations.{IsSearchBasis}
-use Rattle.refutation.specs.Refutations.{IsShownBy, steps_of}
+use Rattle.refutation.specs.Refutations.{IsSearchBasis, IsShownBy, steps_of}
 use Rattle.verifying.specs.declared.claim.Claim.{Claim}
 use Rattle.verifying.specs.declared.claim.Claim.TheVariants as claim
 use Rattle.verifying.specs.Denotes.{claim_object}

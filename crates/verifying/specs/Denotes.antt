@@ -4,7 +4,7 @@ use Rattle.std.specs.Prelude.{nat_lt, List, map, codes}
 use Rattle.std.specs.Prelude.{Option, Some, None, option_map, is_some, if◌then◌else◌}
 use Rattle.std.specs.List.{list_all, starts_with, before_first, after_first}
 use Rattle.edn_reader.specs.Datum.{Datum, atom, string, dictionary}
-use Rattle.edn_fields.specs.Fields.{value_at}
+use Rattle.edn.specs.Fields.{value_at}
 use Rattle.certificate.specs.Denotes.{Reading, certificate_of, reading_of}
 use Rattle.refutation.specs.Denotes.{ReasonSeen, reason_in}
 use Rattle.refutation.specs.Denotes as reasons

@@ -1,7 +1,7 @@
 -- What can be wrong with the forms of a text of claims, and which fault of it is the first.
 use Rattle.std.specs.Prelude.{◌≡◌, ℕ, List, ◌∷◌, ◌++◌, length, None, true, false}
 use Rattle.edn_reader.specs.Datum.{Datum}
-use Rattle.edn_fields.specs.FirstFaults.{AreFaultless, IsFirstFaultBy}
+use Rattle.edn.specs.FirstFaults.{AreFaultless, IsFirstFaultBy}
 use Rattle.verifying.specs.Denotes.{claim_in, names_order}
 use Rattle.verifying.specs.declared.fault.ClaimFaultKind.{ClaimFaultKind}
 use Rattle.verifying.specs.declared.fault.ClaimFaultKind.TheVariants.{NotACertificate, NotAReason}

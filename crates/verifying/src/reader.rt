@@ -11,8 +11,7 @@ use crate::claim::Claim;
 use crate::fault::{ClaimFault, ClaimFaultKind};
 use crate::note::note;
 use certificate::certificate_in;
-use edn::Form;
-use edn_fields::value_at;
+use edn::{Form, value_at};
 use refutation::reason_in;
 use std::alloc::{AllocError, Global};
 

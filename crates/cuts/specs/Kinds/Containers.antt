@@ -2,8 +2,7 @@
 use Rattle.std.specs.Prelude.{ℤ, int_lt, Bool, true, false, Option, Some, None}
 use Rattle.std.specs.Option.{option_map_or}
 use Rattle.model.specs.declared.AnyOp.{AnyOp}
-use Rattle.model.specs.declared.AnyOp.TheVariants.{Enqueue, Dequeue, Push, Pop, Insert}
-use Rattle.model.specs.declared.AnyOp.TheVariants.{ExtractMin}
+use Rattle.model.specs.declared.AnyOp.TheVariants.{Enqueue, Dequeue, Push, Pop, Insert, ExtractMin}
 
 -- the value that an operation puts in
 abbrev pub put_value : AnyOp → Option ℤ

@@ -5,16 +5,14 @@ use Rattle.model.specs.declared.Kind.{Kind}
 use Rattle.model.specs.declared.Kind.TheVariants.{Queue, Stack, Heap, Register, Map, Mutex, Set}
 use Rattle.model.specs.declared.Kind.TheVariants.{Counter, Lock}
 use Rattle.model.specs.declared.AnyOp.{AnyOp}
-use Rattle.model.specs.declared.AnyOp.TheVariants.{Enqueue, Dequeue, Push, Pop, Insert}
-use Rattle.model.specs.declared.AnyOp.TheVariants.{ExtractMin, Write, Cas, Create, Put, Del}
-use Rattle.model.specs.declared.AnyOp.TheVariants.{PutIfAbsent, Replace, Assoc, Dissoc}
-use Rattle.model.specs.declared.AnyOp.TheVariants.{Acquire, Release}
+use Rattle.model.specs.declared.AnyOp.TheVariants.{Enqueue, Dequeue, Push, Pop, Insert, ExtractMin}
+use Rattle.model.specs.declared.AnyOp.TheVariants.{Write, Cas, Create, Put, Del, PutIfAbsent}
+use Rattle.model.specs.declared.AnyOp.TheVariants.{Replace, Assoc, Dissoc, Acquire, Release}
 use Rattle.model.specs.declared.AnyReply.{AnyReply}
 use Rattle.model.specs.declared.AnyReply.TheVariants as reply
 use Rattle.model.specs.declared.AnyReply.TheVariants.{Swapped, Flag}
 use Rattle.cuts.specs.declared.counting.Counted.{Counted}
-use Rattle.cuts.specs.declared.counting.Counted.TheVariants.{Value, Entry, NoEntry}
-use Rattle.cuts.specs.declared.counting.Counted.TheVariants.{Held, Free}
+use Rattle.cuts.specs.declared.counting.Counted.TheVariants.{Value, Entry, NoEntry, Held, Free}
 
 -- whether the reply is this value
 abbrev pub is_reply : ℤ → Option AnyReply → Bool

@@ -1,7 +1,6 @@
 -- Which operations a part may keep that keeps some values, or some keys. An element of a set is its
 -- own key.
-use Rattle.std.specs.Prelude.{ℤ, Bool, true, false, not, ◌||◌, Option, Some, None}
-use Rattle.std.specs.Prelude.{if◌then◌else◌}
+use Rattle.std.specs.Prelude.{ℤ, Bool, true, false, not, ◌||◌, Option, Some, None, if◌then◌else◌}
 use Rattle.model.specs.declared.AnyOp.{AnyOp}
 use Rattle.model.specs.declared.AnyOp.TheVariants.{Enqueue, Dequeue, Push, Pop, Insert}
 use Rattle.model.specs.declared.AnyOp.TheVariants.{ExtractMin, Write, Read, Cas, Clear, Create}

@@ -5,20 +5,20 @@ use Rattle.std.specs.Prelude.{codes}
 use Rattle.edn_reader.specs.Datum.{entries_of, items_of}
 use Rattle.edn_reader.specs.View.{view, views, pair_views}
 use Rattle.edn_reader.proofs.Pairs.{map_view}
-use Rattle.edn_fields.specs.Fields.{value_at}
+use Rattle.edn.specs.Fields.{value_at}
 use Rattle.edn_reader.specs.Truncation.{integers_in}
 use Rattle.certificate.proofs.Reading.{no_object, both_keys}
 use Rattle.certificate.proofs.reader.parts_in.Goals as goal
 
-pub returns-in_default-object-clause-none : goal.returns-in_default-object-clause-none
-returns-in_default-object-clause-none c =
+pub returns-in_default-object_number-clause-none : goal.returns-in_default-object_number-clause-none
+returns-in_default-object_number-clause-none c =
     let es = c.in-Map.entries.items in
     let there : option_map (λ f. view f.now) c.value_at.result
     ≡ value_at (codes "object") (entries_of (pair_views es)) =
     c.value_at.ensures ∙ ap (λ xs. value_at (codes "object") (entries_of (pair_views xs))) c.deref.ensures.value in
     rw (c.in-Map.is, map_view)
     (sym (no_object (entries_of (pair_views es)) _ c.natural-number.result there c.natural-number.ensures
-    (sym c.in_default-object.is ∙ c.object.ensures)))
+    (sym c.in_default-object_number.is ∙ c.object_number.ensures)))
 
 pub returns-in_default-order_in-clause-none : goal.returns-in_default-order_in-clause-none
 returns-in_default-order_in-clause-none c =
@@ -32,7 +32,7 @@ returns-in_default-order_in-clause-none c =
     rw (c.in-Map.is, map_view) (sym
     (both_keys (entries_of (pair_views es)) _ _ c.natural-number.result
     (Some c.in-Some.object) None there c.natural-number.ensures
-    (sym c.in-Some.is ∙ c.object.ensures) order (sym c.in_default-order_in.ensures.none)))
+    (sym c.in-Some.is ∙ c.object_number.ensures) order (sym c.in_default-order_in.ensures.none)))
 
 pub returns-clause-some : goal.returns-clause-some
 returns-clause-some c =
@@ -46,4 +46,4 @@ returns-clause-some c =
     rw (c.in-Map.is, map_view) (sym
     (both_keys (entries_of (pair_views es)) _ _ c.natural-number.result (Some c.in-Some.object)
     (integers_in (items_of (views c.in-Some-order_in.forms.now))) there c.natural-number.ensures
-    (sym c.in-Some.is ∙ c.object.ensures) order (sym c.in-Some-order_in.ensures.some)))
+    (sym c.in-Some.is ∙ c.object_number.ensures) order (sym c.in-Some-order_in.ensures.some)))

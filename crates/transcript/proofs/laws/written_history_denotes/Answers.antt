@@ -1,7 +1,7 @@
 use Rattle.std.proofs.Common.{ℕ, ◌<◌, ◌≤◌, List, length, sym, subst, arith}
 use Rattle.model.proofs.Lists.{all_at, all_from_in}
 use Rattle.events.specs.declared.event.Event.{Event}
-use Rattle.edn_fields.specs.Fields.{max_object}
+use Rattle.edn.specs.Fields.{max_object}
 use Rattle.recorder.proofs.Making.{is_record}
 use Rattle.transcript.specs.Reading.{DenotesEvents, SoundWrittenDenotes, WrittenDenotes}
 use Rattle.transcript.proofs.ReadBack.{read_back}

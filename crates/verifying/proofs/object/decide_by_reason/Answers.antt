@@ -4,8 +4,7 @@ use Rattle.std.proofs.Common.{ℕ, ap, sym, subst}
 use Rattle.events.specs.Operations.{calls_of}
 use Rattle.refutation.specs.declared.refuting.ReasonAnswer.{ReasonAnswer}
 use Rattle.refutation.specs.Refutations.{PartHasNoValidOrder, IfShownImpossible, IfNotShown, IfPart, IsWhyNotShown}
-use Rattle.refutation.specs.Refutations.{IsNamedPart}
-use Rattle.refutation.specs.Refutations.{IsShownBy, shows_impossible}
+use Rattle.refutation.specs.Refutations.{IsNamedPart, IsShownBy, shows_impossible}
 use Rattle.verifying.specs.declared.claim.Claim.TheVariants as claim
 use Rattle.verifying.specs.declared.decision.Decision.TheVariants as decision
 use Rattle.verifying.specs.Decisions.{IsClaimAnswer}

@@ -2,8 +2,7 @@
 use Rattle.std.proofs.Common.{◌<◌, length, ap, arith}
 use Rattle.std.proofs.lemmas.Result.{err_from_is_err_and}
 use Rattle.edn_reader.proofs.BufferTurns.{first_turn, none_first, sound_first, nothing_more, whole, whole_open}
-use Rattle.edn_reader.proofs.BufferTurns.{next_turn}
-use Rattle.edn_reader.proofs.BufferTurns.{none_next, sound_next, none_at_end, after_piece_shorter}
+use Rattle.edn_reader.proofs.BufferTurns.{next_turn, none_next, sound_next, none_at_end, after_piece_shorter}
 use Rattle.edn_reader.proofs.Lexical.{skip_within}
 use Rattle.edn_reader.proofs.token_buffer.TokenBuffer.try_read.Goals as goal
 

@@ -1,6 +1,0 @@
-pub mod Finding
-pub mod Skipping
-pub mod Operating
-pub mod Shapes
-pub mod Truncation
-pub mod FirstFaults
