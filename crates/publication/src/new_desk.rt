@@ -51,13 +51,13 @@ fn no_places(alloc: Global, clients: u32) -> Result<Vec<Vec<SharedPlace>>, Alloc
 }
 
 /// The publication lists, by the number of the object, and the walker of each.
-struct Lists {
+struct NewLists {
     rosters: Vec<SharedRoster>,
     walkers: Vec<SharedWalker>,
 }
 
 /// A publication list for each object that there may be, in which each client has a place.
-fn lists(alloc: Global, owners: &mut Vec<Vec<SharedPlace>>) -> Result<Lists, AllocError>
+fn lists(alloc: Global, owners: &mut Vec<Vec<SharedPlace>>) -> Result<NewLists, AllocError>
     requires few { (0 < length owners.old.items) × (length owners.old.items < 1 + max_clients) }
     requires owners { AreDealt 0 (length owners.old.items) [] owners.old.items }
     ensures lists { IfOk result (λ l. (vec_len l.rosters ≡ max_objects)
@@ -72,7 +72,7 @@ fn lists(alloc: Global, owners: &mut Vec<Vec<SharedPlace>>) -> Result<Lists, All
         rosters.push_reserved(roster);
         walkers.push_reserved(walker);
     }
-    Ok(Lists { rosters, walkers })
+    Ok(NewLists { rosters, walkers })
 }
 
 /// A slot for each object, with an empty log, and its publication list.
@@ -291,7 +291,7 @@ impl<S: SeqObject> Desk<S> {
         let journals = Vec::with_capacity(alloc, clients as usize)?;
         let logs = Vec::with_capacity(alloc, objects.len())?;
         let mut owners = no_places(alloc, clients)?;
-        let Lists { rosters, walkers } = lists(alloc, &mut owners)?;
+        let NewLists { rosters, walkers } = lists(alloc, &mut owners)?;
         let plan = Plan {
             kinds,
             lists: rosters,
