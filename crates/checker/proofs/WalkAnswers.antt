@@ -1,4 +1,4 @@
--- What the walk answers: a valid order, made of the calls that it names, or its first fault. None is before the place,
+-- The walk answers a valid order, made of the calls that it names, or its first fault. No fault is before the place,
 -- and each of a lesser rank at the place contradicts what the walk knows there.
 use Rattle.std.proofs.Common.{◌≡◌, ◌≢◌, ℕ, ℤ, pos, ◌≤ℤ◌, ◌<◌, ◌≤◌, inl, inr, List, [], ◌∷◌, map, take, Option, Some}
 use Rattle.std.proofs.Common.{None, IfSome, IsSome, Contains, slice_get, refl, ap, sym, ◌∙◌, arith}

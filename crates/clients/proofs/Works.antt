@@ -1,5 +1,5 @@
--- What a client's calls leave in its journal: one call more adds an invocation and a return (`one_made`), or an
--- invocation alone where the call stays outstanding (`stopped`). By induction along the calls.
+-- One call more adds an invocation and a return to a client's journal (`one_made`), or an invocation alone if the call
+-- stays outstanding (`stopped`). By induction along the calls.
 use Rattle.std.proofs.Common.{◌≡◌, ℕ, zero, suc, ◌+◌, ◌<◌, inr, List, [], ◌∷◌, ◌++◌, length, take, drop, get_or, refl}
 use Rattle.std.proofs.Common.{ap, ◌∙◌, arith, length-append, append_assoc}
 use Rattle.desk_model.specs.declared.JournalEvent.TheVariants.{Invoked, Returned}

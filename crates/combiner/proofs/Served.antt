@@ -1,5 +1,5 @@
--- What the try of a row does to a pass, and what a whole pass does: it goes on (`Goes`), field by field, and its client
--- keeps its calls (`KeepsCalls`).
+-- The try of a row, and a whole pass, change only what `Goes` says of a pass, field by field, and the client of the
+-- pass keeps its calls (`KeepsCalls`).
 use Rattle.std.proofs.Common.{◌≡◌, ◌≢◌, ℕ, ◌<◌, ◌≤◌, Bool, true, false, ◌||◌, ◌&&◌, List, [], ◌++◌, length, get_or}
 use Rattle.std.proofs.Common.{set, eq-eqb, refl, sym, ap, ◌∙◌, subst, inl, inr, ⊎_elim}
 use mathlib.Core.Logic.{dite}

@@ -1,5 +1,5 @@
--- What clap is told, argument by argument and command by command. Each step takes the first of the
--- rows that are left, and adds its rule or its shape.
+-- `clap` is told the table, argument by argument and command by command. Each step takes the first of the rows that are
+-- left, and adds its rule or its shape.
 use Rattle.std.proofs.Common.{◌≡◌, ◌∙◌, ◌<◌, ◌+◌, ◌||◌, ℕ, Bool, true, false, cond, List, ◌∷◌, Some, length, drop, map}
 use Rattle.std.proofs.Common.{get_or, refl, sym, ap, subst}
 use Rattle.std.specs.Prelude.{find}

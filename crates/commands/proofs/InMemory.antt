@@ -1,4 +1,4 @@
--- What is read of a text in memory is the text, or both are too long to be judged.
+-- A text in memory is read whole, or it is too long to be judged.
 use Rattle.std.proofs.Common.{◌≡◌, ◌∙◌, ◌<◌, ◌≤◌, ◌+◌, ◌⊎◌, ◌++◌, ℕ, List, length, Option, Some, None, ap, sym, subst}
 use Rattle.std.proofs.Common.{inl, inr, arith}
 use Rattle.std.proofs.lemmas.Bool.{cases_lt}

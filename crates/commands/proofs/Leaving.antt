@@ -1,4 +1,4 @@
--- What a command leaves, put together from what was sent: all lines, or a beginning of them.
+-- A command sends all lines of its output, or a prefix of them: its parts are put together from what was sent.
 use Rattle.std.proofs.Common.{arith, ◌≡◌, ◌≢◌, ◌∙◌, ℕ, Bool, true, false, List, Option, refl, subst, sym, inl, inr}
 use Rattle.std.specs.Prelude.{◌⊎◌, Result, Ok, Err, IfOk}
 use Rattle.std.specs.Io.KnownBytes.{Appends}

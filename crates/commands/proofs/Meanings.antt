@@ -1,4 +1,4 @@
--- What the status of the output of a run shows, and of a play of a schedule.
+-- The status of the output of a run, and of a play of a schedule, says what the record shows.
 use Rattle.std.proofs.Common.{ℕ, List}
 use Rattle.command_line.specs.declared.asking.RunOptions.{RunOptions}
 use Rattle.history_commands.specs.declared.status.Status.{Status}

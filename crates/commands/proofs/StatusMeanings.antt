@@ -1,5 +1,5 @@
--- What the exit status of a command says of the history in its first file, by the status of its output: the number 0 is
--- that of a yes alone, and 1 that of a no alone.
+-- The exit status of a command tells of the history in its first file: the number 0 is that of a yes alone, and 1 that
+-- of a no alone. By cases on the status of its output.
 use Rattle.std.proofs.Common.{◌≡◌, ◌≢◌, ◌∙◌, ℕ, true, List, Option, inl, inr, sym, refl, Bool}
 use Rattle.command_line.specs.declared.asking.Line.{Line}
 use Rattle.command_line.specs.declared.asking.Line.TheVariants.{Check, Search, Refute, Verify, Run, Simulate, OnFolder}

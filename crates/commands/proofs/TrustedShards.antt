@@ -1,5 +1,5 @@
--- What exit statuses show that are trusted: a yes of all is a yes of each, whose text is then that of 0, and a no is a
--- no of one. With what workers said taken for right, the shards decide the whole.
+-- Trusted exit statuses decide the whole, if the workers were right: a yes of all is a yes of each, whose text is then
+-- that of 0, and a no is a no of one.
 use Rattle.std.proofs.Common.{◌≡◌, ◌∙◌, ℕ, ◌+◌, ◌<◌, ◌≤◌, ◌⊎◌, inl, inr, List, [], ◌∷◌, ◌++◌, Bool, true, false, cond}
 use Rattle.std.proofs.Common.{Option, Some, None, append-nil, append_assoc, arith, ap, codes, get_or, length, refl}
 use Rattle.std.proofs.Common.{sym, subst}

@@ -1,5 +1,5 @@
--- What definitely was ahead of what a removal found was taken out before it: the order is split at the removal, and
--- counts of its front are compared. A queue and a stack that gave a value have cases of their own (`InFront`).
+-- A value that definitely was ahead of what a removal found was taken out before it: the order is split at the removal,
+-- and counts of its front are compared. A queue and a stack that gave a value have cases of their own (`InFront`).
 use Rattle.std.proofs.Common.{◌≡◌, ◌≢◌, ◌⊎◌, inl, inr, ℕ, ℤ, ◌<◌, ◌≤◌, ◌==◌, nat_lt, min, Bool, true, false, not, ◌&&◌}
 use Rattle.std.proofs.Common.{◌||◌, cond, List, [], ◌∷◌, ◌++◌, Option, Some, None, All, AllPairs, Contains, IfSome}
 use Rattle.std.proofs.Common.{IsSome, count_by, refl, ap, sym, ◌∙◌, subst, arith}

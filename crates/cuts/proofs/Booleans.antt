@@ -1,5 +1,5 @@
--- What tests decide: the cases of a test, and what follows where one gives true. These are stated once
--- here for all proofs of the crate, and each is immediate.
+-- A test gives true or false, and each result has its consequence. These are stated once here for all proofs of the
+-- crate, and each is immediate.
 use Rattle.std.proofs.Common.{◌≡◌, ◌⊎◌, inl, inr, ◌<◌, ◌&&◌, ℕ, nat_lt, Bool, true, false, Option, Some, None, IfSome}
 use Rattle.std.proofs.Common.{refl, arith, ap, ◌∙◌, List, [], ◌∷◌}
 use Rattle.std.specs.List.{list_all}

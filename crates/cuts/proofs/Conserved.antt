@@ -1,5 +1,5 @@
--- How many kept values are put in and taken out along calls: each step keeps the balance with what is contained, by
--- cases of the operations, and the calls of an order are counted among those of the history.
+-- Along calls as many kept values are taken out as were put in and are not contained: each step keeps this balance, by
+-- cases on the operations, and the calls of an order are counted among those of the history.
 use Rattle.std.proofs.Common.{rules, ◌≡◌, ◌≢◌, inl, inr, ℕ, ℤ, ◌<◌, ◌≤◌, ◌+◌, Bool, true, false, ◌&&◌, cond, List, []}
 use Rattle.std.proofs.Common.{◌∷◌, ◌++◌, length, Option, Some, None, AllPairs, IfSome, IsSome, is_some, filter}
 use Rattle.std.proofs.Common.{count_by, refl, ap, sym, ◌∙◌, subst, arith}

@@ -1,5 +1,5 @@
--- What the part contains, beside what the whole contains (`IsShadow`). Each operation keeps this, by cases of the
--- kinds: it is done in both, or the part leaves it out.
+-- The part contains a shadow of what the whole contains (`IsShadow`). Each operation keeps this, by cases on the kinds:
+-- it is done in both, or the part leaves it out.
 use Rattle.std.proofs.Common.{rules, ◌≡◌, ◌⊎◌, inl, inr, ℤ, ◌+ℤ◌, ◌≤ℤ◌, int_lt, Bool, true}
 use Rattle.std.proofs.Common.{false, not, ◌||◌, cond, List, [], ◌∷◌}
 use Rattle.std.proofs.Common.{◌++◌, Option, Some, None, is_some, IfSome, filter, refl, ap, sym, ◌∙◌, subst, arith}

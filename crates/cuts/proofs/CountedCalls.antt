@@ -1,5 +1,5 @@
--- What is set and taken away is counted alike among the operations and among the calls of an object. So an object whose
--- operations overdraw a content has no valid order.
+-- A count over the operations of an object is the count over its calls. So an object whose operations overdraw a
+-- content has no valid order.
 use Rattle.std.proofs.Common.{MatchBool, ◌≡◌, ℕ, ◌<◌, ◌≤◌, ◌+◌, ◌-◌, nat_lt, Bool, true, false, not, ◌&&◌}
 use Rattle.std.proofs.Common.{List, [], ◌∷◌, Option, Some, None, count_by, refl, ap, sym, ◌∙◌, arith}
 use Rattle.std.proofs.lemmas.Bool.Decides.{nat_tests}

@@ -1,5 +1,5 @@
--- What is made of an object's operations one by one is an object's history, and its calls are made of the calls one
--- by one.
+-- If each of an object's operations is replaced or left out by itself, the result is an object's history, and its calls
+-- come from the old calls one by one.
 use Rattle.std.proofs.Common.{◌≡◌, ◌≢◌, ℕ, ◌<◌, Bool, false, cond, List, [], ◌∷◌, Option, Some, None, map}
 use Rattle.std.proofs.Common.{filter, All, AllPairs, refl, ap, sym, ◌∙◌, subst, arith}
 use Rattle.std.specs.List.{filter_map, cons_option}

@@ -1,5 +1,6 @@
--- What is put in before a removal that finds nothing, or the least value of a heap, is taken out before it: the balance
--- of `Conserved` holds along the calls before it, and where they end the object contains none of these values.
+-- A value that is put in before a removal that finds nothing, or finds the least value of a heap, is taken out before
+-- it: the balance of `Conserved` holds along the calls before it, and where they end the object contains none of these
+-- values.
 use Rattle.std.proofs.Common.{rules, ◌≡◌, inl, inr, ℤ, ◌≤◌, ◌≤ℤ◌, ◌+◌, int_lt, Bool, true, false, List, [], ◌∷◌, ◌++◌}
 use Rattle.std.proofs.Common.{length, Option, Some, None, IfSome, filter, refl, sym, ◌∙◌, subst, arith}
 use Rattle.std.proofs.lemmas.Int.{ints}

@@ -1,4 +1,4 @@
--- What is in front of a value in a queue, or on top of it in a stack, is taken out before it. By induction over the
+-- A value in front of another one in a queue, or on top of it in a stack, is taken out before it. By induction over the
 -- calls: each puts a value in after it, or takes out one that is in front of it.
 use Rattle.std.proofs.Common.{◌≡◌, inl, inr, ℕ, ℤ, ◌<◌, ◌≤◌, ◌+◌, Bool, true, false, ◌||◌, cond, List, [], ◌∷◌, ◌++◌}
 use Rattle.std.proofs.Common.{Some, IfSome, refl, ap, sym, ◌∙◌, subst, arith}

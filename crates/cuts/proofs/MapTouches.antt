@@ -1,5 +1,5 @@
--- What the calls of a map do to the cell of a key is what their touches say: by cases of the operations, and of
--- whether they are on the key.
+-- The calls of a map do to the cell of a key what their touches say: by cases on the operations, and on whether they
+-- are on the key.
 use Rattle.std.proofs.Common.{arith, rules, ◌≡◌, ℤ, Option, Some, None, IfSome}
 use Rattle.std.specs.FinMap as map
 use Rattle.model.specs.declared.AnyOp.{AnyOp}

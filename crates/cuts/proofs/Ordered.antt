@@ -1,5 +1,5 @@
--- What holds of the calls of a valid order, in the terms of lists: which calls they are, and that each two differ. The
--- fields of the order say it by the words of the library, which the lemmas of `Lists` turn into those of lists.
+-- The fields of a valid order, in the terms of lists: which calls it has, and that each two differ. The definition says
+-- it by the words of the library, which the lemmas of `Lists` turn into those of lists.
 use Rattle.std.proofs.Common.{◌≢◌, ℤ, pos, ◌<◌, List, AllPairs, Contains, IsSome, ap, subst, arith}
 use Rattle.model.specs.declared.Kind.{Kind}
 use Rattle.model.specs.Orders.{Call, ReturnsBefore, IsValidOrder}

@@ -1,4 +1,4 @@
--- What the calls of a register do to its cell is what their touches say: by cases of the operations.
+-- The calls of a register do to its cell what their touches say: by cases on the operations.
 use Rattle.std.proofs.Common.{arith, rules, ◌≡◌, ℤ, true, false, Option, Some, None, IfSome, ap, sym, ◌∙◌}
 use Rattle.model.specs.declared.AnyOp.{AnyOp}
 use Rattle.model.specs.declared.AnyReply.{AnyReply}

@@ -1,5 +1,5 @@
--- What a table contains at a key, and a set of an element, after an insertion and after a removal, by a test of two
--- integers: that of the library compares them by their order.
+-- A table's value at a key, and whether a set contains an element, after an insertion and after a removal, by a test of
+-- two integers. The library compares them by their order.
 use Rattle.std.proofs.Common.{◌≡◌, ℤ, not, ◌&&◌, ◌||◌, cond, Some, None, ap, ◌∙◌, arith}
 use Rattle.std.proofs.lemmas.Int.{ints}
 use Rattle.std.specs.Ordering.{int_cmp, int_eq, eq_by_cmp}

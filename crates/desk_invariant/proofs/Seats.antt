@@ -1,4 +1,4 @@
--- What a step of one client leaves of what the others know: each fact of a view is of what the step does not write
+-- A step of one client leaves true what the others know: each fact of a view is of what the step does not write
 -- (`Later`), so the view stays true (`seats_after`).
 use Rattle.std.proofs.Common.{inr, inl, ◌≡◌, ◌≢◌, ℕ, ◌+◌, ◌<◌, ◌≤◌, Bool, true, false, List, [], length, get_or, set}
 use Rattle.std.proofs.Common.{Some, All, refl, sym, ap, subst, ◌∙◌, arith}

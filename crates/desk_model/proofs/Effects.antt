@@ -1,5 +1,5 @@
--- What each transition changes keeps the invariant: what it writes at the changed place and elsewhere (`changed_all`),
--- and the rest as before.
+-- Each transition keeps the invariant: by what it writes at the changed place and leaves elsewhere (`changed_all`),
+-- with the rest as before.
 use Rattle.std.proofs.Common.{◌≡◌, ◌≢◌, ℕ, ◌+◌, ◌*◌, ◌<◌, ◌≤◌, List, [], ◌∷◌, ◌++◌, Option, Some, None, All, length}
 use Rattle.std.proofs.Common.{refl, sym, ap, subst, ◌∙◌, arith, append-nil, length-append}
 use mathlib.Core.Logic.{dite}

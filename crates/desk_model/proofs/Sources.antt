@@ -1,4 +1,4 @@
--- What the calls of a client have put into a log: of which calls it is, and that its tickets rise. By induction on the
+-- Each entry of a log comes from a call of a client, and the tickets of a client's entries rise. By induction on the
 -- calls that are over, and by the stage of the one that is not.
 use Rattle.std.proofs.Common.{◌≡◌, ℕ, ◌<◌, ◌==◌, Bool, true, false, cond, eqb-true, inl, inr, List, [], ◌∷◌, ◌++◌, map}
 use Rattle.std.proofs.Common.{Option, Some, None, IfSome, refl, ap, sym, ◌∙◌, subst, append_assoc, arith}

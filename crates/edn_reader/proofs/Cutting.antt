@@ -1,5 +1,5 @@
--- What is kept of an element's tokens, one by one, are the tokens of what is kept of it (`kept_tokens`). By induction
--- on the element: a nested value is passed over, an item is kept while there is room, and then the rest is dropped.
+-- The tokens that are kept of an element, one by one, are those of its truncated form (`kept_tokens`). By induction on
+-- the element: a nested value is passed over, an item is kept while there is room, and then the rest is dropped.
 use Rattle.std.proofs.Common.{◌≡◌, ℕ, zero, suc, ◌+◌, ◌-◌, Bool, true, false, List, [], ◌∷◌, ◌++◌, refl, sym, ap}
 use Rattle.std.proofs.Common.{◌∙◌, append_assoc, add-one, arith}
 use Rattle.std.specs.Prelude.{◌==◌}

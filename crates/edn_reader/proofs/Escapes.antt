@@ -1,5 +1,5 @@
--- How a string is cut for writing: its longest front without an escape is written as it is, and the rest is what is
--- left to write (`escaped_plain`). By induction along the bytes.
+-- A string is cut for writing: its longest front without an escape is written as it is, and the rest is what is left to
+-- write (`escaped_plain`). By induction along the bytes.
 use Rattle.std.proofs.Common.{◌≡◌, ℕ, ◌-◌, ◌<◌, ◌≤◌, Bool, true, false, cond, List, [], ◌∷◌, ◌++◌, length, take, get_or}
 use Rattle.std.proofs.Common.{refl, ap, arith}
 use Rattle.edn_reader.specs.Text.{escape_text, escaped}

@@ -1,5 +1,6 @@
--- How far a text is read: what was read is spelled so, and whatever the text spells goes on from here (`Progress`).
--- Each token keeps this, by cases on what the next token is; so a text has one reading (`one_reading_of`).
+-- Reading makes progress (`Progress`): the text that was read spells the tokens so far, and each list of tokens that
+-- the text spells goes on from here. Each token keeps this, by cases on what the next token is; so a text has one
+-- reading (`one_reading_of`).
 use Rattle.std.proofs.Common.{◌≡◌, ℕ, ◌-◌, ◌≤◌, true, ◌<◌, Option, Some, None, List, [], ◌∷◌, ◌++◌, length, refl, sym}
 use Rattle.std.proofs.Common.{ap, subst, ◌∙◌, append_assoc, arith}
 use Rattle.std.specs.Prelude.{option_map, IsSome, ◌==◌}

@@ -1,5 +1,5 @@
--- What proper events denote is a well-formed history (`denoted_is_history`): of each process it has an invocation,
--- then its response, in turn. By induction along the events, for each process by itself.
+-- Proper events denote a well-formed history (`denoted_is_history`): of each process it has an invocation, then its
+-- response, in turn. By induction along the events, for each process by itself.
 use Rattle.std.proofs.Common.{◌≡◌, ℕ, ◌==◌, ◌<◌, ◌&&◌, Bool, true, false, cond, IsTrue, ◌⊎◌, inl, inr, List, []}
 use Rattle.std.proofs.Common.{◌∷◌, ◌++◌, map, Some, refl, ap, sym, ◌∙◌, subst, arith}
 use Rattle.std.proofs.lemmas.Bool.{eqb-true, eq-eqb}

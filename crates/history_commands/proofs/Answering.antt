@@ -1,4 +1,4 @@
--- What the answers of a search show, and the text that is made of them.
+-- The answers of a search, and the text that is made of them, show what each object's answer shows.
 use Rattle.std.proofs.Common.{◌≡◌, ◌∙◌, ◌<◌, ◌||◌, ℕ, suc, true, List, [], ◌∷◌, map, All, Any, AllPairs, Contains}
 use Rattle.std.proofs.Common.{Option, Some, refl, sym, arith}
 use Rattle.std.specs.Prelude.{◌↔◌}

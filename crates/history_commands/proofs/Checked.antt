@@ -1,4 +1,4 @@
--- What the status of the lines of a verdict shows: no other verdict gives a yes.
+-- The status of the lines of a verdict tells which verdict it is: no other verdict gives a yes.
 use Rattle.std.proofs.Common.{arith, ◌≡◌, ◌≢◌, ◌∙◌, ℕ, List, sym}
 use Rattle.checker.specs.declared.refusal.Refusal.{Refusal}
 use Rattle.report.specs.declared.verdict.Verdict.{Verdict}

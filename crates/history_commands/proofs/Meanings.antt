@@ -1,4 +1,4 @@
--- What the status of an output shows: yes, that each object has a valid order, and no, that some object has none. So
+-- The status of an output shows, for yes, that each object has a valid order, and for no, that some object has none. So
 -- by locality the history is, or is not, linearizable (`is_search`, `is_refute`).
 use Rattle.std.proofs.Common.{arith, ◌≢◌, ◌∙◌, ℕ, List, inl, inr, sym}
 use Rattle.events.specs.declared.event.Event.{Event}

@@ -1,4 +1,4 @@
--- What a merge shows. An answer on a shard with the numbers of the whole shows the same of its text, since numbers do
+-- A merge shows of the texts of the shards what it shows of the shards with the numbers of the whole, since numbers do
 -- not matter; and lines that are put in order, and joined, keep those of each object.
 use Rattle.std.proofs.Common.{arith, ◌≡◌, ◌∙◌, ◌||◌, ℕ, true, false, Bool, cond, List, [], ◌∷◌, ◌++◌, inl, inr, refl}
 use Rattle.std.proofs.Common.{ap, sym, subst, map, Any, IsSome, append_assoc}

@@ -1,5 +1,5 @@
--- What a verdict on certificates says about the texts that denote them and their history; and what it
--- says where a text could not be read.
+-- A verdict on certificates holds of the texts that denote them and their history; and if a text could not be read, the
+-- verdict says so.
 use Rattle.std.proofs.Common.{◌≡◌, List, ℕ, map, inl, inr, ap, sym, subst}
 use Rattle.edn_reader.specs.Sound.{IsShort}
 use Rattle.std.specs.Prelude.{Result, Ok, Err}

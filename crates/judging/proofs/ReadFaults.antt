@@ -1,4 +1,4 @@
--- What stops the reading of a history or of certificates is the first fault of the text, or an allocation failure
+-- The reading of a history or of certificates stops at the first fault of the text, or at an allocation failure
 -- (`stopped_maps`, `stops_for_memory`). By cases on the fault.
 use Rattle.std.proofs.Common.{◌≡◌, ℕ, ◌<◌, List, length, Option, Some, None, IfSome, inr, refl, subst, sym, arith}
 use Rattle.edn_reader.specs.Datum.{Datum, max_length}

@@ -1,5 +1,5 @@
--- What was read of a source so far: one more piece keeps it (`one_more_piece`). At the end of the source, or at the
--- limit, that is what the source gives (`came_to_end`, `came_to_limit`).
+-- The text that was read so far is a beginning of what the source gives; one more piece keeps this (`one_more_piece`).
+-- At the end of the source, or at the limit, it is all (`came_to_end`, `came_to_limit`).
 use Rattle.std.proofs.Common.{◌-◌, take, subst, ◌≡◌, ℕ, ◌+◌, ◌<◌, ◌≤◌, List, [], ◌++◌, length}
 use Rattle.std.proofs.Common.{Option, Some, None, false, Bool, refl, ap, sym, ◌∙◌, arith}
 use Rattle.std.specs.Io.KnownBytes.{Consumes}

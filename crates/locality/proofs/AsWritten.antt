@@ -1,6 +1,6 @@
--- What is linearizable is so as the text of Herlihy and Wing reads: an operation with both events in a history is one
--- of its completion, since a completion drops no invocation that a response answers. By counting the events of a
--- process.
+-- A linearizable history is linearizable as the text of Herlihy and Wing reads: an operation with both events in a
+-- history is one of its completion, since a completion drops no invocation that a response answers. By counting the
+-- events of a process.
 use Rattle.std.proofs.Common.{◌≡◌, ℕ, ◌<◌, ◌≤◌, ◌==◌, false, List, [], ◌∷◌, ◌++◌, length, refl, ap, sym, ◌∙◌}
 use Rattle.std.proofs.Common.{arith, pos, zero, suc, ◌⊎◌, inl, inr, Some}
 use Rattle.std.proofs.lemmas.Bool.{eqb-true, and_parts}

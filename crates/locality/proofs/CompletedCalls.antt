@@ -1,4 +1,4 @@
--- What each process completed in a linearizable history, by induction on its calls; and the one line of it all, which
+-- Each process completed these calls in a linearizable history, by induction on its calls; and one line of all of them
 -- takes the calls as the sequence has them.
 use Rattle.std.proofs.Common.{arith, ◌≡◌, ℕ, ◌==◌, true, false, cond, inl, inr, List, [], ◌∷◌, ◌++◌, map, filter, Some}
 use Rattle.std.proofs.Common.{None, refl, ap, sym, ◌∙◌, subst}

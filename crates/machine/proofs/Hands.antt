@@ -1,4 +1,4 @@
--- What is in a client's hand is in no other hand (`same_hand`), so it can be put back once (`put_back_not`). By the
+-- A request in a client's hand is in no other hand (`same_hand`), so it can be put back once (`put_back_not`). By the
 -- invariant of the world.
 use Rattle.std.proofs.Common.{◌≡◌, ℕ, [], Some, None, IsSome, get_or, ap, sym, ◌∙◌, subst}
 use Rattle.std.proofs.lemmas.Option.{same_Some}

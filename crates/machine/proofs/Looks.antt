@@ -1,4 +1,4 @@
--- What a look at the machine's fields says about its state: an element of a list is that of the world with this number
+-- A look at the machine's fields tells its state: an element of a list is that of the world with this number
 -- (`seen_at`), and a client that has come is one of the list (`stage_there`).
 use Rattle.std.proofs.Common.{◌≡◌, ◌≢◌, ℕ, zero, suc, ◌*◌, ◌<◌, List, [], ◌∷◌, length, Option, Some, None}
 use Rattle.std.proofs.Common.{IsSome, IfSome, get_or, map, refl, ap, sym, ◌∙◌, subst, arith, slice_get}

@@ -1,5 +1,5 @@
--- What a client does on its own row, by the fields of the machine. The fields that the code writes are those that a
--- step of `Kept` writes, under another name of the state.
+-- A client's steps on its own row, by the fields of the machine. The fields that the code writes are those that a step
+-- of `Kept` writes, under another name of the state.
 use Rattle.std.proofs.Common.{◌≡◌, ℕ, ◌+◌, ◌<◌, List, [], ◌∷◌, ◌++◌, length, Option, Some, None, IsSome, true, set}
 use Rattle.std.proofs.Common.{get_or, map, refl, ap, sym, ◌∙◌, subst, arith, slice_get}
 use Rattle.std.proofs.lemmas.List.{map-set, length-map, get_or-map, get_or-set_same}

@@ -1,4 +1,4 @@
--- What a write to a field of a machine makes of its world: the function of the world has the new value at one number,
+-- A write to a field of a machine changes its world at one number: the function of the world has the new value there,
 -- and is as before elsewhere. A lemma for each field, by the lists of `Lists`.
 use Rattle.std.proofs.Common.{◌≡◌, ℕ, ◌+◌, ◌<◌, List, [], ◌++◌, length, Option, None, true, false, set, get_or, map}
 use Rattle.std.proofs.Common.{ap, ◌∙◌}

@@ -1,4 +1,4 @@
--- What is in a list, and what holds of each two of its elements, by recursion.
+-- Membership in a list, and facts of each two of its elements, by recursion.
 use Rattle.std.proofs.Common.{◌≡◌, ℕ, zero, suc, ◌<◌, ◌≤◌, ◌==◌, ◌≢◌, nat_lt, ◌&&◌, Bool, true, false, not, cond, ◌⊎◌}
 use Rattle.std.proofs.Common.{inl, inr, List, [], ◌∷◌, ◌++◌, length, map, filter, Some, All, AllPairs, Contains}
 use Rattle.std.proofs.Common.{slice_get, get_or, refl, ap, sym, ◌∙◌, subst, arith}

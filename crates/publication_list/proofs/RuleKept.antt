@@ -1,4 +1,4 @@
--- What a step leaves: what holds of the list itself, the words, and what the other seats know.
+-- A step keeps the rule: of the list itself, of the words, and of what the other seats know.
 use Rattle.std.proofs.Common.{inr, inl, ◌≡◌, ◌≢◌, ◌⊎◌, ℕ, zero, suc, ◌+◌, ◌<◌, ◌≤◌, List, ◌∷◌, ◌++◌, length, get_or}
 use Rattle.std.proofs.Common.{set, remove, Option, Some, None, length-set, get_or-set_other, get_or-set_same, refl, sym}
 use Rattle.std.proofs.Common.{ap, ◌∙◌, subst, append_assoc, arith}

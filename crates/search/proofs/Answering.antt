@@ -1,5 +1,5 @@
--- How a search of an order answers for an object: found, with a valid order; impossible, if there is none; or where
--- it ended (`answer_from`). By cases on the outcome.
+-- A search of an order answers for an object: found, with a valid order; impossible, if there is none; or where it
+-- ended (`answer_from`). By cases on the outcome.
 use Rattle.std.proofs.Common.{◌≡◌, ℕ, ◌<◌, ◌≤◌, List, length, Any, IsSome, refl}
 use Rattle.std.specs.Prelude.{◌↔◌}
 use Rattle.model.specs.declared.Kind.{Kind}

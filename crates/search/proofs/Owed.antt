@@ -1,5 +1,5 @@
--- How many calls that returned are left: none exactly where each has been placed (`none_owed`), one less after such a
--- call is placed (`owes_more`), and as many after a pending one. By induction on the count below a bound.
+-- The number of calls that returned and are left: it is 0 exactly if each has been placed (`none_owed`), one less after
+-- such a call is placed (`owes_more`), and the same after a pending one. By induction on the count below a bound.
 use Rattle.std.proofs.Common.{◌≡◌, ◌≢◌, ℕ, zero, suc, ◌<◌, ◌==◌, ◌&&◌, not, Bool, true, false, cond, ◌⊎◌, inl}
 use Rattle.std.proofs.Common.{inr, List, [], ◌∷◌, Option, Some, None, is_some, refl, ap, sym, ◌∙◌, arith}
 use Rattle.std.specs.List.{list_any}

@@ -1,6 +1,6 @@
--- What one step of the search keeps: the places so far are a beginning that can be reached, and each choice before
--- the present one is dead. So an end with nothing left to try says that no order is valid (`dead_now`), and one with
--- all calls placed is one.
+-- One step of the search keeps its invariant: the places so far are a beginning that can be reached, and each choice
+-- before the present one is dead. So an end with nothing left to try says that no order is valid (`dead_now`), and one
+-- with all calls placed is one.
 use Rattle.std.proofs.Common.{◌≡◌, ◌≢◌, ℕ, suc, ◌+◌, ◌<◌, ◌≤◌, ◌⊎◌, inl, inr, List, [], ◌∷◌, ◌++◌, Some, get_or}
 use Rattle.std.proofs.Common.{add-one, append_assoc, Bool, true, false, cond, is_some, reverse, ap, sym, ◌∙◌, subst}
 use Rattle.std.proofs.Common.{arith}

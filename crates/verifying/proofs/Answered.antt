@@ -1,5 +1,5 @@
--- What one reason shows of an object is an answer to its claim: impossible, if the part has no valid order, or what
--- the why_not is. By what `refute` says of the reason.
+-- One reason answers a claim on an object by what it shows: impossible, if the part has no valid order, or why it is
+-- not shown. By what `refute` says of the reason.
 use Rattle.std.proofs.Common.{ℕ, ℤ, List, Option, inl, inr, refl}
 use Rattle.std.specs.Global.{Vec}
 use Rattle.model.specs.declared.Kind.{Kind}

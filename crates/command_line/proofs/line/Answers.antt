@@ -1,5 +1,4 @@
--- What clap was told is the command of the table, so what it answers is what the words ask for, by
--- the lemmas on what it found.
+-- `clap` was told the command of the table, so its answer is what the words ask for, by the lemmas on what it found.
 use Rattle.std.proofs.Common.{map}
 use Rattle.clap.specs.Words.{app_of}
 use Rattle.command_line.proofs.Found.{asked, not_read, refused}

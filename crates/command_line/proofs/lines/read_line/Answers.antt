@@ -1,5 +1,4 @@
--- What clap found has this name and these rows, so the line of the command with this name is its
--- line.
+-- The command that `clap` found has this name and these rows, so the line of the command with this name is its line.
 use Rattle.std.proofs.Common.{◌≡◌, ◌∙◌, Some, sym}
 use Rattle.clap.specs.Simple.{subcommand_rows_of}
 use Rattle.command_line.specs.Lines.{rows_in, verb_named}
