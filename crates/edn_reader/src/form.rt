@@ -46,7 +46,8 @@ impl Name {
         unsafe { std::str::from_utf8_unchecked(self.as_bytes()) }
     }
 
-    pub(crate) fn from_bytes(alloc: Global, bytes: &[u8]) -> Result<Name, AllocError>
+    /// A name of its own with these bytes.
+    pub fn from_bytes(alloc: Global, bytes: &[u8]) -> Result<Name, AllocError>
         requires { is_name bytes.now ≡ true }
         ensures { IfOk result (λ n. name_bytes n ≡ bytes.now) }
     {

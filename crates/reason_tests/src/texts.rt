@@ -2,11 +2,11 @@
 //! allocation fails.
 
 use cuts::{Cut, part_by};
-use edn::{Out, WriteFault, read_forms};
+use edn::read_forms;
 use events::split;
 use history::read_history_text;
 use reason_report::{push_operations, push_reason};
-use refutation::{Reason, ReasonFault, ReasonFaultKind, read_reasons, write_reasons};
+use refutation::{Reason, ReasonFault, ReasonFaultKind, read_reasons, reason_lines};
 use std::alloc::Global;
 use std::test::Fail;
 
@@ -57,9 +57,8 @@ fn reasons_that_were_read_are_written_as_they_were(rt: HostRuntime) -> Result<()
         let Ok(reasons) = read(rt.alloc(), line.as_bytes())? else {
             return Err(Fail::new("a reason is refused"));
         };
-        let mut sink = Out::new(Vec::new(rt.alloc()));
-        write_reasons(reasons.as_slice(), &mut sink)?;
-        assert!(rt; sink.into_inner().as_slice() == line.as_bytes(), "{line}");
+        let written = reason_lines(rt.alloc(), reasons.as_slice())?;
+        assert!(rt; written.as_slice() == line.as_bytes(), "{line}");
     }
     Ok(())
 }
@@ -71,11 +70,8 @@ fn what_was_ahead_is_counted_whatever_else_a_count_says(rt: HostRuntime) -> Resu
     let Ok(reasons) = read(rt.alloc(), text)? else {
         return Err(Fail::new("a reason is refused"));
     };
-    let mut sink = Out::new(Vec::new(rt.alloc()));
-    write_reasons(reasons.as_slice(), &mut sink)?;
-    assert!(rt;
-        sink.into_inner().as_slice() == b"{:object 0, :cuts [], :count {:ahead 3}}\n".as_slice()
-    );
+    let written = reason_lines(rt.alloc(), reasons.as_slice())?;
+    assert!(rt; written.as_slice() == b"{:object 0, :cuts [], :count {:ahead 3}}\n".as_slice());
     Ok(())
 }
 
@@ -102,24 +98,14 @@ fn what_was_ahead_is_counted_at_a_number_from_a_number(rt: HostRuntime) -> Resul
 }
 
 #[test]
-fn a_sink_that_fails_has_a_beginning_of_the_reasons(rt: HostRuntime) -> Result<(), Fail> {
+fn the_lines_of_several_reasons_are_in_their_order(rt: HostRuntime) -> Result<(), Fail> {
     let text =
         b"{:object 0, :cuts [{:cell [-2], :other 9, :numbers [4]}]}\n{:object 3, :cuts []}\n";
     let Ok(reasons) = read(rt.alloc(), text)? else {
         return Err(Fail::new("reasons are refused"));
     };
-    for left in 0..text.len() + 1 {
-        let mut room = vec![in rt.alloc(); 0; left]?;
-        let mut sink = Out::new(room.as_mut_slice());
-        let wrote = write_reasons(reasons.as_slice(), &mut sink);
-        let wanted = if left < text.len() {
-            Err(WriteFault::Device)
-        } else {
-            Ok(())
-        };
-        assert!(rt; wrote == wanted);
-        assert!(rt; room.as_slice() == &text[..left]);
-    }
+    let written = reason_lines(rt.alloc(), reasons.as_slice())?;
+    assert!(rt; written.as_slice() == text.as_slice());
     Ok(())
 }
 

@@ -1,7 +1,6 @@
 pub mod Elements
 pub mod Reading
 pub mod Rising
-pub mod Sending
 pub mod Writing
 pub mod Objects
 pub mod OnePart

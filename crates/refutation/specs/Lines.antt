@@ -1,17 +1,16 @@
--- The text that is written for reasons.
-use Rattle.std.specs.Prelude.{ℕ, ◌≤◌, ◌==◌, ℤ, Bool, true, false, List, [], ◌∷◌, ◌++◌}
-use Rattle.std.specs.Prelude.{All, Option, Some, None, codes, decimal, if◌then◌else◌}
-use Rattle.std.specs.Fmt.{signed_decimal}
-use Rattle.edn_reader.specs.Datum.{Datum}
+-- The forms and the lines that are written for reasons.
+use Rattle.std.specs.Prelude.{ℕ, ◌≤◌, ◌==◌, ℤ, pos, true, List, [], ◌∷◌, ◌++◌, map}
+use Rattle.std.specs.Prelude.{All, Option, Some, None, codes, if◌then◌else◌}
+use Rattle.edn_reader.specs.Datum.{Datum, integer, keyword, boolean, atom, vector, dictionary}
+use Rattle.edn_reader.specs.Datum.{items_of, entries_of}
 use Rattle.edn_reader.specs.Spells.{Spells}
-use Rattle.edn_reader.specs.Text.{between}
+use Rattle.edn_reader.specs.Text.{text_of, form_lines}
 use Rattle.edn.specs.Fields.{max_object}
 use Rattle.cuts.specs.declared.keeping.Values.{Values}
 use Rattle.cuts.specs.declared.keeping.Values.TheVariants as values
 use Rattle.cuts.specs.declared.cutting.Cut.{Cut}
 use Rattle.cuts.specs.declared.cutting.Cut.TheVariants.{From, Until, Without, Keep, Cell}
 use Rattle.cuts.specs.declared.cutting.Cut.TheVariants.{Entry}
-use Rattle.cuts.specs.declared.counting.Count.{Count}
 use Rattle.cuts.specs.declared.counting.Counted.{Counted}
 use Rattle.cuts.specs.declared.counting.Counted.TheVariants as counted
 use Rattle.search.specs.declared.trials.TryFirst.{TryFirst}
@@ -21,123 +20,133 @@ use Rattle.refutation.specs.declared.reason.Basis.TheVariants.{Search, Counting,
 use Rattle.refutation.specs.declared.reason.Reason.{Reason}
 use Rattle.refutation.specs.Denotes.{Denotes}
 
--- ---- sets
+-- the pairs of a map: each is a key and its value
+abbrev pub Pairs : Type 0
+Pairs = List (List ℕ × Datum)
 
--- the integers with a space between them
-abbrev pub integers_text : Bool → List ℤ → List ℕ
-integers_text first [] = []
-integers_text first (z ∷ zs) =
-    (between first (codes " ") ++ signed_decimal z) ++ integers_text false zs
+-- the map of these pairs
+abbrev pub map_datum : Pairs → Datum
+map_datum ps = dictionary (entries_of ps)
 
--- the numbers of maps with a space between them
-abbrev pub naturals_text : Bool → List ℕ → List ℕ
-naturals_text first [] = []
-naturals_text first (n ∷ ns) = (between first (codes " ") ++ decimal n) ++ naturals_text false ns
+-- an integer
+abbrev pub integer_datum : ℤ → Datum
+integer_datum z = atom (integer z)
 
--- :all, or a vector of integers
-abbrev pub values_text : Values → List ℕ
-values_text values.All = codes ":all"
-values_text (values.Only s) = codes "[" ++ (integers_text true s.keys ++ codes "]")
+-- a keyword, without its colon
+abbrev pub keyword_datum : List ℕ → Datum
+keyword_datum k = atom (keyword k)
 
--- the pair :numbers with a vector of numbers; nothing if there are none
-abbrev pub given_numbers_text : List ℕ → List ℕ
-given_numbers_text [] = []
-given_numbers_text (n ∷ ns) = codes ", :numbers [" ++ (naturals_text true (n ∷ ns) ++ codes "]")
+-- the number of a map or of an object, or a number of steps
+abbrev pub number_datum : ℕ → Datum
+number_datum n = integer_datum (pos n)
 
 -- ---- cuts
 
--- the pairs :other and :numbers
-abbrev pub other_text : ℤ → List ℕ → List ℕ
-other_text other ns = (codes ", :other " ++ signed_decimal other) ++ given_numbers_text ns
+-- a vector of these integers
+abbrev pub integers_datum : List ℤ → Datum
+integers_datum zs = vector (items_of (map integer_datum zs))
 
--- a cut of a cell, up to the values that it keeps, such as `{:cell [1 2]`
-abbrev pub cell_text : Values → List ℕ
-cell_text vs = codes "{:cell " ++ values_text vs
+-- a vector of these numbers
+abbrev pub numbers_datum : List ℕ → Datum
+numbers_datum ns = vector (items_of (map number_datum ns))
 
--- a cut without its closing bracket
-abbrev pub open_cut_text : Cut → List ℕ
-open_cut_text (From n) = codes "{:from " ++ decimal n
-open_cut_text (Until n) = codes "{:until " ++ decimal n
-open_cut_text (Without v n) =
-    (codes "{:without " ++ signed_decimal v) ++ (codes ", :before " ++ decimal n)
-open_cut_text (Keep vs ns) = codes "{:keep " ++ (values_text vs ++ given_numbers_text ns.keys)
-open_cut_text (Cell vs other ns) = cell_text vs ++ other_text other ns.keys
-open_cut_text (Entry key vs other ns) =
-    cell_text vs ++ ((codes ", :key " ++ signed_decimal key) ++ other_text other ns.keys)
+-- :all, or a vector of integers
+abbrev pub values_datum : Values → Datum
+values_datum values.All = keyword_datum (codes "all")
+values_datum (values.Only s) = integers_datum s.keys
 
--- the text of a cut, such as `{:until 120}` or `{:keep [1 2], :numbers [4 7]}`
-abbrev pub cut_text : Cut → List ℕ
-cut_text c = open_cut_text c ++ codes "}"
+-- the pair :numbers; nothing if there are none
+abbrev pub numbers_pairs : List ℕ → Pairs
+numbers_pairs [] = []
+numbers_pairs (n ∷ ns) = (codes "numbers", numbers_datum (n ∷ ns)) ∷ []
 
--- the cuts with a space between them
-abbrev pub cuts_text : Bool → List Cut → List ℕ
-cuts_text first [] = []
-cuts_text first (c ∷ cs) = (between first (codes " ") ++ cut_text c) ++ cuts_text false cs
+-- the pairs of a cut
+abbrev pub cut_pairs : Cut → Pairs
+cut_pairs (From n) = (codes "from", number_datum n) ∷ []
+cut_pairs (Until n) = (codes "until", number_datum n) ∷ []
+cut_pairs (Without v n) =
+    (codes "without", integer_datum v) ∷ (codes "before", number_datum n) ∷ []
+cut_pairs (Keep vs ns) = (codes "keep", values_datum vs) ∷ numbers_pairs ns.keys
+cut_pairs (Cell vs other ns) =
+    (codes "cell", values_datum vs) ∷ (codes "other", integer_datum other)
+    ∷ numbers_pairs ns.keys
+cut_pairs (Entry key vs other ns) =
+    (codes "cell", values_datum vs) ∷ (codes "key", integer_datum key)
+    ∷ (codes "other", integer_datum other) ∷ numbers_pairs ns.keys
+
+-- a cut, such as `{:until 120}` or `{:keep [1 2], :numbers [4 7]}`
+abbrev pub cut_datum : Cut → Datum
+cut_datum c = map_datum (cut_pairs c)
+
+-- a vector of these cuts
+abbrev pub cuts_datum : List Cut → Datum
+cuts_datum cs = vector (items_of (map cut_datum cs))
 
 -- ---- basis
 
--- the pairs that say what is counted, such as `:key 5, :value 7`
-abbrev pub counted_text : Counted → List ℕ
-counted_text (counted.Value v) = codes ":value " ++ signed_decimal v
-counted_text (counted.Entry k v) =
-    (codes ":key " ++ signed_decimal k) ++ (codes ", :value " ++ signed_decimal v)
-counted_text (counted.NoEntry k) = codes ":key " ++ signed_decimal k
-counted_text counted.Held = codes ":held true"
-counted_text counted.Free = codes ":free true"
+-- the pair :from
+abbrev pub from_pairs : ℕ → Pairs
+from_pairs n = (codes "from", number_datum n) ∷ []
 
--- the pair :count, such as `, :count {:value 7, :from 0}`
-abbrev pub count_text : Count → List ℕ
-count_text c =
-    codes ", :count {"
-    ++ (counted_text c.counted ++ ((codes ", :from " ++ decimal c.from) ++ codes "}"))
+-- the pairs of a count, such as of `{:key 5, :value 7, :from 0}`
+abbrev pub count_pairs : Counted → ℕ → Pairs
+count_pairs (counted.Value v) n = (codes "value", integer_datum v) ∷ from_pairs n
+count_pairs (counted.Entry k v) n =
+    (codes "key", integer_datum k) ∷ (codes "value", integer_datum v) ∷ from_pairs n
+count_pairs (counted.NoEntry k) n = (codes "key", integer_datum k) ∷ from_pairs n
+count_pairs counted.Held n = (codes "held", atom (boolean true)) ∷ from_pairs n
+count_pairs counted.Free n = (codes "free", atom (boolean true)) ∷ from_pairs n
 
--- the pair :from, if it is not 0, and the closing bracket
-abbrev pub start_text : ℕ → List ℕ
-start_text from =
-    if from == 0 then codes "}" else (codes ", :from " ++ decimal from) ++ codes "}"
+-- the pair :from, if it is not 0
+abbrev pub start_pairs : ℕ → Pairs
+start_pairs n = if n == 0 then [] else from_pairs n
 
--- the pair :count, such as `, :count {:ahead 1708}` and `, :count {:ahead 40, :from 17}`
-abbrev pub ahead_text : ℕ → ℕ → List ℕ
-ahead_text number from = (codes ", :count {:ahead " ++ decimal number) ++ start_text from
+-- the pairs of a count of what was ahead, such as of `{:ahead 1708}` or `{:ahead 40, :from 17}`
+abbrev pub ahead_pairs : ℕ → ℕ → Pairs
+ahead_pairs number n = (codes "ahead", number_datum number) ∷ start_pairs n
 
--- the pair :search with a number of steps, up to that number
-abbrev pub first_text : TryFirst → List ℕ
-first_text LeastNumber = codes ", :search {:first :number, :steps "
-first_text LeastReturn = codes ", :search {:first :return, :steps "
+-- the keyword that says which operation is tried first
+abbrev pub first_word : TryFirst → List ℕ
+first_word LeastNumber = codes "number"
+first_word LeastReturn = codes "return"
 
--- the pair :search, such as `, :search {:first :return, :steps 20000}`; nothing if the search has
--- the default order and no number of steps
-abbrev pub search_text : TryFirst → Option ℕ → List ℕ
-search_text first (Some n) = (first_text first ++ decimal n) ++ codes "}"
-search_text LeastNumber None = []
-search_text LeastReturn None = codes ", :search {:first :return}"
+-- the pair :steps, if there is a number of steps
+abbrev pub steps_pairs : Option ℕ → Pairs
+steps_pairs None = []
+steps_pairs (Some n) = (codes "steps", number_datum n) ∷ []
 
--- a count, or how the part is searched
-abbrev pub basis_text : Basis → List ℕ
-basis_text (Search trial) = search_text trial.first trial.steps
-basis_text (Counting c) = count_text c
-basis_text (Ahead number from) = ahead_text number from
+-- a search, such as `{:first :return, :steps 20000}`
+abbrev pub search_datum : TryFirst → Option ℕ → Datum
+search_datum first steps =
+    map_datum ((codes "first", keyword_datum (first_word first)) ∷ steps_pairs steps)
+
+-- the pair :search; nothing if the search has the default order and no number of steps
+abbrev pub search_pairs : TryFirst → Option ℕ → Pairs
+search_pairs LeastNumber None = []
+search_pairs first steps = (codes "search", search_datum first steps) ∷ []
+
+-- the pair :count, or the pair :search
+abbrev pub basis_pairs : Basis → Pairs
+basis_pairs (Search trial) = search_pairs trial.first trial.steps
+basis_pairs (Counting c) = (codes "count", map_datum (count_pairs c.counted c.from)) ∷ []
+basis_pairs (Ahead number from) = (codes "count", map_datum (ahead_pairs number from)) ∷ []
 
 -- ---- reasons
 
--- the pair :cuts
-abbrev pub all_cuts_text : List Cut → List ℕ
-all_cuts_text cs = codes ", :cuts [" ++ (cuts_text true cs ++ codes "]")
+-- the form of a reason, such as `{:object 0, :cuts [{:until 120}]}`
+abbrev pub datum_of : Reason → Datum
+datum_of r = map_datum
+    ((codes "object", number_datum r.object)
+    ∷ (codes "cuts", cuts_datum r.cuts.items)
+    ∷ basis_pairs r.basis)
 
--- a reason without its closing bracket
-abbrev pub open_reason_text : Reason → List ℕ
-open_reason_text r =
-    (codes "{:object " ++ decimal r.object)
-    ++ (all_cuts_text r.cuts.items ++ basis_text r.basis)
-
--- the line of a reason, such as `{:object 0, :cuts [{:until 120}]}`
+-- the line of a reason
 abbrev pub reason_line : Reason → List ℕ
-reason_line r = open_reason_text r ++ codes "}\n"
+reason_line r = text_of (datum_of r) ++ codes "\n"
 
 -- the lines of the reasons, in order
 abbrev pub reason_lines : List Reason → List ℕ
-reason_lines [] = []
-reason_lines (r ∷ rs) = reason_line r ++ reason_lines rs
+reason_lines rs = form_lines (map datum_of rs)
 
 -- the object of each reason has a number that a text can have
 abbrev pub AreReasonsInRange : List Reason → Type 0

@@ -1,187 +1,295 @@
-//! Reasons as text.
+//! Reasons as text: each is made into a form, whose text is a line.
+#![tactic(auto, unfolding(edn_reader::specs::Bytes::is_name))]
 
-ghost use Rattle.std.specs.Prelude.{◌≡◌, ◌≤◌, ◌++◌, false, true, codes, decimal, OnOk, IfErr};
-ghost use Rattle.std.specs.Fmt.{signed_decimal};
-ghost use Rattle.edn.specs.Sent.{Writes};
-ghost use Rattle.edn_reader.specs.Text.{IsInt64};
+ghost use Rattle.std.specs.Prelude.{◌≡◌, ◌≤◌, ◌∷◌, ◌++◌, [], true, IfOk, OnOk};
+ghost use Rattle.std.specs.List.{AllByRecursion};
+ghost use Rattle.edn_reader.specs.Bytes.{is_name};
+ghost use Rattle.edn_reader.specs.View.{view};
 ghost use Rattle.refutation.specs.Denotes.{max_number};
-ghost use Rattle.refutation.specs.Lines as text;
+ghost use Rattle.refutation.specs.Lines as spec;
 ghost use Rattle.refutation.specs.Lines.{AreReasonsInRange, SpellsReasons};
-ghost use Rattle.refutation.specs.Written.{AreTypedSteps, IsTypedCounted, IsTypedBasis};
-ghost use Rattle.refutation.specs.Written.{IsTypedReason};
+ghost use Rattle.refutation.specs.Written.{pairs_in, AreIntegerKeys, AreNumberKeys};
+ghost use Rattle.refutation.specs.Written.{AreTypedValues, IsTypedCut, AreTypedSteps};
+ghost use Rattle.refutation.specs.Written.{IsTypedBasis, IsTypedReason, IsWritten};
 
-use crate::cut_writer::write_cuts;
-use crate::set_writer::{write_integer_after, write_number_after};
 use crate::{Basis, Reason, Trial};
-use cuts::{Count, Counted};
-use edn::{Failed, Sink, WriteFault, write_bytes};
+use cuts::{Count, Counted, Cut, Values};
+use edn::{Form, Name, Out, write_form};
 use search::TryFirst;
+use std::alloc::{AllocError, Global};
+use std::collections::BTreeSet;
 
-/// A value under a key.
-fn write_entry<S: Sink>(key: i64, value: i64, sink: &mut S) -> Result<(), Failed>
-    requires { S.broken sink.old ≡ false }
-    ensures sent { Writes result (S.sent sink.old) (S.sent sink.new) (S.broken sink.new)
-        ((codes ":key " ++ signed_decimal key) ++ (codes ", :value " ++ signed_decimal value)) }
-    ensures in_range { IsInt64 key × IsInt64 value }
+/// The number of a map or of an object, or a number of steps.
+fn number(n: u32) -> Form
+    ensures form { view result ≡ spec.number_datum n }
+    ensures in_range { n ≤ max_number }
 {
-    write_integer_after(b":key ", key, sink)?;
-    write_integer_after(b", :value ", value, sink)
+    Form::Int(i64::from(n))
 }
 
-/// What is counted.
-fn write_counted<S: Sink>(counted: Counted, sink: &mut S) -> Result<(), Failed>
-    requires { S.broken sink.old ≡ false }
-    ensures sent { Writes result (S.sent sink.old) (S.sent sink.new) (S.broken sink.new)
-        (text.counted_text counted) }
-    ensures typed { IsTypedCounted counted }
-{
-    match counted {
-        Counted::Value(value) => write_integer_after(b":value ", value, sink),
-        Counted::Entry { key, value } => write_entry(key, value, sink),
-        Counted::NoEntry(key) => write_integer_after(b":key ", key, sink),
-        Counted::Held => write_bytes(b":held true", sink),
-        Counted::Free => write_bytes(b":free true", sink),
+/// The pairs of a map that is being made.
+#[derive(Drop)]
+struct Pairs {
+    alloc: Global,
+    pairs: Vec<(Name, Form)>,
+}
+
+impl Pairs {
+    fn new(alloc: Global) -> Pairs
+        ensures { pairs_in result ≡ [] }
+    {
+        Pairs {
+            alloc,
+            pairs: Vec::new(alloc),
+        }
+    }
+
+    /// Puts this pair after the others.
+    fn with(mut self, key: &[u8], value: Form) -> Result<Pairs, AllocError>
+        requires { is_name key.now ≡ true }
+        ensures { IfOk result (λ p. pairs_in p ≡ pairs_in self ++ (key.now, view value) ∷ []) }
+    {
+        let name = Name::from_bytes(self.alloc, key)?;
+        self.pairs.push((name, value))?;
+        Ok(self)
+    }
+
+    /// The map.
+    #[tactic(auto, using(edn_reader::proofs::Pairs::map_view))]
+    fn into_form(self) -> Form
+        ensures { view result ≡ spec.map_datum (pairs_in self) }
+    {
+        let Pairs { alloc: _, pairs } = self;
+        Form::Map(pairs)
+    }
+
+    /// Puts the pair `:numbers` after the others, unless there are no numbers.
+    fn with_numbers(self, numbers: &BTreeSet<u32>) -> Result<Pairs, AllocError>
+        ensures pairs { IfOk result (λ p. pairs_in p
+            ≡ pairs_in self ++ spec.numbers_pairs numbers.now.keys) }
+        ensures keys { OnOk result (AreNumberKeys numbers.now.keys) }
+    {
+        let form = numbers_form(self.alloc, numbers)?;
+        if numbers.is_empty() {
+            return Ok(self);
+        }
+        self.with(b"numbers", form)
+    }
+
+    /// Puts the pair of a search after the others, unless it is the default.
+    fn with_search(self, trial: Trial) -> Result<Pairs, AllocError>
+        ensures pairs { IfOk result (λ p. pairs_in p
+            ≡ pairs_in self ++ spec.search_pairs trial.first trial.steps) }
+        ensures typed { OnOk result (AreTypedSteps trial.steps) }
+    {
+        if trial.first == TryFirst::LeastNumber && trial.steps.is_none() {
+            return Ok(self);
+        }
+        let form = search_form(self.alloc, trial)?;
+        self.with(b"search", form)
+    }
+
+    /// Puts the pair of a count or of a search after the others.
+    fn with_basis(self, basis: Basis) -> Result<Pairs, AllocError>
+        ensures pairs { IfOk result (λ p. pairs_in p ≡ pairs_in self ++ spec.basis_pairs basis) }
+        ensures typed { OnOk result (IsTypedBasis basis) }
+    {
+        match basis {
+            Basis::Search(trial) => self.with_search(trial),
+            Basis::Counting(count) => {
+                let form = count_form(self.alloc, count)?;
+                self.with(b"count", form)
+            }
+            Basis::Ahead { number, from } => {
+                let form = ahead_form(self.alloc, number, from)?;
+                self.with(b"count", form)
+            }
+        }
     }
 }
 
-/// The pair `:from` of a count, and the closing bracket.
-fn write_start<S: Sink>(from: u32, sink: &mut S) -> Result<(), Failed>
-    requires { S.broken sink.old ≡ false }
-    ensures sent { Writes result (S.sent sink.old) (S.sent sink.new) (S.broken sink.new)
-        ((codes ", :from " ++ decimal from) ++ codes "}") }
-    ensures in_range { from ≤ max_number }
+/// A keyword.
+fn keyword(alloc: Global, word: &[u8]) -> Result<Form, AllocError>
+    requires { is_name word.now ≡ true }
+    ensures { IfOk result (λ f. view f ≡ spec.keyword_datum word.now) }
 {
-    write_number_after(b", :from ", from, sink)?;
-    write_bytes(b"}", sink)
+    Ok(Form::Keyword(Name::from_bytes(alloc, word)?))
 }
 
-/// The pair `:count`.
-fn write_count<S: Sink>(count: Count, sink: &mut S) -> Result<(), Failed>
-    requires { S.broken sink.old ≡ false }
-    ensures sent { Writes result (S.sent sink.old) (S.sent sink.new) (S.broken sink.new)
-        (text.count_text count) }
-    ensures typed { OnOk result (IsTypedCounted count.counted × (count.from ≤ max_number)) }
+/// The integers in rising order.
+fn integers_form(alloc: Global, integers: &BTreeSet<i64>) -> Result<Form, AllocError>
+    ensures form { IfOk result (λ f. view f ≡ spec.integers_datum integers.now.keys) }
+    ensures rising { OnOk result (AreIntegerKeys integers.now.keys) }
 {
-    write_bytes(b", :count {", sink)?;
-    write_counted(count.counted, sink)?;
-    write_start(count.from, sink)
+    let mut forms = Vec::new(alloc);
+    for n in integers {
+        forms.push(Form::Int(*n))?;
+    }
+    Ok(Form::Vector(forms))
 }
 
-/// The pair `:from` of a count, if it is not 0, and the closing bracket.
-fn write_later_start<S: Sink>(from: u32, sink: &mut S) -> Result<(), Failed>
-    requires { S.broken sink.old ≡ false }
-    ensures sent { Writes result (S.sent sink.old) (S.sent sink.new) (S.broken sink.new)
-        (text.start_text from) }
-    ensures in_range { from ≤ max_number }
+/// The numbers of maps in rising order.
+fn numbers_form(alloc: Global, numbers: &BTreeSet<u32>) -> Result<Form, AllocError>
+    ensures form { IfOk result (λ f. view f ≡ spec.numbers_datum numbers.now.keys) }
+    ensures keys { OnOk result (AreNumberKeys numbers.now.keys) }
 {
+    let mut forms = Vec::new(alloc);
+    for n in numbers {
+        forms.push(number(*n))?;
+    }
+    Ok(Form::Vector(forms))
+}
+
+/// Which values are kept: all, or a vector of them.
+fn values_form(alloc: Global, values: &Values) -> Result<Form, AllocError>
+    ensures form { IfOk result (λ f. view f ≡ spec.values_datum values.now) }
+    ensures typed { OnOk result (AreTypedValues values.now) }
+{
+    match values {
+        Values::All => keyword(alloc, b"all"),
+        Values::Only(integers) => integers_form(alloc, integers),
+    }
+}
+
+/// The pairs of a cut.
+fn cut_pairs(alloc: Global, cut: &Cut) -> Result<Pairs, AllocError>
+    ensures pairs { IfOk result (λ p. pairs_in p ≡ spec.cut_pairs cut.now) }
+    ensures typed { OnOk result (IsTypedCut cut.now) }
+{
+    let none = Pairs::new(alloc);
+    match cut {
+        Cut::From(n) => none.with(b"from", number(*n)),
+        Cut::Until(n) => none.with(b"until", number(*n)),
+        Cut::Without { value, before } => none
+            .with(b"without", Form::Int(*value))?
+            .with(b"before", number(*before)),
+        Cut::Keep { values, numbers } => none
+            .with(b"keep", values_form(alloc, values)?)?
+            .with_numbers(numbers),
+        Cut::Cell {
+            values,
+            other,
+            numbers,
+        } => none
+            .with(b"cell", values_form(alloc, values)?)?
+            .with(b"other", Form::Int(*other))?
+            .with_numbers(numbers),
+        Cut::Entry {
+            key,
+            values,
+            other,
+            numbers,
+        } => none
+            .with(b"cell", values_form(alloc, values)?)?
+            .with(b"key", Form::Int(*key))?
+            .with(b"other", Form::Int(*other))?
+            .with_numbers(numbers),
+    }
+}
+
+/// The cuts, in order.
+fn cuts_form(alloc: Global, cuts: &[Cut]) -> Result<Form, AllocError>
+    ensures form { IfOk result (λ f. view f ≡ spec.cuts_datum cuts.now) }
+    ensures typed { OnOk result (AllByRecursion IsTypedCut cuts.now) }
+{
+    let mut forms = Vec::new(alloc);
+    for cut in cuts {
+        forms.push(cut_pairs(alloc, cut)?.into_form())?;
+    }
+    Ok(Form::Vector(forms))
+}
+
+/// A count of a content.
+fn count_form(alloc: Global, count: Count) -> Result<Form, AllocError>
+    ensures form { IfOk result (λ f. view f
+        ≡ spec.map_datum (spec.count_pairs count.counted count.from)) }
+    ensures in_range { count.from ≤ max_number }
+{
+    let none = Pairs::new(alloc);
+    let counted = match count.counted {
+        Counted::Value(value) => none.with(b"value", Form::Int(value))?,
+        Counted::Entry { key, value } => none
+            .with(b"key", Form::Int(key))?
+            .with(b"value", Form::Int(value))?,
+        Counted::NoEntry(key) => none.with(b"key", Form::Int(key))?,
+        Counted::Held => none.with(b"held", Form::Bool(true))?,
+        Counted::Free => none.with(b"free", Form::Bool(true))?,
+    };
+    Ok(counted.with(b"from", number(count.from))?.into_form())
+}
+
+/// A count of what was ahead.
+fn ahead_form(alloc: Global, removal: u32, from: u32) -> Result<Form, AllocError>
+    ensures form { IfOk result (λ f. view f ≡ spec.map_datum (spec.ahead_pairs removal from)) }
+    ensures in_range { (removal ≤ max_number) × (from ≤ max_number) }
+{
+    let ahead = Pairs::new(alloc).with(b"ahead", number(removal))?;
     if from == 0 {
-        return write_bytes(b"}", sink);
+        return Ok(ahead.into_form());
     }
-    write_start(from, sink)
+    Ok(ahead.with(b"from", number(from))?.into_form())
 }
 
-/// The pair `:count` of what was ahead.
-fn write_ahead<S: Sink>(number: u32, from: u32, sink: &mut S) -> Result<(), Failed>
-    requires { S.broken sink.old ≡ false }
-    ensures sent { Writes result (S.sent sink.old) (S.sent sink.new) (S.broken sink.new)
-        (text.ahead_text number from) }
-    ensures in_range { (number ≤ max_number) × (from ≤ max_number) }
-{
-    write_number_after(b", :count {:ahead ", number, sink)?;
-    write_later_start(from, sink)
-}
-
-/// The pair `:search` with a number of steps, without its closing bracket.
-fn write_steps<S: Sink>(first: TryFirst, steps: u32, sink: &mut S) -> Result<(), Failed>
-    requires { S.broken sink.old ≡ false }
-    ensures sent { Writes result (S.sent sink.old) (S.sent sink.new) (S.broken sink.new)
-        (text.first_text first ++ decimal steps) }
-    ensures in_range { steps ≤ max_number }
+/// The keyword that says which operation is tried first.
+fn first_form(alloc: Global, first: TryFirst) -> Result<Form, AllocError>
+    ensures { IfOk result (λ f. view f ≡ spec.keyword_datum (spec.first_word first)) }
 {
     match first {
-        TryFirst::LeastNumber => {
-            write_number_after(b", :search {:first :number, :steps ", steps, sink)
-        }
-        TryFirst::LeastReturn => {
-            write_number_after(b", :search {:first :return, :steps ", steps, sink)
-        }
+        TryFirst::LeastNumber => keyword(alloc, b"number"),
+        TryFirst::LeastReturn => keyword(alloc, b"return"),
     }
-}
-
-/// The pair `:search` with a number of steps.
-fn write_search_in<S: Sink>(first: TryFirst, steps: u32, sink: &mut S) -> Result<(), Failed>
-    requires { S.broken sink.old ≡ false }
-    ensures sent { Writes result (S.sent sink.old) (S.sent sink.new) (S.broken sink.new)
-        ((text.first_text first ++ decimal steps) ++ codes "}") }
-    ensures in_range { steps ≤ max_number }
-{
-    write_steps(first, steps, sink)?;
-    write_bytes(b"}", sink)
 }
 
 /// How a part is searched.
-fn write_search<S: Sink>(trial: Trial, sink: &mut S) -> Result<(), Failed>
-    requires { S.broken sink.old ≡ false }
-    ensures sent { Writes result (S.sent sink.old) (S.sent sink.new) (S.broken sink.new)
-        (text.search_text trial.first trial.steps) }
+fn search_form(alloc: Global, trial: Trial) -> Result<Form, AllocError>
+    ensures form { IfOk result (λ f. view f ≡ spec.search_datum trial.first trial.steps) }
     ensures typed { OnOk result (AreTypedSteps trial.steps) }
 {
-    match (trial.first, trial.steps) {
-        (first, Some(steps)) => write_search_in(first, steps, sink),
-        (TryFirst::LeastNumber, None) => Ok(()),
-        (TryFirst::LeastReturn, None) => write_bytes(b", :search {:first :return}", sink),
+    let first = Pairs::new(alloc).with(b"first", first_form(alloc, trial.first)?)?;
+    match trial.steps {
+        None => Ok(first.into_form()),
+        Some(steps) => Ok(first.with(b"steps", number(steps))?.into_form()),
     }
 }
 
-/// A count, or how the part is searched.
-fn write_basis<S: Sink>(basis: Basis, sink: &mut S) -> Result<(), Failed>
-    requires { S.broken sink.old ≡ false }
-    ensures sent { Writes result (S.sent sink.old) (S.sent sink.new) (S.broken sink.new)
-        (text.basis_text basis) }
-    ensures typed { OnOk result (IsTypedBasis basis) }
-{
-    match basis {
-        Basis::Search(trial) => write_search(trial, sink),
-        Basis::Counting(count) => write_count(count, sink),
-        Basis::Ahead { number, from } => write_ahead(number, from, sink),
-    }
-}
-
-/// A reason without its closing bracket.
-fn write_open_reason<S: Sink>(reason: &Reason, sink: &mut S) -> Result<(), Failed>
-    requires { S.broken sink.old ≡ false }
-    ensures sent { Writes result (S.sent sink.old) (S.sent sink.new) (S.broken sink.new)
-        (text.open_reason_text reason.now) }
+/// The form of a reason.
+fn reason_form(alloc: Global, reason: &Reason) -> Result<Form, AllocError>
+    ensures form { IfOk result (λ f. view f ≡ spec.datum_of reason.now) }
     ensures typed { OnOk result (IsTypedReason reason.now) }
 {
-    write_number_after(b"{:object ", reason.object, sink)?;
-    write_cuts(&reason.cuts, sink)?;
-    write_basis(reason.basis, sink)
+    let pairs = Pairs::new(alloc)
+        .with(b"object", number(reason.object))?
+        .with(b"cuts", cuts_form(alloc, &reason.cuts)?)?
+        .with_basis(reason.basis)?;
+    Ok(pairs.into_form())
 }
 
-/// The line of a reason.
-fn write_line<S: Sink>(reason: &Reason, sink: &mut S) -> Result<(), Failed>
-    requires { S.broken sink.old ≡ false }
-    ensures sent { Writes result (S.sent sink.old) (S.sent sink.new) (S.broken sink.new)
-        (text.reason_line reason.now) }
-    ensures typed { OnOk result (IsTypedReason reason.now) }
+/// The text, and after it the line of the reason.
+#[tactic(auto, using(crate::proofs::Writing::datum_fits))]
+fn with_line(alloc: Global, text: Vec<u8>, reason: &Reason) -> Result<Vec<u8>, AllocError>
+    ensures text { IfOk result (λ v. v.items ≡ text.items ++ spec.reason_line reason.now) }
+    ensures written { OnOk result (IsWritten reason.now) }
 {
-    write_open_reason(reason, sink)?;
-    write_bytes(b"}\n", sink)
+    let form = reason_form(alloc, reason)?;
+    let mut sink = Out::new(text);
+    let Ok(()) = write_form(&form, &mut sink) else {
+        return Err(AllocError);
+    };
+    let mut line = sink.into_inner();
+    line.push(b'\n')?;
+    Ok(line)
 }
 
-/// Writes each reason as a line, without allocating memory. `Device` is the only error.
-pub fn write_reasons<S: Sink>(reasons: &[Reason], sink: &mut S) -> Result<(), WriteFault>
-    requires working { S.broken sink.old ≡ false }
-    ensures sent { Writes result (S.sent sink.old) (S.sent sink.new) (S.broken sink.new)
-        (text.reason_lines reasons.now) }
-    // What was sent reads back as these reasons.
-    ensures spelled { OnOk result (AreReasonsInRange reasons.now →
-        SpellsReasons reasons.now (text.reason_lines reasons.now)) }
-    ensures device { IfErr result (λ e. e ≡ WriteFault.Device) }
+/// The lines of the reasons, in order.
+pub fn reason_lines(alloc: Global, reasons: &[Reason]) -> Result<Vec<u8>, AllocError>
+    ensures text { IfOk result (λ v. v.items ≡ spec.reason_lines reasons.now) }
+    // The lines read back as these reasons.
+    ensures spelled { IfOk result (λ v. AreReasonsInRange reasons.now →
+        SpellsReasons reasons.now v.items) }
 {
+    let mut text = Vec::new(alloc);
     for reason in reasons {
-        write_line(reason, sink)?;
+        text = with_line(alloc, text, reason)?;
     }
-    Ok(())
+    Ok(text)
 }
