@@ -1,7 +1,7 @@
 -- A text that is divided piece by piece: whole lines at its front are divided, since texts with a line feed between
 -- them spell what both spell. A fault of a piece is one of the text, and at the end the text is divided.
 use Rattle.std.proofs.Common.{◌≡◌, ◌≢◌, ℕ, ◌+◌, ◌<◌, List, [], ◌∷◌, ◌++◌, drop, length, map, get_or, Option, refl, ap}
-use Rattle.std.proofs.Common.{sym, ◌∙◌, subst, append_assoc, arith}
+use Rattle.std.proofs.Common.{sym, ◌∙◌, append_assoc, arith}
 use Rattle.std.proofs.lemmas.List.{append-nil, drop_more, length-append, length-map, map-append}
 use Rattle.std.specs.Io.KnownBytes.{Consumes}
 use Rattle.edn_reader.specs.Datum.{Datum, max_length}
@@ -41,27 +41,20 @@ forms_both a b = map-append (λ (m : SpelledMap). m.form) a b
 lines_more : (front piece : List ℕ) (ds es : List Datum) → SpellsBefore front ds → Spells es piece
     → SpellsBefore (front ++ (piece ++ 10 ∷ [])) (ds ++ es)
 lines_more front piece ds es before spells fs after h =
-    let later : Spells (es ++ fs) (piece ++ 10 ∷ after) = joined_spell es fs piece after spells h in
-    let text : front ++ (piece ++ 10 ∷ after) ≡ (front ++ (piece ++ 10 ∷ [])) ++ after =
-    ap (λ xs. front ++ xs) (sym (append_assoc piece (10 ∷ []) after))
-    ∙ sym (append_assoc front (piece ++ 10 ∷ []) after) in
-    subst (λ xs. Spells xs ((front ++ (piece ++ 10 ∷ [])) ++ after)) (sym (append_assoc ds es fs))
-    (subst (Spells (ds ++ (es ++ fs))) text (before (es ++ fs) (piece ++ 10 ∷ after) later))
+    rw (append_assoc ds es fs, append_assoc front (piece ++ 10 ∷ []) after, append_assoc piece (10 ∷ []) after)
+    (before (es ++ fs) (piece ++ 10 ∷ after) (joined_spell es fs piece after spells h))
 
 pub passes_piece : (count : ℕ) (d e : Divider) (p q : Pieces) (text piece : List ℕ) (written : Files)
     (h : AreUnderWay count d p text written) → AreTakenOf piece count e h.maps written → PassesPiece p q piece
     → AreUnderWay count e q text written
 passes_piece count d e p q text piece written h t pass =
     let line : List ℕ = piece ++ 10 ∷ [] in
-    let long : length (h.front ++ line) ≡ length h.front + (length piece + 1) =
-    length-append h.front line ∙ ap (λ n. length h.front + n) (length-append piece (10 ∷ [])) in
     record {
       front = h.front ++ line;
       maps = h.maps ++ t.more;
-      parts = h.parts ∙ (ap (λ xs. h.front ++ xs) (pass.text ∙ sym (append_assoc piece (10 ∷ []) q.text.items))
-          ∙ sym (append_assoc h.front line q.text.items));
-      start = pass.start ∙ (ap (λ n. n + (length piece + 1)) h.start ∙ sym long);
-      lines = subst (SpellsBefore (h.front ++ line)) (sym (forms_both h.maps t.more))
+      parts = h.parts ∙ rw (pass.text, append_assoc h.front line q.text.items, append_assoc piece (10 ∷ []) q.text.items);
+      start = omega (arith, pass.start, h.start, length-append h.front line, length-append piece (10 ∷ []));
+      lines = rw (forms_both h.maps t.more)
           (lines_more h.front piece (forms_of h.maps) (forms_of t.more) h.lines t.spells);
       taken = t.taken;
     }
@@ -72,10 +65,10 @@ pub stays : (count : ℕ) (d e : Divider) (p q : Pieces) (text : List ℕ) (writ
 stays count d e p q text written same stay h = record {
   front = h.front;
   maps = h.maps;
-  parts = h.parts ∙ ap (λ xs. h.front ++ xs) (sym stay.text);
+  parts = rw stay.text h.parts;
   start = stay.start ∙ h.start;
   lines = h.lines;
-  taken = subst (λ x. AreMapsTaken count x h.maps written) (sym same) h.taken;
+  taken = rw same h.taken;
 }
 
 -- more of the text was read
@@ -85,8 +78,7 @@ reads_on : (count : ℕ) (d : Divider) (p q : Pieces) (text : List ℕ) (written
 reads_on count d p q text written left left_after r h = record {
   front = h.front;
   maps = h.maps;
-  parts = ap (λ xs. xs ++ r.more) h.parts ∙ (append_assoc h.front p.text.items r.more
-      ∙ ap (λ xs. h.front ++ xs) (sym r.text));
+  parts = ap (λ xs. xs ++ r.more) h.parts ∙ rw r.text (append_assoc h.front p.text.items r.more);
   start = r.start ∙ h.start;
   lines = h.lines;
   taken = h.taken;
@@ -142,12 +134,12 @@ text_fault count d p text piece rest written left e place h parts place_is unrea
   front = h.front;
   piece = piece;
   rest = rest;
-  parts = h.parts ∙ ap (λ xs. h.front ++ xs) parts;
+  parts = h.parts ∙ rw parts;
   forms = forms_of h.maps;
   lines = h.lines;
   faultless = h.taken.read.faultless;
   place = place;
-  place_is = place_is ∙ ap (λ n. n + place) h.start;
+  place_is = place_is ∙ rw h.start;
   unreadable = unreadable;
   ends = ends;
   last = last;
@@ -161,7 +153,7 @@ found_in : (count : ℕ) (d : Divider) (p : Pieces) (text piece rest : List ℕ)
 found_in count d p text piece rest written left Found h parts ends found = record {
   piece = h.front ++ piece;
   rest = rest;
-  parts = h.parts ∙ (ap (λ xs. h.front ++ xs) parts ∙ sym (append_assoc h.front piece rest));
+  parts = h.parts ∙ rw parts (sym (append_assoc h.front piece rest));
   ends = ends;
   forms = forms_of h.maps ++ found.0;
   spelled = h.lines found.0 piece found.1;
@@ -174,27 +166,22 @@ pub fault_in : (count : ℕ) (d : Divider) (p : Pieces) (text piece rest : List 
     → p.text.items ≡ piece ++ rest → EndsPiece rest left → IsPieceFault count (forms_of h.maps) piece fault
     → (EndsInsideForm fault → rest ≡ []) → IsFaultFrom p.start fault f → IsFaultIn count text left f
 fault_in count d p text piece rest written left fault (split_fault.Malformed (Text e)) h parts ends is last from =
-    let place : ℕ = from.0 in
-    let own : EdnFault = record e { place = place } in
-    let piece_is : IsPieceFault count (forms_of h.maps) piece (piece_fault.Malformed (Text own)) =
-    subst (IsPieceFault count (forms_of h.maps) piece) from.2 is in
-    text_fault count d p text piece rest written left e place h parts from.1 (piece_is from.3) (λ ne. ends)
-    (subst (λ x. EndsInsideForm x → rest ≡ []) from.2 last)
+    let own : EdnFault = record e { place = from.0 } in
+    let piece_is : IsPieceFault count (forms_of h.maps) piece (piece_fault.Malformed (Text own)) = rw from.2 at is in
+    text_fault count d p text piece rest written left e from.0 h parts from.1 (piece_is from.3) (λ ne. ends)
+    (rw from.2 at last)
 fault_in count d p text piece rest written left fault (split_fault.Malformed (Maps f)) h parts ends is last from =
     found_in count d p text piece rest written left (λ ds. IsFoundAmong ds f) h parts ends
-    ((subst (IsPieceFault count (forms_of h.maps) piece) from.0 is) from.1)
+    ((rw from.0 at is) from.1)
 fault_in count d p text piece rest written left fault (split_fault.FewShards x) h parts ends is last from =
-    found_in count d p text piece rest written left (λ ds. NeedsMoreShards count ds x) h parts ends
-    (subst (IsPieceFault count (forms_of h.maps) piece) from is)
-fault_in count d p text piece rest written left fault split_fault.Read h parts ends is last from = tt
-fault_in count d p text piece rest written left fault split_fault.Write h parts ends is last from = tt
-fault_in count d p text piece rest written left fault split_fault.NoMemory h parts ends is last from = tt
+    found_in count d p text piece rest written left (λ ds. NeedsMoreShards count ds x) h parts ends (rw from at is)
+fault_in count d p text piece rest written left fault f h parts ends is last from = tt
 
 -- the rest that begins with a line feed
 pub ends_at_feed : (text : List ℕ) (n : ℕ) (left : Option (List ℕ)) → n < length text → get_or text n 0 ≡ 10
     → EndsPiece (drop n text) left
 ends_at_feed text n left l feed =
-    subst (λ xs. EndsPiece xs left) (sym (drop_more text n 0 l)) feed
+    rw (drop_more text n 0 l) feed
 
 -- what was read is longer than a text may be, and no piece of it can be read
 pub too_long_in : (count : ℕ) (d : Divider) (p : Pieces) (text : List ℕ) (written : Files) (left : Option (List ℕ))
@@ -226,9 +213,7 @@ pub adds_shards : (count : ℕ) (d e : Divider) (p : Pieces) (text : List ℕ) (
 adds_shards count d e p text written first files files_after told h t last f adds none counted large long =
     let maps : List SpelledMap = h.maps ++ t.more in
     let spelled : Spells (forms_of maps) text =
-    subst (λ ds. Spells ds text) (sym (forms_both h.maps t.more))
-    (subst (Spells (forms_of h.maps ++ forms_of t.more)) (sym h.parts)
-    (h.lines (forms_of t.more) p.text.items t.spells)) in
+    rw (h.parts, forms_both h.maps t.more) (h.lines (forms_of t.more) p.text.items t.spells) in
     record {
       added = with_more written f.more;
       divided = record {
@@ -238,15 +223,13 @@ adds_shards count d e p text written first files files_after told h t last f add
           each = f.taken.each;
           faultless = f.taken.read.faultless;
           apart = apart_where_fit count maps f.taken.fit;
-          texts = λ s. sym (append-nil (written.texts s ++ f.more.texts s))
-              ∙ (ap (λ xs. (written.texts s ++ f.more.texts s) ++ xs) (sym (none.maps s)) ∙ f.taken.texts s);
+          texts = λ s. rw (none.maps s, append-nil) at (f.taken.texts s);
         };
-        tables = λ s. sym (append-nil (written.tables s ++ f.more.tables s))
-            ∙ (ap (λ xs. (written.tables s ++ f.more.tables s) ++ xs) (sym (none.places s)) ∙ f.taken.tables s);
+        tables = λ s. rw (none.places s, append-nil) at (f.taken.tables s);
       };
       fits = f.taken.fit;
       adds = adds_both first files files_after written f.more adds f.adds;
-      each_counted = ap length counted ∙ (length-map last.waiting.items (λ w. w.count) ∙ (long ∙ f.taken.shards));
-      counted = λ s l. ap (λ xs. get_or xs s 0) counted ∙ f.taken.counts s l;
+      each_counted = rw (counted, length-map, long) f.taken.shards;
+      counted = λ s l. rw counted (f.taken.counts s l);
       large = large (maps_on maps) f.taken.tally;
     }

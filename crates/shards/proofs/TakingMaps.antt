@@ -2,13 +2,12 @@
 -- among all maps of its piece, of which it is one.
 use Rattle.std.proofs.Common.{◌≡◌, ◌≢◌, ℕ, zero, suc, ◌+◌, ◌/◌, ◌<◌, ◌≤◌, ◌==◌, decimal, inl, inr, Bool, true, false}
 use Rattle.std.proofs.Common.{List, [], ◌∷◌, ◌++◌, All, filter, length, get_or, take, drop, Some, None, refl, ap, sym}
-use Rattle.std.proofs.Common.{◌∙◌, subst, append_assoc, arith}
+use Rattle.std.proofs.Common.{◌∙◌, append_assoc, zero-add, arith}
 use Rattle.std.proofs.lemmas.Bool.{cases_eq, eq-eqb, ne_eqb}
-use Rattle.std.proofs.lemmas.List.{append-nil, map-append, length-append, take_more, take_all, take-append-drop}
-use Rattle.std.proofs.lemmas.List.{take-append-le}
+use Rattle.std.proofs.lemmas.List.{append-nil, map-append, length-append, length_push, take_more, take_all}
+use Rattle.std.proofs.lemmas.List.{take-append-drop, take-append-le}
 use Rattle.std.proofs.lemmas.List.Elements.{All-push}
 use Rattle.std.proofs.lemmas.Option.{same_Some}
-use Rattle.model.proofs.Lists.{all_at, all_from_in, in_map}
 use Rattle.edn_reader.specs.Datum.{Datum, atom, nil}
 use Rattle.edn_reader.specs.Reading.{skip}
 use Rattle.edn_reader.specs.Spells.{Spells}
@@ -33,7 +32,7 @@ use Rattle.shards.specs.SplitFaults.{IsFoundAmong, NeedsMoreShards, most_maps}
 use Rattle.shards.specs.Taking.{AddsLine, AddsMap, AreMapsTaken, AreTakenOf, AreTakenWith, IsMapFoundAmong}
 use Rattle.shards.specs.Taking.{IsPieceFault}
 use Rattle.shards.specs.Taking.{maps_in, forms_of, waiting_maps, waiting_places}
-use Rattle.shards.specs.Tallies.{CountsOne, IsTally}
+use Rattle.shards.specs.Tallies.{CountsOne}
 use Rattle.shards.proofs.BareMaps.{bare_spells}
 use Rattle.shards.proofs.LinesMore.{lines_push, table_push, filter_kept, filter_left, places_kept, places_left}
 use Rattle.shards.proofs.EventsOfMaps.{on_object, on_none}
@@ -58,28 +57,23 @@ module _ (count s : ℕ) (maps : List SpelledMap) (m : SpelledMap) where
   own_table ms = table_text (places_from 0 has (forms_of ms))
 
   text_kept : on m ≡ true → own_text (maps ++ m ∷ []) ≡ own_text maps ++ (m.text ++ 10 ∷ [])
-  text_kept q = ap map_lines (filter_kept on maps m q) ∙ lines_push (maps_of_shard (shard_among count) s maps) m
+  text_kept q = rw (filter_kept on maps m q) (lines_push (maps_of_shard (shard_among count) s maps) m)
 
   text_left : on m ≡ false → own_text (maps ++ m ∷ []) ≡ own_text maps
   text_left q = ap map_lines (filter_left on maps m q)
 
-  places_push : places_from 0 has (forms_of (maps ++ m ∷ [])) ≡ places_from 0 has (forms_of maps ++ m.form ∷ [])
-  places_push = ap (places_from 0 has) (forms_push maps m)
-
   table_kept : (place : ℕ) → place ≡ length (forms_of maps) → on m ≡ true
       → own_table (maps ++ m ∷ []) ≡ own_table maps ++ (decimal place ++ 10 ∷ [])
   table_kept place is q =
-      let e : 0 + length (forms_of maps) ≡ place = omega (arith, is) in
-      ap table_text (places_push ∙ (places_kept 0 has (forms_of maps) m.form q
-      ∙ ap (λ k. places_from 0 has (forms_of maps) ++ k ∷ []) e))
-      ∙ table_push (places_from 0 has (forms_of maps)) place
+      rw (forms_push maps m, places_kept 0 has (forms_of maps) m.form q, zero-add (length (forms_of maps)), ← is)
+      (table_push (places_from 0 has (forms_of maps)) place)
 
   table_left : on m ≡ false → own_table (maps ++ m ∷ []) ≡ own_table maps
-  table_left q = ap table_text (places_push ∙ places_left 0 has (forms_of maps) m.form q)
+  table_left q = rw (forms_push maps m, places_left 0 has (forms_of maps) m.form q)
 
   count_kept : on m ≡ true → length (maps_of_shard (shard_among count) s (maps ++ m ∷ []))
       ≡ length (maps_of_shard (shard_among count) s maps) + 1
-  count_kept q = ap length (filter_kept on maps m q) ∙ length-append (maps_of_shard (shard_among count) s maps) (m ∷ [])
+  count_kept q = rw (filter_kept on maps m q) (length_push (maps_of_shard (shard_among count) s maps) m)
 
   count_left : on m ≡ false → length (maps_of_shard (shard_among count) s (maps ++ m ∷ []))
       ≡ length (maps_of_shard (shard_among count) s maps)
@@ -98,11 +92,6 @@ on_another : (x y : ℕ) (maps : List SpelledMap) (m : SpelledMap) (c : ClientMa
     → c.object ≡ x → y ≢ x → maps_on (maps ++ m ∷ []) y ≡ maps_on maps y
 on_another x y maps m c client own ne = ap length (filter_left (λ k. is_on (λ z. z == y) k.form) maps m
     (on_object (λ z. z == y) m.form c client ∙ ne_eqb c.object y (λ q. ne (sym q ∙ own))))
-
-read_more : (maps : List SpelledMap) (m : SpelledMap) (new : Divider)
-    → AreReadAtAnyLength new.reader (forms_of maps ++ m.form ∷ [])
-    → AreReadAtAnyLength new.reader (forms_of (maps ++ m ∷ []))
-read_more maps m new read = subst (AreReadAtAnyLength new.reader) (sym (forms_push maps m)) read
 
 -- a map whose object gets the name that it has in its shard
 pub says_by : (k x : ℕ) (d e : Datum) (c : ClientMap) → client_of d ≡ Some c → c.object ≡ x → k ≡ name_in_shard x
@@ -124,11 +113,10 @@ taken_unseen count old new maps written d h read none shards tally same =
       refl,
       record {
         shards = shards ∙ h.shards;
-        read = read_more maps m new read;
+        read = rw (forms_push maps m) read;
         each = All-push (IsSpelled name_in_shard) maps m h.each (λ c q. absurd (cc (q, none)));
         fit = All-push (ObjectFits count) maps m h.fit (λ c q. absurd (cc (q, none)));
-        tally = subst (λ t. IsTally t (maps_on (maps ++ m ∷ []))) (sym tally)
-            (tally_same old.tally (maps_on maps) (maps_on (maps ++ m ∷ [])) h.tally
+        tally = rw tally (tally_same old.tally (maps_on maps) (maps_on (maps ++ m ∷ [])) h.tally
             (λ y. ap length (filter_left (λ k. is_on (λ z. z == y) k.form) maps m (on_none (λ z. z == y) d none))));
         texts = λ s. cc (h.texts s, text_left count s maps m (off s));
         tables = λ s. cc (h.tables s, table_left count s maps m (off s));
@@ -208,11 +196,9 @@ module _ (count : ℕ) (old new : Divider) (maps : List SpelledMap) (written : F
         → AreMapsTaken count new (maps ++ m ∷ []) written
     taken_line h read spells own fits is shards counts a = record {
       shards = shards ∙ h.shards;
-      read = read_more maps m new read;
+      read = rw (forms_push maps m) read;
       each = All-push (IsSpelled name_in_shard) maps m h.each spells;
-      fit = All-push (ObjectFits count) maps m h.fit
-          (λ c q. subst (λ y. y / most_names < count)
-          (sym (ap (λ (k : ClientMap). k.object) (same_Some c own.0 (sym q ∙ own.1)) ∙ own.2)) fits);
+      fit = All-push (ObjectFits count) maps m h.fit (λ c q. rw (same_Some c own.0 (sym q ∙ own.1), own.2) fits);
       tally = counts (maps_on maps) (maps_on (maps ++ m ∷ [])) h.tally (on_one x maps m own.0 own.1 own.2)
           (λ y ne. on_another x y maps m own.0 own.1 own.2 ne);
       texts = text_more own h a;
@@ -232,9 +218,7 @@ taken_map count old new maps written d c place h read client fits is shards coun
       m,
       refl,
       taken_line count old new maps written m c.object place h read (λ k q. (a.says, a.spells)) (c, client, refl)
-          (subst (λ k. c.object / most_names < k) h.shards fits) is shards counts
-          (subst (λ k. AddsLine (shard_among k c.object) a.text place old.waiting.items new.waiting.items) h.shards
-          a.adds),
+          (rw h.shards at fits) is shards counts (rw h.shards at a.adds),
     )
 
 -- ---- the maps of a piece
@@ -279,7 +263,7 @@ pub none_taken : (ds : List Datum) (count : ℕ) (d : Divider) (maps : List Spel
 none_taken ds count d maps written h = record {
   more = [];
   are = refl;
-  taken = subst (λ xs. AreMapsTaken count d xs written) (sym (append-nil maps)) h;
+  taken = rw (append-nil maps) h;
 }
 
 -- one more was taken
@@ -291,14 +275,12 @@ pub map_taken : (count : ℕ) (mid new : Divider) (maps : List SpelledMap) (writ
     → AreTakenUpTo i ds count mid maps written → AreTakenUpTo (i + 1) ds count new maps written
 map_taken count mid new maps written ms ds i z text h l bare take_one t =
     let n = next_map ms ds i z h l in
-    let spells : Spells (n.form ∷ []) text =
-    subst (Spells (n.form ∷ [])) (sym bare) (bare_spells n.form (get_or ms i z).text.now n.is.spelled) in
+    let spells : Spells (n.form ∷ []) text = rw bare (bare_spells n.form (get_or ms i z).text.now n.is.spelled) in
     let one = take_one (maps ++ t.more) n.form n.is.says spells t.taken in
     record {
       more = t.more ++ one.0 ∷ [];
-      are = forms_push t.more one.0 ∙ (ap (λ d. forms_of t.more ++ d ∷ []) one.1
-          ∙ (ap (λ xs. xs ++ n.form ∷ []) t.are ∙ sym n.more));
-      taken = subst (λ xs. AreMapsTaken count new xs written) (append_assoc maps t.more (one.0 ∷ [])) one.2;
+      are = rw (forms_push t.more one.0, one.1, t.are, n.more);
+      taken = rw (← append_assoc maps t.more (one.0 ∷ [])) one.2;
     }
 
 -- all maps of the piece were taken
@@ -307,7 +289,7 @@ pub all_taken : (count : ℕ) (d : Divider) (maps : List SpelledMap) (written : 
     → AreTakenUpTo i ds count d maps written → AreTakenOf piece count d maps written
 all_taken count d maps written piece ms ds i h spells l t = record {
   more = t.more;
-  spells = subst (λ es. Spells es piece) (sym (t.are ∙ take_all i ds (omega (arith, l, length_all ms ds h)))) spells;
+  spells = rw (t.are, take_all i ds (omega (arith, l, length_all ms ds h))) spells;
   taken = t.taken;
 }
 
@@ -318,8 +300,7 @@ pub all_before : (ds : List Datum) (d : Datum) → length ds ≡ most_maps → I
     → IsFaultlessAtAnyLength (take most_maps (ds ++ d ∷ []))
 all_before ds d long faultless =
     let within : most_maps ≤ length ds = omega (arith, long) in
-    let all : take most_maps ds ≡ ds = take_all most_maps ds (omega (arith, long)) in
-    subst IsFaultlessAtAnyLength (sym (take-append-le most_maps ds (d ∷ []) within ∙ all)) faultless
+    rw (take-append-le most_maps ds (d ∷ []) within, take_all most_maps ds (omega (arith, long))) faultless
 
 found_more : (ds es : List Datum) (f : HistoryFault) → IsFoundAmong ds f → IsFoundAmong (ds ++ es) f
 found_more ds es f h = (
@@ -335,8 +316,7 @@ found_more ds es f h = (
   },
   λ many. let g = h.1 many in
       let within : most_maps ≤ length ds = omega (arith, g.1) in
-      let front : take most_maps (ds ++ es) ≡ take most_maps ds = take-append-le most_maps ds es within in
-      (g.0, omega (arith, g.1, length-append ds es), subst IsFaultlessAtAnyLength (sym front) g.2),
+      (g.0, omega (arith, g.1, length-append ds es), rw (take-append-le most_maps ds es within) g.2),
 )
 
 unfit_more : (count : ℕ) (ds es : List Datum) (x : ℕ) → NeedsMoreShards count ds x
@@ -371,13 +351,6 @@ unfit_last count ds d c faultless client unfit fit = record {
   first = fit;
 }
 
--- the forms of maps fit where the maps do
-pub forms_fit : (count : ℕ) (maps : List SpelledMap) → All (ObjectFits count) maps
-    → All (FitsAmong count) (forms_of maps)
-forms_fit count maps fit = all_from_in (FitsAmong count) (forms_of maps) (λ d i.
-    let m = in_map (λ (x : SpelledMap). x.form) d maps i in
-    subst (FitsAmong count) (sym m.2) (all_at (ObjectFits count) maps fit m.0 m.1))
-
 -- what is found at the next map is found among all maps of the piece
 found_in_all : (maps more : List SpelledMap) (ms : List MapText) (ds : List Datum) (i : ℕ) (z : MapText)
     (Found : List Datum → Type 0) → ((xs es : List Datum) → Found xs → Found (xs ++ es)) → AreMapTexts ms ds
@@ -387,15 +360,16 @@ found_in_all : (maps more : List SpelledMap) (ms : List MapText) (ds : List Datu
 found_in_all maps more ms ds i z Found longer h l are found =
     let n = next_map ms ds i z h l in
     let rest : List Datum = drop (i + 1) ds in
-    let front : forms_of (maps ++ more) ++ n.form ∷ [] ≡ forms_of maps ++ take (i + 1) ds =
-    ap (λ xs. xs ++ n.form ∷ []) (map-append (λ (x : SpelledMap). x.form) maps more)
-    ∙ (append_assoc (forms_of maps) (forms_of more) (n.form ∷ [])
-    ∙ ap (λ xs. forms_of maps ++ xs) (ap (λ xs. xs ++ n.form ∷ []) are ∙ sym n.more)) in
-    subst Found
-    (ap (λ xs. xs ++ rest) front
-    ∙ (append_assoc (forms_of maps) (take (i + 1) ds) rest
-    ∙ ap (λ xs. forms_of maps ++ xs) (take-append-drop (i + 1) ds)))
-    (longer (forms_of (maps ++ more) ++ n.form ∷ []) rest (found n.form n.is.says))
+    let all : (forms_of (maps ++ more) ++ n.form ∷ []) ++ rest ≡ forms_of maps ++ ds =
+    rw (
+      map-append (λ (x : SpelledMap). x.form) maps more,
+      are,
+      append_assoc (forms_of maps) (take i ds) (n.form ∷ []),
+      ← n.more,
+      append_assoc (forms_of maps) (take (i + 1) ds) rest,
+      take-append-drop (i + 1) ds,
+    ) in
+    rw all at (longer (forms_of (maps ++ more) ++ n.form ∷ []) rest (found n.form n.is.says))
 
 pub piece_fault : (count : ℕ) (d : Divider) (maps : List SpelledMap) (written : Files) (piece : List ℕ)
     (ms : List MapText) (ds : List Datum) (i : ℕ) (z : MapText) (f : PieceFault) → AreMapTexts ms ds → Spells ds piece
