@@ -93,7 +93,8 @@ pub flushed_more : (count : ℕ) (old new : Divider) (maps : List SpelledMap) (w
 flushed_more count old new maps written first files files_after i w v l is set_is shards reader tally f h = record {
   more = with_more h.more own;
   adds = adds_both first files files_after h.more own h.adds f.adds;
-  taken = written_same count new maps (with_more (with_more written h.more) own) (with_more written (with_more h.more own))
+  taken = written_same count new maps (with_more (with_more written h.more) own)
+      (with_more written (with_more h.more own))
       (λ s. sym (append_assoc (written.texts s) (h.more.texts s) (own.texts s)))
       (λ s. sym (append_assoc (written.tables s) (h.more.tables s) (own.tables s)))
       (taken_flushed count old new maps (with_more written h.more) files files_after i w v l is set_is shards reader

@@ -26,7 +26,7 @@ use Rattle.shards.specs.ShardTexts.{SpelledMap}
 use Rattle.shards.specs.SplitFaults.{BeginsWith, EndsPiece, HasTextFault, IsFoundAmong, IsSplitFault, NeedsMoreShards}
 use Rattle.shards.specs.Taking.{AreMapsTaken, AreTakenOf, AreTakenAfter, IsPieceFault, NoneWait, forms_of, with_more}
 use Rattle.shards.specs.Tallies.{IsTally}
-use Rattle.shards.specs.UnderWay.{AreUnderWay, EndsInsideForm, IsFaultFrom, IsFaultIn, PassesPiece, ReadsOn, StaysAs}
+use Rattle.shards.specs.UnderWay.{AreUnderWay, EndsInsideForm, IsFaultFrom, IsFaultIn, PassesPiece, ReadsOn}
 use Rattle.shards.specs.UnderWay.{too_long_at}
 use Rattle.judging.proofs.ReadSoFar.{one_more_consumed}
 use Rattle.shards.proofs.FittingObjects.{apart_where_fit}
@@ -52,24 +52,13 @@ passes_piece count d e p q text piece written h t pass =
     record {
       front = h.front ++ line;
       maps = h.maps ++ t.more;
-      parts = h.parts ∙ rw (pass.text, append_assoc h.front line q.text.items, append_assoc piece (10 ∷ []) q.text.items);
+      parts = h.parts
+          ∙ rw (pass.text, append_assoc h.front line q.text.items, append_assoc piece (10 ∷ []) q.text.items);
       start = omega (arith, pass.start, h.start, length-append h.front line, length-append piece (10 ∷ []));
       lines = rw (forms_both h.maps t.more)
           (lines_more h.front piece (forms_of h.maps) (forms_of t.more) h.lines t.spells);
       taken = t.taken;
     }
-
--- nothing was taken
-pub stays : (count : ℕ) (d e : Divider) (p q : Pieces) (text : List ℕ) (written : Files) → e ≡ d → StaysAs p q
-    → AreUnderWay count d p text written → AreUnderWay count e q text written
-stays count d e p q text written same stay h = record {
-  front = h.front;
-  maps = h.maps;
-  parts = rw stay.text h.parts;
-  start = stay.start ∙ h.start;
-  lines = h.lines;
-  taken = rw same h.taken;
-}
 
 -- more of the text was read
 reads_on : (count : ℕ) (d : Divider) (p q : Pieces) (text : List ℕ) (written : Files)
@@ -126,56 +115,53 @@ flushed_so_far count d e p q left left_after files now files_after divided f flu
 
 -- ---- faults
 
-text_fault : (count : ℕ) (d : Divider) (p : Pieces) (text piece rest : List ℕ) (written : Files)
-    (left : Option (List ℕ)) (e : EdnFault) (place : ℕ) → (h : AreUnderWay count d p text written)
-    → p.text.items ≡ piece ++ rest → e.place ≡ p.start + place → IsUnreadable piece (record e { place = place })
-    → (e.kind ≢ TooLong → EndsPiece rest left) → (e.kind ≡ Unfinished → rest ≡ []) → HasTextFault text left e
-text_fault count d p text piece rest written left e place h parts place_is unreadable ends last = record {
-  front = h.front;
-  piece = piece;
-  rest = rest;
-  parts = h.parts ∙ rw parts;
-  forms = forms_of h.maps;
-  lines = h.lines;
-  faultless = h.taken.read.faultless;
-  place = place;
-  place_is = place_is ∙ rw h.start;
-  unreadable = unreadable;
-  ends = ends;
-  last = last;
-}
+module _ {count : ℕ} {d : Divider} {p : Pieces} {text : List ℕ} {written : Files}
+    (h : AreUnderWay count d p text written) (piece rest : List ℕ) (left : Option (List ℕ))
+    (parts : p.text.items ≡ piece ++ rest) where
+  text_fault : (e : EdnFault) (place : ℕ) → e.place ≡ p.start + place
+      → IsUnreadable piece (record e { place = place }) → (e.kind ≢ TooLong → EndsPiece rest left)
+      → (e.kind ≡ Unfinished → rest ≡ []) → HasTextFault text left e
+  text_fault e place place_is unreadable ends last = record {
+    front = h.front;
+    piece = piece;
+    rest = rest;
+    parts = h.parts ∙ rw parts;
+    forms = forms_of h.maps;
+    lines = h.lines;
+    faultless = h.taken.read.faultless;
+    place = place;
+    place_is = place_is ∙ rw h.start;
+    unreadable = unreadable;
+    ends = ends;
+    last = last;
+  }
 
--- what was found in the forms of a piece, after those before it
-found_in : (count : ℕ) (d : Divider) (p : Pieces) (text piece rest : List ℕ) (written : Files)
-    (left : Option (List ℕ)) (Found : List Datum → Type 0) → (h : AreUnderWay count d p text written)
-    → p.text.items ≡ piece ++ rest → EndsPiece rest left
-    → (es : List Datum) × Spells es piece × Found (forms_of h.maps ++ es) → BeginsWith text left Found
-found_in count d p text piece rest written left Found h parts ends found = record {
-  piece = h.front ++ piece;
-  rest = rest;
-  parts = h.parts ∙ rw parts (sym (append_assoc h.front piece rest));
-  ends = ends;
-  forms = forms_of h.maps ++ found.0;
-  spelled = h.lines found.0 piece found.1;
-  found = found.2;
-}
+  -- what was found in the forms of a piece, after those before it
+  found_in : (Found : List Datum → Type 0) → EndsPiece rest left
+      → (es : List Datum) × Spells es piece × Found (forms_of h.maps ++ es) → BeginsWith text left Found
+  found_in Found ends found = record {
+    piece = h.front ++ piece;
+    rest = rest;
+    parts = h.parts ∙ rw parts (sym (append_assoc h.front piece rest));
+    ends = ends;
+    forms = forms_of h.maps ++ found.0;
+    spelled = h.lines found.0 piece found.1;
+    found = found.2;
+  }
 
--- a fault of a piece, after which this rest of the text was read
-pub fault_in : (count : ℕ) (d : Divider) (p : Pieces) (text piece rest : List ℕ) (written : Files)
-    (left : Option (List ℕ)) (fault : PieceFault) (f : SplitFault) → (h : AreUnderWay count d p text written)
-    → p.text.items ≡ piece ++ rest → EndsPiece rest left → IsPieceFault count (forms_of h.maps) piece fault
-    → (EndsInsideForm fault → rest ≡ []) → IsFaultFrom p.start fault f → IsFaultIn count text left f
-fault_in count d p text piece rest written left fault (split_fault.Malformed (Text e)) h parts ends is last from =
-    let own : EdnFault = record e { place = from.0 } in
-    let piece_is : IsPieceFault count (forms_of h.maps) piece (piece_fault.Malformed (Text own)) = rw from.2 at is in
-    text_fault count d p text piece rest written left e from.0 h parts from.1 (piece_is from.3) (λ ne. ends)
-    (rw from.2 at last)
-fault_in count d p text piece rest written left fault (split_fault.Malformed (Maps f)) h parts ends is last from =
-    found_in count d p text piece rest written left (λ ds. IsFoundAmong ds f) h parts ends
-    ((rw from.0 at is) from.1)
-fault_in count d p text piece rest written left fault (split_fault.FewShards x) h parts ends is last from =
-    found_in count d p text piece rest written left (λ ds. NeedsMoreShards count ds x) h parts ends (rw from at is)
-fault_in count d p text piece rest written left fault f h parts ends is last from = tt
+  -- a fault of a piece, after which this rest of the text was read
+  pub fault_in : (fault : PieceFault) (f : SplitFault) → EndsPiece rest left
+      → IsPieceFault count (forms_of h.maps) piece fault → (EndsInsideForm fault → rest ≡ [])
+      → IsFaultFrom p.start fault f → IsFaultIn count text left f
+  fault_in fault (split_fault.Malformed (Text e)) ends is last from =
+      let own : EdnFault = record e { place = from.0 } in
+      let piece_is : IsPieceFault count (forms_of h.maps) piece (piece_fault.Malformed (Text own)) = rw from.2 at is in
+      text_fault e from.0 from.1 (piece_is from.3) (λ ne. ends) (rw from.2 at last)
+  fault_in fault (split_fault.Malformed (Maps f)) ends is last from =
+      found_in (λ ds. IsFoundAmong ds f) ends ((rw from.0 at is) from.1)
+  fault_in fault (split_fault.FewShards x) ends is last from =
+      found_in (λ ds. NeedsMoreShards count ds x) ends (rw from at is)
+  fault_in fault f ends is last from = tt
 
 -- the rest that begins with a line feed
 pub ends_at_feed : (text : List ℕ) (n : ℕ) (left : Option (List ℕ)) → n < length text → get_or text n 0 ≡ 10
@@ -189,10 +175,9 @@ pub too_long_in : (count : ℕ) (d : Divider) (p : Pieces) (text : List ℕ) (wr
     → IsFaultIn count text left (split_fault.Malformed (too_long_at p.start))
 too_long_in count d p text written left h long =
     let e : EdnFault = record { kind = TooLong; place = p.start } in
-    let at_start : p.start ≡ p.start + 0 = omega arith in
     let unreadable : IsUnreadable p.text.items (record e { place = 0 }) =
     record { not_memory = λ q. cc q; too_long = (λ q. long, λ l. refl); nothing = λ ne. absurd (ne refl) } in
-    text_fault count d p text p.text.items [] written left e 0 h (sym (append-nil p.text.items)) at_start unreadable
+    text_fault h p.text.items [] left (sym (append-nil p.text.items)) e 0 (omega arith) unreadable
     (λ ne. absurd (ne refl)) (λ q. refl)
 
 -- a fault of the text that was read

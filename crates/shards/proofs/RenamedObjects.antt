@@ -211,4 +211,5 @@ module _ (name : ℕ → ℕ) (es : List Event) (proper : IsProper es) (own : Ha
 
 pub decided_by_renamed : (name : ℕ → ℕ) (es : List Event) → IsProper es → HaveOwnNames name es
     → (DenoteLinearizable es ↔ DenoteLinearizable (renamed name es))
-decided_by_renamed name es proper own = (renamed_linearizable name es proper own, linearizable_renamed name es proper own)
+decided_by_renamed name es proper own =
+    (renamed_linearizable name es proper own, linearizable_renamed name es proper own)

@@ -21,7 +21,6 @@ use Rattle.history.specs.declared.map_texts.MapText.{MapText}
 use Rattle.shards.specs.declared.divider.Divider.{Divider}
 use Rattle.shards.specs.declared.fault.PieceFault.{PieceFault}
 use Rattle.shards.specs.declared.fault.PieceFault.TheVariants.{Malformed, FewShards}
-use Rattle.shards.specs.declared.waiting.Waiting.{Waiting}
 use Rattle.shards.specs.Forms.{is_on}
 use Rattle.shards.specs.LargeObjects.{maps_on}
 use Rattle.shards.specs.ShardTexts.{IsSpelled, SaysRenamed, SpelledMap, map_lines, maps_of_shard}
@@ -31,7 +30,7 @@ use Rattle.history.specs.Faults.{IsFaultlessAtAnyLength}
 use Rattle.shards.specs.SplitFaults.{IsFoundAmong, NeedsMoreShards, most_maps}
 use Rattle.shards.specs.Taking.{AddsLine, AddsMap, AreMapsTaken, AreTakenOf, AreTakenWith, IsMapFoundAmong}
 use Rattle.shards.specs.Taking.{IsPieceFault}
-use Rattle.shards.specs.Taking.{maps_in, forms_of, waiting_maps, waiting_places}
+use Rattle.shards.specs.Taking.{forms_of, waiting_maps, waiting_places}
 use Rattle.shards.specs.Tallies.{CountsOne}
 use Rattle.shards.proofs.BareMaps.{bare_spells}
 use Rattle.shards.proofs.LinesMore.{lines_push, table_push, filter_kept, filter_left, places_kept, places_left}
@@ -79,20 +78,6 @@ module _ (count s : ℕ) (maps : List SpelledMap) (m : SpelledMap) where
       ≡ length (maps_of_shard (shard_among count) s maps)
   count_left q = ap length (filter_left on maps m q)
 
--- ---- the maps on one object
-
-on_one : (x : ℕ) (maps : List SpelledMap) (m : SpelledMap) (c : ClientMap) → client_of m.form ≡ Some c
-    → c.object ≡ x → maps_on (maps ++ m ∷ []) x ≡ maps_on maps x + 1
-on_one x maps m c client own =
-    let on = λ (k : SpelledMap). is_on (λ y. y == x) k.form in
-    ap length (filter_kept on maps m (on_object (λ y. y == x) m.form c client ∙ eq-eqb c.object x own))
-    ∙ length-append (filter on maps) (m ∷ [])
-
-on_another : (x y : ℕ) (maps : List SpelledMap) (m : SpelledMap) (c : ClientMap) → client_of m.form ≡ Some c
-    → c.object ≡ x → y ≢ x → maps_on (maps ++ m ∷ []) y ≡ maps_on maps y
-on_another x y maps m c client own ne = ap length (filter_left (λ k. is_on (λ z. z == y) k.form) maps m
-    (on_object (λ z. z == y) m.form c client ∙ ne_eqb c.object y (λ q. ne (sym q ∙ own))))
-
 -- a map whose object gets the name that it has in its shard
 pub says_by : (k x : ℕ) (d e : Datum) (c : ClientMap) → client_of d ≡ Some c → c.object ≡ x → k ≡ name_in_shard x
     → SaysRenamed (λ y. k) d e → SaysRenamed name_in_shard d e
@@ -127,84 +112,58 @@ taken_unseen count old new maps written d h read none shards tally same =
     off : (s : ℕ) → is_on (λ x. shard_among count x == s) d ≡ false
     off s = on_none (λ x. shard_among count x == s) d none
 
--- the map of a client on this object
-module _ (count : ℕ) (old new : Divider) (maps : List SpelledMap) (written : Files) (m : SpelledMap) (x place : ℕ)
-  where
-    abbrev i : ℕ
-    i = shard_among count x
+-- the map of a client
+module _ (count : ℕ) (old new : Divider) (maps : List SpelledMap) (written : Files) (m : SpelledMap) (c : ClientMap)
+    (place : ℕ) (h : AreMapsTaken count old maps written) (client : client_of m.form ≡ Some c)
+    (is : place ≡ length (forms_of maps))
+    (a : AddsLine (shard_among count c.object) m.text place old.waiting.items new.waiting.items) where
+  abbrev i : ℕ
+  i = shard_among count c.object
 
-    abbrev line : List ℕ
-    line = m.text ++ 10 ∷ []
+  on_own : (s : ℕ) → s ≡ i → is_on (λ x. shard_among count x == s) m.form ≡ true
+  on_own s q = on_object (λ x. shard_among count x == s) m.form c client ∙ eq-eqb i s (sym q)
 
-    abbrev row : List ℕ
-    row = decimal place ++ 10 ∷ []
+  on_other : (s : ℕ) → s ≢ i → is_on (λ x. shard_among count x == s) m.form ≡ false
+  on_other s ne = on_object (λ x. shard_among count x == s) m.form c client ∙ ne_eqb i s (λ q. ne (sym q))
 
-    abbrev before : List Waiting
-    before = old.waiting.items
+  -- the maps on its object are one more, and those on any other as many as before
+  one_more : maps_on (maps ++ m ∷ []) c.object ≡ maps_on maps c.object + 1
+  one_more =
+      let on = λ (k : SpelledMap). is_on (λ y. y == c.object) k.form in
+      rw (filter_kept on maps m (on_object (λ y. y == c.object) m.form c client ∙ eq-eqb c.object c.object refl))
+      (length_push (filter on maps) m)
 
-    abbrev after : List Waiting
-    after = new.waiting.items
+  no_more : (y : ℕ) → y ≢ c.object → maps_on (maps ++ m ∷ []) y ≡ maps_on maps y
+  no_more y ne = ap length (filter_left (λ k. is_on (λ z. z == y) k.form) maps m
+      (on_object (λ z. z == y) m.form c client ∙ ne_eqb c.object y (λ q. ne (sym q))))
 
-    abbrev OnObject : Type 0
-    OnObject = (c : ClientMap) × (client_of m.form ≡ Some c) × (c.object ≡ x)
-
-    seen : OnObject → (s : ℕ) → is_on (λ y. shard_among count y == s) m.form ≡ (i == s)
-    seen own s = on_object (λ y. shard_among count y == s) m.form own.0 own.1
-        ∙ ap (λ y. shard_among count y == s) own.2
-
-    on_own : OnObject → (s : ℕ) → s ≡ i → is_on (λ y. shard_among count y == s) m.form ≡ true
-    on_own own s q = seen own s ∙ eq-eqb i s (sym q)
-
-    on_other : OnObject → (s : ℕ) → s ≢ i → is_on (λ y. shard_among count y == s) m.form ≡ false
-    on_other own s ne = seen own s ∙ ne_eqb i s (λ q. ne (sym q))
-
-    text_more : OnObject → AreMapsTaken count old maps written → AddsLine i m.text place before after → (s : ℕ)
-        → written.texts s ++ waiting_maps after s ≡ map_lines (maps_of_shard (shard_among count) s (maps ++ m ∷ []))
-    text_more own h a s = elim (cases_eq s i) [
-      | inl q ↦ cc (
-        a.maps,
-        append_assoc (written.texts s) (waiting_maps before s) line,
-        h.texts s,
-        text_kept count s maps m (on_own own s q),
-      )
-      | inr ne ↦ cc (a.other_maps s ne, h.texts s, text_left count s maps m (on_other own s ne))
-    ]
-
-    table_more : OnObject → AreMapsTaken count old maps written → AddsLine i m.text place before after
-        → place ≡ length (forms_of maps) → (s : ℕ) → written.tables s ++ waiting_places after s
-        ≡ table_text (places_from 0 (λ y. shard_among count y == s) (forms_of (maps ++ m ∷ [])))
-    table_more own h a is s = elim (cases_eq s i) [
-      | inl q ↦ cc (
-        a.places,
-        append_assoc (written.tables s) (waiting_places before s) row,
-        h.tables s,
-        table_kept count s maps m place is (on_own own s q),
-      )
-      | inr ne ↦ cc (a.other_places s ne, h.tables s, table_left count s maps m (on_other own s ne))
-    ]
-
-    count_more : OnObject → AreMapsTaken count old maps written → AddsLine i m.text place before after → (s : ℕ)
-        → s < count → maps_in after s ≡ length (maps_of_shard (shard_among count) s (maps ++ m ∷ []))
-    count_more own h a s l = elim (cases_eq s i) [
-      | inl q ↦ cc (a.count, h.counts s l, count_kept count s maps m (on_own own s q))
-      | inr ne ↦ cc (a.other_counts s ne, h.counts s l, count_left count s maps m (on_other own s ne))
-    ]
-
-    taken_line : AreMapsTaken count old maps written → AreReadAtAnyLength new.reader (forms_of maps ++ m.form ∷ [])
-        → IsSpelled name_in_shard m → OnObject → x / most_names < count → place ≡ length (forms_of maps)
-        → new.shards ≡ old.shards → CountsOne x old.tally new.tally → AddsLine i m.text place before after
-        → AreMapsTaken count new (maps ++ m ∷ []) written
-    taken_line h read spells own fits is shards counts a = record {
-      shards = shards ∙ h.shards;
-      read = rw (forms_push maps m) read;
-      each = All-push (IsSpelled name_in_shard) maps m h.each spells;
-      fit = All-push (ObjectFits count) maps m h.fit (λ c q. rw (same_Some c own.0 (sym q ∙ own.1), own.2) fits);
-      tally = counts (maps_on maps) (maps_on (maps ++ m ∷ [])) h.tally (on_one x maps m own.0 own.1 own.2)
-          (λ y ne. on_another x y maps m own.0 own.1 own.2 ne);
-      texts = text_more own h a;
-      tables = table_more own h a is;
-      counts = count_more own h a;
-    }
+  taken_line : AreReadAtAnyLength new.reader (forms_of maps ++ m.form ∷ []) → IsSpelled name_in_shard m
+      → c.object / most_names < count → new.shards ≡ old.shards → CountsOne c.object old.tally new.tally
+      → AreMapsTaken count new (maps ++ m ∷ []) written
+  taken_line read spells fits shards counts = record {
+    shards = shards ∙ h.shards;
+    read = rw (forms_push maps m) read;
+    each = All-push (IsSpelled name_in_shard) maps m h.each spells;
+    fit = All-push (ObjectFits count) maps m h.fit (λ k q. rw (same_Some k c (sym q ∙ client)) fits);
+    tally = counts (maps_on maps) (maps_on (maps ++ m ∷ [])) h.tally one_more no_more;
+    texts = λ s. elim (cases_eq s i) [
+      | inl q ↦
+          let joined = append_assoc (written.texts s) (waiting_maps old.waiting.items s) (m.text ++ 10 ∷ []) in
+          cc (a.maps, joined, h.texts s, text_kept count s maps m (on_own s q))
+      | inr ne ↦ cc (a.other_maps s ne, h.texts s, text_left count s maps m (on_other s ne))
+    ];
+    tables = λ s. elim (cases_eq s i) [
+      | inl q ↦
+          let row = decimal place ++ 10 ∷ [] in
+          let joined = append_assoc (written.tables s) (waiting_places old.waiting.items s) row in
+          cc (a.places, joined, h.tables s, table_kept count s maps m place is (on_own s q))
+      | inr ne ↦ cc (a.other_places s ne, h.tables s, table_left count s maps m (on_other s ne))
+    ];
+    counts = λ s l. elim (cases_eq s i) [
+      | inl q ↦ cc (a.count, h.counts s l, count_kept count s maps m (on_own s q))
+      | inr ne ↦ cc (a.other_counts s ne, h.counts s l, count_left count s maps m (on_other s ne))
+    ];
+  }
 
 pub taken_map : (count : ℕ) (old new : Divider) (maps : List SpelledMap) (written : Files) (d : Datum)
     (c : ClientMap) (place : ℕ) → AreMapsTaken count old maps written
@@ -217,8 +176,8 @@ taken_map count old new maps written d c place h read client fits is shards coun
     let m : SpelledMap = record { form = d; own = a.own; text = a.text } in (
       m,
       refl,
-      taken_line count old new maps written m c.object place h read (λ k q. (a.says, a.spells)) (c, client, refl)
-          (rw h.shards at fits) is shards counts (rw h.shards at a.adds),
+      taken_line count old new maps written m c place h client is (rw h.shards at a.adds) read
+          (λ k q. (a.says, a.spells)) (rw h.shards at fits) shards counts,
     )
 
 -- ---- the maps of a piece

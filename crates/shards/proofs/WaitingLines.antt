@@ -1,6 +1,6 @@
 -- A list of what waits of each shard, in which one element is written: what is at its place, and at the others.
-use Rattle.std.proofs.Common.{◌≡◌, ◌≢◌, ℕ, zero, suc, ◌+◌, ◌<◌, inl, inr, List, [], ◌∷◌, ◌++◌, length, map}
-use Rattle.std.proofs.Common.{get_or, set, decimal, refl, ap, sym, ◌∙◌, arith}
+use Rattle.std.proofs.Common.{◌≡◌, ◌≢◌, ℕ, ◌+◌, ◌<◌, inl, inr, List, [], ◌∷◌, ◌++◌, length, map}
+use Rattle.std.proofs.Common.{get_or, set, decimal, ap, sym, ◌∙◌, arith}
 use Rattle.std.proofs.lemmas.Bool.{cases_eq}
 use Rattle.std.proofs.lemmas.List.{map-set, length-map, length-set, get_or-map, get_or-set_same, get_or-set_other}
 use Rattle.shards.specs.declared.waiting.Waiting.{Waiting}
@@ -20,14 +20,6 @@ module _ {V : Type 0} (f : Waiting → V) (none : V) where
 
   pub at_read : (ws : List Waiting) (i : ℕ) (w : Waiting) → i < length ws → w ≡ get_or ws i w → at ws i ≡ f w
   at_read ws i w l is = get_or-map f ws i w none l ∙ ap f (sym is)
-
-  -- one more at the end, of which nothing is kept
-  pub at_push : (ws : List Waiting) (w : Waiting) → f w ≡ none → ((s : ℕ) → at ws s ≡ none) → (s : ℕ)
-      → at (ws ++ w ∷ []) s ≡ none
-  at_push [] w q h zero = q
-  at_push [] w q h (suc s) = refl
-  at_push (x ∷ ws) w q h zero = h zero
-  at_push (x ∷ ws) w q h (suc s) = at_push ws w q (λ k. h (suc k)) s
 
   -- one more of which nothing waits
   pub none_more : (ws : List Waiting) (i : ℕ) (w : Waiting) → i < length ws → f w ≡ none

@@ -49,7 +49,9 @@ order_found has x es own proper =
 part_linearizable : (has : ℕ → Bool) (es : List Event) → IsProper es → DenoteLinearizable es
     → DenoteLinearizable (events_on has es)
 part_linearizable has es proper l = linearizable_by (events_on has es) (proper_on has es proper)
-    (λ e i. order_kept has e.object es (in_filter_passes (λ d. has d.object) e es i) proper (orders_of es proper l e.object))
+    (λ e i.
+    let own = in_filter_passes (λ d. has d.object) e es i in
+    order_kept has e.object es own proper (orders_of es proper l e.object))
 
 -- a whole, where the part with each object is linearizable
 whole_linearizable : (has : ℕ → ℕ → Bool) (es : List Event) → IsProper es → ((x : ℕ) → has x x ≡ true)

@@ -1,23 +1,24 @@
 -- The worked events. Each shard has one enqueue or nothing, and so is proper, and linearizable by the order of its one
 -- call: so a proper whole is linearizable. Where a process invokes twice before a response, the whole is neither.
 use Rattle.std.proofs.Common.{◌≡◌, ℕ, ℤ, pos, ◌==◌, ◌<◌, Bool, true, false, cond, List, [], ◌∷◌}
-use Rattle.std.proofs.Common.{filter, Some, lit<, refl, ap, sym, subst, arith}
+use Rattle.std.proofs.Common.{filter, Some, lit<, refl, sym, subst, arith}
 use Rattle.std.proofs.lemmas.Bool.{eqb-true}
 use Rattle.std.proofs.lemmas.Bool.Decides.{nat_tests}
+use Rattle.std.proofs.lemmas.List.{map-id}
 use Rattle.model.specs.declared.Kind.TheVariants.{Queue}
 use Rattle.model.specs.declared.AnyOp.TheVariants.{Enqueue}
 use Rattle.model.specs.declared.AnyReply.TheVariants.{Value}
 use Rattle.model.specs.Objects.{queue}
 use Rattle.model.specs.Orders.{calls_on, IsValidOrder}
 use Rattle.model.specs.Lists.{In}
-use Rattle.model.proofs.Lists.{Pairs, all_from_pairs}
+use Rattle.model.proofs.Lists.{all_from_pairs}
 use Rattle.locality.proofs.WrittenOut.{valid_order}
 use Rattle.locality.proofs.WorkedOrders.{returned}
 use Rattle.events.specs.declared.event.Action.TheVariants.{Invoke, Ok}
 use Rattle.events.specs.declared.event.Event.{Event}
 use Rattle.events.specs.Events.{denoted, kind_of_object, IsProper}
 use Rattle.events.proofs.ProcessRuns.{idle, Runs}
-use Rattle.shards.specs.Shards.{events_on, renamed, AreRenumbered, AreShards, DenoteLinearizable}
+use Rattle.shards.specs.Shards.{events_on, AreRenumbered, AreShards, DenoteLinearizable}
 use Rattle.shards.specs.WorkedShards.{own_shard, does, one_each, renumbered_shard, shards_of_one_each}
 use Rattle.shards.specs.WorkedShards.{two_at_once, shards_of_two_at_once}
 use Rattle.shards.proofs.Proper.{proper_from, proper_on}
@@ -30,7 +31,7 @@ enqueued p n m x v = does n p x (Invoke (Enqueue v)) ∷ does m p x (Ok (Value (
 
 enqueued-proper : (p n m x : ℕ) (v : ℤ) → n < m → IsProper (enqueued p n m x v)
 enqueued-proper p n m x v less = proper_from (λ y. Queue) (enqueued p n m x v)
-    (all_from_pairs (λ (a b : Event). a.number < b.number) (enqueued p n m x v) (λ e i. grind arith, (λ e i. absurd i, tt)))
+    (all_from_pairs (λ a b. a.number < b.number) (enqueued p n m x v) (λ e i. grind arith, (λ e i. absurd i, tt)))
     (λ q. grind (arith, nat_tests)) (λ e op i q. grind arith)
 
 -- of events that denote one enqueue the order with its call alone is valid
@@ -75,11 +76,6 @@ nothing-good = (nothing-proper, nothing-linearizable)
 not_both : (s : ℕ) → (1 == s) ≡ true → (2 == s) ≡ true → ⊥
 not_both s q r = let one = eqb-true 1 s q in let two = eqb-true 2 s r in omega arith
 
--- the same events, where each object keeps its number
-pub numbers_kept : (es : List Event) → renamed (λ x. x) es ≡ es
-numbers_kept [] = refl
-numbers_kept (e ∷ es) = ap (λ fs. e ∷ fs) (numbers_kept es)
-
 -- ---- a process that has two operations at once
 
 -- what a shard has of some events: those on object 1, or not, and those on object 2, or not
@@ -98,7 +94,7 @@ two_at_once-shards s = two_at_once-shard (1 == s) (2 == s) (not_both s)
 pub two_at_once-divided : AreShards own_shard (λ x. x) two_at_once shards_of_two_at_once
 two_at_once-divided s =
     let shard = shards_of_two_at_once s in
-    subst (λ es. AreRenumbered es shard) (sym (numbers_kept shard))
+    subst (λ es. AreRenumbered es shard) (sym (map-id shard))
     (record { same = refl; rising = (two_at_once-shards s).0.rising })
 
 pub two_at_once-refused : ¬ IsProper two_at_once
@@ -113,11 +109,8 @@ two_at_once-not_linearizable l = let s = l.completes.well_formed 3 in let m = s.
 
 pub one_each-proper : IsProper one_each
 one_each-proper = proper_from (λ y. Queue) one_each
-    (all_from_pairs (λ (a b : Event). a.number < b.number) one_each rising) runs (λ e op i q. grind arith)
+    (all_from_pairs (λ (a b : Event). a.number < b.number) one_each (grind arith)) runs (λ e op i q. grind arith)
   where
-    rising : Pairs (λ (a b : Event). a.number < b.number) one_each
-    rising = grind arith
-
     -- process 3 alone invokes and returns, or process 4 alone, or neither does anything
     runs : (p : ℕ) → Runs p idle one_each
     runs p = grind (arith, nat_tests)
@@ -134,7 +127,7 @@ one_each-good s = one_each-shard (1 == s) (2 == s) (not_both s)
 
 pub one_each-divided : AreShards own_shard (λ x. x) one_each shards_of_one_each
 one_each-divided s = subst (λ es. AreRenumbered es (shards_of_one_each s))
-    (sym (numbers_kept (events_on (λ x. own_shard x == s) one_each))) (go (2 == s) refl)
+    (sym (map-id (events_on (λ x. own_shard x == s) one_each))) (go (2 == s) refl)
   where
     go : (b : Bool) → (2 == s) ≡ b
         → AreRenumbered (events_on (λ x. x == s) one_each) (cond b renumbered_shard (events_on (λ x. x == s) one_each))

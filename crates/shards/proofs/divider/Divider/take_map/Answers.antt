@@ -56,7 +56,8 @@ returns-then-not-fits-clause-fault c = λ count maps written d says h.
       | inr unfit ↦ unfit
     ] in
     let unfit : count ≤ map.object / most_names = subst (λ n. n ≤ map.object / most_names) h.shards own in
-    unfit_last count ds d (client_map map client.0) read.faultless client.1 unfit (All-map (FitsAmong count) (λ m. m.form) maps h.fit)
+    unfit_last count ds d (client_map map client.0) read.faultless client.1 unfit
+    (All-map (FitsAmong count) (λ m. m.form) maps h.fit)
 
 -- only the map of a client has an event
 pub returns-in_default : goal.returns-in_default
