@@ -1,26 +1,22 @@
 -- What a split denotes: each shard denotes the events on its objects, renamed and renumbered; so the shards decide
 -- whether the whole is linearizable. A text denotes one list of forms only.
-use Rattle.std.proofs.Common.{◌≡◌, ℕ, ◌==◌, ◌⊎◌, inl, inr, Bool, List, [], ◌∷◌, ◌++◌, map, refl, sym, ◌∙◌, ap, subst}
+use Rattle.std.proofs.Common.{◌≡◌, ◌↔◌, ℕ, ◌==◌, ◌⊎◌, inl, inr, Bool, List, [], map, refl, sym, ◌∙◌, subst}
 use Rattle.edn_reader.specs.Datum.{Datum}
 use Rattle.edn_reader.specs.Spells.{Spells}
 use Rattle.edn_reader.proofs.Progress.{one_reading_of}
 use Rattle.events.specs.declared.event.Event.{Event}
 use Rattle.history.specs.Denotes.{events_of_forms}
-use Rattle.shards.specs.Shards.{AreRenumbered, AreShards, DenoteLinearizable, events_on, renamed}
+use Rattle.shards.specs.Shards.{AreShards, DenoteLinearizable}
 use Rattle.shards.proofs.WholeAndShards.{decided_by_shards}
 use Rattle.judging.specs.Texts.{IsLinearizableText, IsNotLinearizableText}
 use Rattle.history.proofs.MapLimit.{at_any_length}
-use Rattle.events.specs.Events.{denoted, kind_of_object}
-use Rattle.events.proofs.WellFormed.{denoted_is_history}
-use Rattle.locality.specs.Locality.{HasValidOrder}
-use Rattle.locality.proofs.OneKind.{named_kinds}
-use Rattle.model.specs.Orders.{ProcessCall}
-use Rattle.model.proofs.Lists.{all_from_in}
+use Rattle.history.proofs.Reading.{nothing_faulty}
 use Rattle.edn_reader.proofs.Joined.{nothing_spelled}
-use Rattle.history.specs.Faults.{IsFaultlessAtAnyLength}
+use Rattle.history.specs.Faults.{IsFaultlessAtAnyLength, IsMapFault}
 use Rattle.history.proofs.Proper.{proper_at_any_length}
 use Rattle.shards.specs.ShardTexts.{SpelledMap, IsSplit, IsLinearizableAtAnyLength, IsShardOf, TextDenotes}
 use Rattle.shards.proofs.RenamedForms.{own_faultless, own_forms_on, own_said}
+use Rattle.shards.proofs.WorkedShards.{nothing-linearizable}
 use Rattle.shards.proofs.WrittenShards.{shard_spells}
 
 -- the objects of a shard
@@ -30,6 +26,11 @@ objects_of shard_of s x = shard_of x == s
 abbrev forms_of : {shard_of name : ℕ → ℕ} {whole : List ℕ} {shards : ℕ → List ℕ}
     → IsSplit shard_of name whole shards → List Datum
 forms_of h = map (λ (m : SpelledMap). m.form) h.maps
+
+-- a text denotes what its one list of forms denotes
+one_denoted : (text : List ℕ) (es : List Event) (ds : List Datum) → TextDenotes text es → Spells ds text
+    → es ≡ events_of_forms 0 ds
+one_denoted text es ds d spelled = rw (← one_reading_of d.forms ds text d.spelled spelled) d.denoted.events
 
 module _ {shard_of name : ℕ → ℕ} {whole : List ℕ} {shards : ℕ → List ℕ}
     (h : IsSplit shard_of name whole shards) where
@@ -43,8 +44,7 @@ module _ {shard_of name : ℕ → ℕ} {whole : List ℕ} {shards : ℕ → List
   faultless_in s = own_faultless shard_of name h.maps h.each h.faultless s h.apart
 
   own_spelled : (s : ℕ) → Spells (own_forms s) (shards s)
-  own_spelled s = subst (Spells (own_forms s)) (sym (h.texts s))
-      (shard_spells name (objects_of shard_of s) h.maps h.each)
+  own_spelled s = rw (h.texts s) (shard_spells name (objects_of shard_of s) h.maps h.each)
 
   own_denoted : (s : ℕ) → TextDenotes (shards s) (own_events s)
   own_denoted s = record {
@@ -69,16 +69,12 @@ module _ {shard_of name : ℕ → ℕ} {whole : List ℕ} {shards : ℕ → List
     rising = (proper_at_any_length (own_forms s) (faultless_in s)).rising;
   }
 
-  -- a text denotes what its one list of forms denotes
   pub whole_is : (es : List Event) → TextDenotes whole es → es ≡ whole_events
-  whole_is es d = d.denoted.events ∙ ap (events_of_forms 0)
-      (one_reading_of d.forms (forms_of h) whole d.spelled h.spelled)
+  whole_is es d = one_denoted whole es (forms_of h) d h.spelled
 
   -- the text of a shard denotes the shard's events and no others
   pub own_is : (s : ℕ) (es : List Event) → TextDenotes (shards s) es → es ≡ own_events s
-  own_is s es d =
-      d.denoted.events ∙ ap (events_of_forms 0) (one_reading_of d.forms (own_forms s) (shards s) d.spelled
-      (own_spelled s))
+  own_is s es d = one_denoted (shards s) es (own_forms s) d (own_spelled s)
 
   -- the text of a shard is that of the whole's events on the shard's objects
   pub shard_is : (es : List Event) → TextDenotes whole es → (s : ℕ)
@@ -86,9 +82,13 @@ module _ {shard_of name : ℕ → ℕ} {whole : List ℕ} {shards : ℕ → List
   shard_is es d s = record {
     events = own_events s;
     denoted = own_denoted s;
-    renumbered = subst (λ xs. AreRenumbered (renamed name (events_on (objects_of shard_of s) xs)) (own_events s))
-        (sym (whole_is es d)) (are_shards s);
+    renumbered = rw (whole_is es d) (are_shards s);
   }
+
+  -- a history is linearizable exactly if its shards are
+  decided : DenoteLinearizable whole_events ↔ ((s : ℕ) → DenoteLinearizable (own_events s))
+  decided = decided_by_shards shard_of name whole_events own_events (proper_at_any_length (forms_of h) h.faultless)
+      h.apart are_shards
 
   -- each shard of a linearizable history is linearizable
   pub shards_of_linearizable : IsLinearizableAtAnyLength whole
@@ -96,9 +96,7 @@ module _ {shard_of name : ℕ → ℕ} {whole : List ℕ} {shards : ℕ → List
   shards_of_linearizable l s = record {
     events = own_events s;
     denoted = own_denoted s;
-    linearizable = (decided_by_shards shard_of name whole_events own_events
-        (proper_at_any_length (forms_of h) h.faultless) h.apart are_shards).0
-        (subst DenoteLinearizable (whole_is l.events l.denoted) l.linearizable) s;
+    linearizable = decided.0 (rw (whole_is l.events l.denoted) at l.linearizable) s;
   }
 
   -- a history is linearizable if each of its shards is
@@ -107,9 +105,7 @@ module _ {shard_of name : ℕ → ℕ} {whole : List ℕ} {shards : ℕ → List
   linearizable_by_shards l = record {
     events = whole_events;
     denoted = whole_denoted;
-    linearizable = (decided_by_shards shard_of name whole_events own_events
-        (proper_at_any_length (forms_of h) h.faultless) h.apart are_shards).1
-        (λ s. subst DenoteLinearizable (own_is s (l s).events (l s).denoted) (l s).linearizable);
+    linearizable = decided.1 (λ s. rw (own_is s (l s).events (l s).denoted) at (l s).linearizable);
   }
 
 -- ---- what `judge` says of a shard
@@ -129,28 +125,19 @@ at_length text l = record {
   linearizable = l.linearizable;
 }
 
-nothing_split : (earlier later : List Datum) (d : Datum) → [] ≡ earlier ++ d ∷ later → ⊥
-nothing_split [] later d e = cc
-nothing_split (x ∷ earlier) later d e = cc
-
-nothing_faulty : IsFaultlessAtAnyLength []
-nothing_faulty earlier later d kind e f = nothing_split earlier later d e
-
 nothing_linearizable : IsLinearizableAtAnyLength []
 nothing_linearizable = record {
   events = [];
   denoted = record {
     forms = [];
     spelled = nothing_spelled;
-    denoted = record { faultless = nothing_faulty; events = refl };
+    denoted = record { faultless = nothing_faulty IsMapFault; events = refl };
   };
-  linearizable = named_kinds (kind_of_object []) (denoted [])
-      (denoted_is_history [] (proper_at_any_length [] nothing_faulty))
-      (all_from_in (λ (c : ProcessCall). HasValidOrder (kind_of_object []) (denoted []) c.object) [] (λ c i. absurd i));
+  linearizable = nothing-linearizable;
 }
 
 judged : (text : List ℕ) → (text ≡ []) ⊎ IsLinearizableText text → IsLinearizableAtAnyLength text
-judged text (inl e) = subst IsLinearizableAtAnyLength (sym e) nothing_linearizable
+judged text (inl e) = rw e nothing_linearizable
 judged text (inr l) = at_length text l
 
 -- a divided history is linearizable if each shard that has text is
@@ -162,10 +149,8 @@ linearizable_where_judged shard_of name whole shards h each = linearizable_by_sh
 -- a text that denotes a history which is not linearizable denotes no other
 refuted : (text : List ℕ) → IsNotLinearizableText text → IsLinearizableAtAnyLength text → ⊥
 refuted text n l =
-    let same : l.denoted.forms ≡ n.history_text.forms =
-    one_reading_of l.denoted.forms n.history_text.forms text l.denoted.spelled n.history_text.spelled in
-    n.not_linearizable (subst DenoteLinearizable
-    (l.denoted.denoted.events ∙ (ap (events_of_forms 0) same ∙ sym n.history_text.denoted.events)) l.linearizable)
+    let same = one_denoted text l.events n.history_text.forms l.denoted n.history_text.spelled in
+    n.not_linearizable (subst DenoteLinearizable (same ∙ sym n.history_text.denoted.events) l.linearizable)
 
 -- a divided history is not linearizable if one shard is not
 pub refuted_by_shard : (shard_of name : ℕ → ℕ) (whole : List ℕ) (shards : ℕ → List ℕ)

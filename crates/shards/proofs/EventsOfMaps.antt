@@ -2,7 +2,6 @@
 -- place as its number, and a map without an event is no client's, since it has no fault.
 use Rattle.std.proofs.Common.{◌≡◌, ℕ, ◌+◌, Bool, false, List, [], ◌∷◌, ◌++◌, length}
 use Rattle.std.proofs.Common.{Option, Some, None, refl, ap, sym, ◌∙◌, arith}
-use Rattle.std.specs.Option.{option_map_or}
 use Rattle.std.proofs.lemmas.List.{append_cancel_left}
 use Rattle.edn_reader.specs.Datum.{Datum}
 use Rattle.events.specs.declared.event.Action.{Action}
@@ -38,17 +37,15 @@ event_is ds d e q = go (client_of d) refl (own_events ds d (e ∷ []) q)
   where
     with_action : (m : ClientMap) (a : Option Action) → client_of d ≡ Some m
         → event_of_map (0 + length ds) m a ≡ e ∷ [] → IsEventOf d (length ds) e
-    with_action m None r s = absurd (cc s)
+    with_action m None r s = absurd cc
     with_action m (Some a) r s =
-        let own : Event =
-        record { number = 0 + length ds; process = m.process; object = m.object; action = a } in
-        let same : own ≡ e = cc in
-        let place : e.number ≡ 0 + length ds = sym (ap (λ (x : Event). x.number) same) in
+        let same : record { number = 0 + length ds; process = m.process; object = m.object; action = a } ≡ e = cc in
+        let place = ap (λ (x : Event). x.number) same in
         record { map = m; client = r; object = ap (λ (x : Event). x.object) same; number = omega (arith, place) }
 
     go : (o : Option ClientMap) → client_of d ≡ o → event_of (0 + length ds) o ≡ e ∷ []
         → IsEventOf d (length ds) e
-    go None r s = absurd (cc s)
+    go None r s = absurd cc
     go (Some m) r s = with_action m (action_of m.type m) r s
 
 pub no_client : (ds : List Datum) (d : Datum) → IsFaultlessAtAnyLength (ds ++ d ∷ [])
@@ -58,7 +55,7 @@ no_client ds d faultless q = go (client_of d) refl (own_events ds d [] q)
     with_action : (m : ClientMap) (a : Option Action) → client_of d ≡ Some m → action_of m.type m ≡ a
         → event_of_map (0 + length ds) m a ≡ [] → Some m ≡ None
     with_action m None r t s = absurd (faultless ds [] d BadValue refl (m, r, bad_value m.type m t))
-    with_action m (Some a) r t s = absurd (cc s)
+    with_action m (Some a) r t s = absurd cc
 
     go : (o : Option ClientMap) → client_of d ≡ o → event_of (0 + length ds) o ≡ [] → o ≡ None
     go None r s = refl
@@ -67,10 +64,10 @@ no_client ds d faultless q = go (client_of d) refl (own_events ds d [] q)
 -- ---- whether it is on some objects
 
 pub on_object : (has : ℕ → Bool) (d : Datum) (m : ClientMap) → client_of d ≡ Some m → is_on has d ≡ has m.object
-on_object has d m q = ap (λ o. option_map_or (λ (x : ClientMap). has x.object) o false) q
+on_object has d m q = rw q
 
 pub on_none : (has : ℕ → Bool) (d : Datum) → client_of d ≡ None → is_on has d ≡ false
-on_none has d q = ap (λ o. option_map_or (λ (x : ClientMap). has x.object) o false) q
+on_none has d q = rw q
 
 -- ---- what is said of it
 

@@ -1,12 +1,12 @@
 -- The maps on some objects have no fault where all maps have none. A process completes an operation on
 -- the object of its invocation, so the maps that are left out of a process are left out in pairs.
-use Rattle.std.proofs.Common.{arith, ◌≡◌, ◌≢◌, ℕ, ◌==◌, inl, inr, Bool, true, false, cond, List, [], ◌∷◌, ◌++◌, find}
-use Rattle.std.proofs.Common.{filter, reverse, Some, Contains, refl, ap, sym, ◌∙◌, subst}
+use Rattle.std.proofs.Common.{arith, ◌≡◌, ℕ, ◌==◌, inl, inr, Bool, true, false, cond, List, [], ◌∷◌, ◌++◌, find}
+use Rattle.std.proofs.Common.{filter, reverse, Some, Contains, refl, ap, ◌∙◌}
 use Rattle.std.proofs.lemmas.Bool.{eqb-true, cases_eq}
 use Rattle.std.proofs.lemmas.List.{append-nil, reverse-append}
 use Rattle.std.proofs.lemmas.List.Elements.{filter-append}
 use Rattle.model.proofs.Lists.{in_filter, in_filter_passes, in_from_contains, contains_from_in}
-use Rattle.history.specs.Maps.{ClientMap, MapType, invoke}
+use Rattle.history.specs.Maps.{ClientMap}
 use Rattle.history.specs.Faults.{last_map, HasOngoing, IsProcessClosed, CompletionDiffers, ClientFault}
 use Rattle.history.specs.declared.fault.HistoryFaultKind.{HistoryFaultKind}
 use Rattle.history.specs.declared.fault.HistoryFaultKind.TheVariants.{NotAnOperation, UnknownF, BadValue, MixedKinds}
@@ -52,55 +52,32 @@ one_object o m same = elim (cases_eq o.object m.object) [ inl e ↦ e | inr ne �
 -- of a process with an outstanding operation, the next map completes it
 next_object : (earlier : List ClientMap) (m o : ClientMap) → IsFine earlier m → HasOngoing earlier m.process o
     → o.object ≡ m.object
-next_object earlier m o fine out = go m.type refl
-  where
-    completes : m.type ≢ invoke → o.object ≡ m.object
-    completes ne = one_object o m (λ d. fine Mismatch (ne, o, out, d))
-
-    go : (t : MapType) → m.type ≡ t → o.object ≡ m.object
-    go invoke q = absurd (fine Busy (q, o, out))
-    go t q = completes (λ e. cc)
+next_object earlier m o fine out =
+    one_object o m (λ d. fine Mismatch (λ e. fine Busy (e, o, out), o, out, d))
 
 outstanding_push : (has : ℕ → Bool) (earlier : List ClientMap) (m : ClientMap) → IsFine earlier m
     → IsOutstandingAmongAll has earlier → IsOutstandingAmongAll has (earlier ++ m ∷ [])
-outstanding_push has earlier m fine h p o out = go (has m.object) refl (m.process == p) refl
+outstanding_push has earlier m fine h p o out = record {
+  last = rw (last_push p earlier m) (go (has m.object) refl (m.process == p) refl);
+  invoked = out.invoked;
+}
   where
     last : (b : Bool) → has m.object ≡ b → last_map p (on has earlier ++ cond b (m ∷ []) []) ≡ Some o
-    last b q = subst (λ c. last_map p (on has earlier ++ cond c (m ∷ []) []) ≡ Some o) q
-        (subst (λ ms. last_map p ms ≡ Some o) (on_push has earlier m) out.last)
+    last b q = rw (on_push has earlier m, q) at out.last
 
-    among : last_map p earlier ≡ Some o → (m.process == p) ≡ false → HasOngoing (earlier ++ m ∷ []) p o
-    among was q = record {
-      last = last_push p earlier m ∙ (ap (λ b. cond b (Some m) (last_map p earlier)) q ∙ was);
-      invoked = out.invoked;
-    }
+    before : last_map p (on has earlier) ≡ Some o → HasOngoing earlier p o
+    before was = h p o (record { last = was; invoked = out.invoked })
 
-    before : last_map p (on has earlier) ≡ Some o → last_map p earlier ≡ Some o
-    before was = (h p o (record { last = was; invoked = out.invoked })).last
-
-    go : (b : Bool) → has m.object ≡ b → (c : Bool) → (m.process == p) ≡ c → HasOngoing (earlier ++ m ∷ []) p o
-    go true q true r =
-        let was = last true q in
-        record {
-          last = last_push p earlier m ∙ (ap (λ c. cond c (Some m) (last_map p earlier)) r
-              ∙ (sym (last_push p (on has earlier) m
-              ∙ ap (λ c. cond c (Some m) (last_map p (on has earlier))) r) ∙ was));
-          invoked = out.invoked;
-        }
-    go true q false r =
-        among (before (sym (last_push p (on has earlier) m ∙ ap (λ c. cond c (Some m) (last_map p (on has earlier))) r)
-        ∙ last true q)) r
+    go : (b : Bool) → has m.object ≡ b → (c : Bool) → (m.process == p) ≡ c
+        → cond c (Some m) (last_map p earlier) ≡ Some o
+    go true q true r = rw (last_push p (on has earlier) m, r) at (last true q)
+    go true q false r = (before (rw (last_push p (on has earlier) m, r) at (last true q))).last
     go false q true r =
-        let was : last_map p (on has earlier) ≡ Some o =
-        subst (λ ms. last_map p ms ≡ Some o) (append-nil (on has earlier)) (last false q) in
-        let own : m.process ≡ p = eqb-true m.process p r in
-        let whole = h p o (record { last = was; invoked = out.invoked }) in
-        let same : o.object ≡ m.object =
-        next_object earlier m o fine (subst (λ n. HasOngoing earlier n o) (sym own) whole) in
-        let kept : has o.object ≡ true = kept_object has earlier p o was in
-        absurd (let t : true ≡ false = sym kept ∙ (ap has same ∙ q) in cc t)
-    go false q false r =
-        among (before (subst (λ ms. last_map p ms ≡ Some o) (append-nil (on has earlier)) (last false q))) r
+        let was : last_map p (on has earlier) ≡ Some o = rw (append-nil (on has earlier)) at (last false q) in
+        let same = next_object earlier m o fine (rw (eqb-true m.process p r) (before was)) in
+        let kept = kept_object has earlier p o was in
+        absurd cc
+    go false q false r = (before (rw (append-nil (on has earlier)) at (last false q))).last
 
 -- the last map of a process, where its object is one of those, is the last one on them
 last_kept : (has : ℕ → Bool) (p : ℕ) (ms : List ClientMap) (o : ClientMap)
@@ -183,13 +160,8 @@ are_fine_on has earlier (m ∷ ms) among fine =
   where
     go : (b : Bool) → has m.object ≡ b → AreFine (on has (earlier ++ m ∷ [])) (on has ms)
         → AreFine (on has earlier) (cond b (m ∷ on has ms) (on has ms))
-    go true q rest = (
-      fine_on has earlier m among fine.0 q,
-      subst (λ xs. AreFine xs (on has ms))
-          (on_push has earlier m ∙ ap (λ b. on has earlier ++ cond b (m ∷ []) []) q) rest,
-    )
-    go false q rest = subst (λ xs. AreFine xs (on has ms))
-        (on_push has earlier m ∙ (ap (λ b. on has earlier ++ cond b (m ∷ []) []) q ∙ append-nil (on has earlier))) rest
+    go true q rest = (fine_on has earlier m among fine.0 q, rw (on_push has earlier m, q) at rest)
+    go false q rest = rw (on_push has earlier m, q, append-nil (on has earlier)) at rest
 
 pub nothing_outstanding : (has : ℕ → Bool) → IsOutstandingAmongAll has []
 nothing_outstanding has p o out = absurd cc

@@ -1,59 +1,45 @@
 -- The objects that are named in maps whose objects fit are told apart in each shard: each named object is that of a
 -- map, since an event is that of a map.
 use Rattle.std.proofs.Common.{◌≡◌, ℕ, ◌+◌, ◌/◌, ◌<◌, inl, inr, List, [], ◌∷◌, All, Option, Some, None}
-use Rattle.std.proofs.Common.{refl, ap, sym, ◌∙◌, subst}
+use Rattle.std.proofs.Common.{refl}
 use Rattle.model.specs.Lists.{In}
-use Rattle.model.proofs.Lists.{all_at, in_append, in_from_contains, in_map}
+use Rattle.model.proofs.Lists.{in_append, in_from_contains}
+use Rattle.std.proofs.lemmas.List.Elements.{All-head, All-map, All-tail}
 use Rattle.edn_reader.specs.Datum.{Datum}
 use Rattle.events.specs.declared.event.Action.{Action}
 use Rattle.events.specs.declared.event.Event.{Event}
 use Rattle.events.specs.Events.{IsNamed}
 use Rattle.history.specs.Maps.{ClientMap, client_of}
 use Rattle.history.specs.Denotes.{action_of, event_of_map, event_of, events_of_forms}
-use Rattle.shards.specs.Dividing.{ObjectFits, most_names, name_in_shard, shard_among}
+use Rattle.shards.specs.Dividing.{FitsAmong, ObjectFits, most_names, name_in_shard, shard_among}
 use Rattle.shards.specs.Shards.{AreApart}
 use Rattle.shards.specs.ShardTexts.{SpelledMap}
 use Rattle.shards.specs.Taking.{forms_of}
 use Rattle.shards.proofs.NamesInShards.{told_apart}
 
--- the form that an event is of
-record IsOfForm (ds : List Datum) (e : Event) : Type 0 where
-  form : Datum
-  among : In form ds
-  map : ClientMap
-  client : client_of form ≡ Some map
-  on_object : map.object ≡ e.object
-
-with_action : (k : ℕ) (d : Datum) (ds : List Datum) (m : ClientMap) (a : Option Action) (e : Event)
-    → client_of d ≡ Some m → In e (event_of_map k m a) → IsOfForm (d ∷ ds) e
-with_action k d ds m None e q i = absurd i
-with_action k d ds m (Some a) e q i = elim i [
-  | inl s ↦ record
-      { form = d; among = inl refl; map = m; client = q; on_object = ap (λ (x : Event). x.object) (sym s) }
-  | inr j ↦ absurd j
-]
-
-of_form : (ds : List Datum) (k : ℕ) (e : Event) → In e (events_of_forms k ds) → IsOfForm ds e
-of_form [] k e i = absurd i
-of_form (d ∷ ds) k e i = elim (in_append e (event_of k (client_of d)) (events_of_forms (k + 1) ds) i) [
+-- an event is that of a form, whose object fits
+event_fits : (count k : ℕ) (ds : List Datum) (e : Event) → All (FitsAmong count) ds → In e (events_of_forms k ds)
+    → e.object / most_names < count
+event_fits count k [] e fit i = absurd i
+event_fits count k (d ∷ ds) e fit i = elim (in_append e (event_of k (client_of d)) (events_of_forms (k + 1) ds) i) [
   | inl j ↦ first (client_of d) refl j
-  | inr j ↦
-      let f = of_form ds (k + 1) e j in
-      record { form = f.form; among = inr f.among; map = f.map; client = f.client; on_object = f.on_object }
+  | inr j ↦ event_fits count (k + 1) ds e (All-tail (FitsAmong count) d ds fit) j
 ]
   where
-    first : (o : Option ClientMap) → client_of d ≡ o → In e (event_of k o) → IsOfForm (d ∷ ds) e
+    own : (m : ClientMap) (a : Option Action) → client_of d ≡ Some m → In e (event_of_map k m a)
+        → e.object / most_names < count
+    own m None q j = absurd j
+    own m (Some a) q j = elim j [ inl s ↦ rw s (All-head (FitsAmong count) d ds fit m q) | inr n ↦ absurd n ]
+
+    first : (o : Option ClientMap) → client_of d ≡ o → In e (event_of k o) → e.object / most_names < count
     first None q j = absurd j
-    first (Some m) q j = with_action k d ds m (action_of m.type m) e q j
+    first (Some m) q j = own m (action_of m.type m) q j
 
 named_fits : (count : ℕ) (maps : List SpelledMap) → All (ObjectFits count) maps → (x : ℕ)
     → IsNamed (events_of_forms 0 (forms_of maps)) x → x / most_names < count
 named_fits count maps fit x n =
-    let es = events_of_forms 0 (forms_of maps) in
-    let f = of_form (forms_of maps) 0 n.event (in_from_contains es n.event n.stands) in
-    let m = in_map (λ (s : SpelledMap). s.form) f.form maps f.among in
-    subst (λ y. y / most_names < count) (f.on_object ∙ n.on_object)
-    (all_at (ObjectFits count) maps fit m.0 m.1 f.map (sym (ap client_of m.2) ∙ f.client))
+    rw (← n.on_object) (event_fits count 0 (forms_of maps) n.event (All-map (FitsAmong count) (λ m. m.form) maps fit)
+    (in_from_contains (events_of_forms 0 (forms_of maps)) n.event n.stands))
 
 pub apart_where_fit : (count : ℕ) (maps : List SpelledMap) → All (ObjectFits count) maps
     → AreApart (shard_among count) name_in_shard (events_of_forms 0 (forms_of maps))

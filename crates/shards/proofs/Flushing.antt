@@ -1,20 +1,17 @@
 -- What waits is written: of each shard the lines that were written and those that wait are the same together. And what
 -- is added to files one after another.
-use Rattle.std.proofs.Common.{◌≡◌, ℕ, ◌<◌, ◌==◌, inl, inr, Bool, true, false, cond, List, [], ◌++◌, length, get_or, set}
-use Rattle.std.proofs.Common.{Option, Some, None, ap, sym, ◌∙◌, subst, append_assoc}
+use Rattle.std.proofs.Common.{◌≡◌, ℕ, ◌<◌, ◌==◌, inl, inr, cond, List, [], ◌++◌, length, get_or, set}
+use Rattle.std.proofs.Common.{Option, Some, None, ap, sym, ◌∙◌, append_assoc}
 use Rattle.std.proofs.lemmas.Bool.{cases_eq, eq-eqb, ne_eqb}
 use Rattle.std.proofs.lemmas.List.{append-nil}
-use Rattle.history.specs.LongReading.{AreReadAtAnyLength}
 use Rattle.shards.specs.declared.divider.Divider.{Divider}
 use Rattle.shards.specs.declared.waiting.Waiting.{Waiting}
 use Rattle.shards.specs.Dividing.{Files}
 use Rattle.shards.specs.Folders.{AddsFiles, lines_for}
-use Rattle.shards.specs.LargeObjects.{maps_on}
 use Rattle.shards.specs.ShardTexts.{SpelledMap}
-use Rattle.shards.specs.Taking.{AreMapsTaken, AreTakenAfter, Flushes, no_lines, with_more, waiting_maps, waiting_places}
-use Rattle.shards.specs.Taking.{maps_in, forms_of}
-use Rattle.shards.specs.Tallies.{IsTally}
-use Rattle.shards.proofs.WaitingLines.{at_written, at_others, at_read}
+use Rattle.shards.specs.Taking.{AreMapsTaken, AreTakenAfter, Flushes, no_lines, with_more}
+use Rattle.shards.specs.Taking.{maps_in}
+use Rattle.shards.proofs.WaitingLines.{at, at_written, at_others, at_read}
 
 -- ---- files
 
@@ -34,18 +31,22 @@ adds_both (Some a) (Some b) (Some c) m n h k = λ s. (
 
 -- ---- lines that move
 
--- the lines that go and those that stay, of one shard
-lines_move : (a gone rest waited left : List ℕ) (b : Bool) → b ≡ true → waited ≡ gone ++ rest → left ≡ rest
-    → (a ++ cond b gone []) ++ left ≡ a ++ waited
-lines_move a gone rest waited left b q old new =
-    ap (λ c. (a ++ cond c gone []) ++ left) q
-    ∙ (append_assoc a gone left ∙ ap (λ t. a ++ t) (ap (λ t. gone ++ t) new ∙ sym old))
+-- of each shard, the lines that were written and those that wait are the same together
+lines_same : (f : Waiting → List ℕ) (ws : List Waiting) (i : ℕ) (w v : Waiting) (gone : List ℕ) → i < length ws
+    → w ≡ get_or ws i w → f w ≡ gone ++ f v → (written : List ℕ) (s : ℕ)
+    → (written ++ cond (s == i) gone []) ++ at f [] (set ws i v) s ≡ written ++ at f [] ws s
+lines_same f ws i w v gone l is moved written s = elim (cases_eq s i) [
+  | inl q ↦
+      rw (eq-eqb s i q, q, at_written f [] ws i v l, at_read f [] ws i w l is, moved) (append_assoc written gone (f v))
+  | inr ne ↦ rw (ne_eqb s i ne, at_others f [] ws i v s ne, append-nil written)
+]
 
--- and of another one
-lines_stay : (a gone waited left : List ℕ) (b : Bool) → b ≡ false → left ≡ waited
-    → (a ++ cond b gone []) ++ left ≡ a ++ waited
-lines_stay a gone waited left b q new =
-    ap (λ c. (a ++ cond c gone []) ++ left) q ∙ (ap (λ t. t ++ left) (append-nil a) ∙ ap (λ t. a ++ t) new)
+count_same : (ws : List Waiting) (i : ℕ) (w v : Waiting) → i < length ws → w ≡ get_or ws i w → v.count ≡ w.count
+    → (s : ℕ) → maps_in (set ws i v) s ≡ maps_in ws s
+count_same ws i w v l is same s = elim (cases_eq s i) [
+  | inl q ↦ rw (q, at_written (λ x. x.count) 0 ws i v l, at_read (λ x. x.count) 0 ws i w l is) same
+  | inr ne ↦ at_others (λ x. x.count) 0 ws i v s ne
+]
 
 taken_flushed : (count : ℕ) (old new : Divider) (maps : List SpelledMap) (written : Files)
     (files files_after : Option Files) (i : ℕ) (w v : Waiting) → i < length old.waiting.items
@@ -54,48 +55,33 @@ taken_flushed : (count : ℕ) (old new : Divider) (maps : List SpelledMap) (writ
     → AreMapsTaken count old maps written
     → AreMapsTaken count new maps (with_more written (lines_for i f.maps f.places))
 taken_flushed count old new maps written files files_after i w v l is set_is shards reader tally f h =
-    let before : List Waiting = old.waiting.items in
+    let ws : List Waiting = old.waiting.items in
     record {
       shards = shards ∙ h.shards;
-      read = subst (λ r. AreReadAtAnyLength r (forms_of maps)) (sym reader) h.read;
+      read = rw reader h.read;
       each = h.each;
       fit = h.fit;
-      tally = subst (λ t. IsTally t (maps_on maps)) (sym tally) h.tally;
-      texts = λ s. elim (cases_eq s i) [
-        | inl q ↦
-            lines_move (written.texts s) f.maps v.maps.items (waiting_maps before s) (waiting_maps new.waiting.items s)
-            (s == i) (eq-eqb s i q)
-            (ap (waiting_maps before) q ∙ (at_read (λ x. x.maps.items) [] before i w l is ∙ f.of_maps))
-            (ap (waiting_maps new.waiting.items) q ∙ (ap (λ ws. waiting_maps ws i) set_is
-            ∙ at_written (λ x. x.maps.items) [] before i v l))
-            ∙ h.texts s
-        | inr ne ↦
-            lines_stay (written.texts s) f.maps (waiting_maps before s) (waiting_maps new.waiting.items s) (s == i)
-            (ne_eqb s i ne) (ap (λ ws. waiting_maps ws s) set_is ∙ at_others (λ x. x.maps.items) [] before i v s ne)
-            ∙ h.texts s
-      ];
-      tables = λ s. elim (cases_eq s i) [
-        | inl q ↦
-            lines_move (written.tables s) f.places v.places.items (waiting_places before s)
-            (waiting_places new.waiting.items s) (s == i) (eq-eqb s i q)
-            (ap (waiting_places before) q ∙ (at_read (λ x. x.places.items) [] before i w l is ∙ f.of_places))
-            (ap (waiting_places new.waiting.items) q ∙ (ap (λ ws. waiting_places ws i) set_is
-            ∙ at_written (λ x. x.places.items) [] before i v l))
-            ∙ h.tables s
-        | inr ne ↦
-            lines_stay (written.tables s) f.places (waiting_places before s) (waiting_places new.waiting.items s)
-            (s == i) (ne_eqb s i ne)
-            (ap (λ ws. waiting_places ws s) set_is ∙ at_others (λ x. x.places.items) [] before i v s ne)
-            ∙ h.tables s
-      ];
-      counts = λ s k. elim (cases_eq s i) [
-        | inl q ↦
-            ap (maps_in new.waiting.items) q ∙ (ap (λ ws. maps_in ws i) set_is
-            ∙ (at_written (λ x. x.count) 0 before i v l ∙ (f.count ∙ (sym (at_read (λ x. x.count) 0 before i w l is)
-            ∙ (ap (maps_in before) (sym q) ∙ h.counts s k)))))
-        | inr ne ↦ ap (λ ws. maps_in ws s) set_is ∙ (at_others (λ x. x.count) 0 before i v s ne ∙ h.counts s k)
-      ];
+      tally = rw tally h.tally;
+      texts = λ s. rw set_is
+          (lines_same (λ x. x.maps.items) ws i w v f.maps l is f.of_maps (written.texts s) s ∙ h.texts s);
+      tables = λ s. rw set_is
+          (lines_same (λ x. x.places.items) ws i w v f.places l is f.of_places (written.tables s) s ∙ h.tables s);
+      counts = λ s k. rw set_is (count_same ws i w v l is f.count s ∙ h.counts s k);
     }
+
+-- the same lines were written
+written_same : (count : ℕ) (d : Divider) (maps : List SpelledMap) (a b : Files) → ((s : ℕ) → b.texts s ≡ a.texts s)
+    → ((s : ℕ) → b.tables s ≡ a.tables s) → AreMapsTaken count d maps a → AreMapsTaken count d maps b
+written_same count d maps a b texts tables t = record {
+  shards = t.shards;
+  read = t.read;
+  each = t.each;
+  fit = t.fit;
+  tally = t.tally;
+  texts = λ s. rw (texts s) (t.texts s);
+  tables = λ s. rw (tables s) (t.tables s);
+  counts = t.counts;
+}
 
 -- one shard more, after others
 pub flushed_more : (count : ℕ) (old new : Divider) (maps : List SpelledMap) (written : Files)
@@ -105,44 +91,24 @@ pub flushed_more : (count : ℕ) (old new : Divider) (maps : List SpelledMap) (w
     → AreTakenAfter count old maps written first files
     → AreTakenAfter count new maps written first files_after
 flushed_more count old new maps written first files files_after i w v l is set_is shards reader tally f h = record {
-  more = with_more h.more (lines_for i f.maps f.places);
-  adds = adds_both first files files_after h.more (lines_for i f.maps f.places) h.adds f.adds;
-  taken = regroup count new maps written h.more (lines_for i f.maps f.places)
+  more = with_more h.more own;
+  adds = adds_both first files files_after h.more own h.adds f.adds;
+  taken = written_same count new maps (with_more (with_more written h.more) own)
+      (with_more written (with_more h.more own))
+      (λ s. sym (append_assoc (written.texts s) (h.more.texts s) (own.texts s)))
+      (λ s. sym (append_assoc (written.tables s) (h.more.tables s) (own.tables s)))
       (taken_flushed count old new maps (with_more written h.more) files files_after i w v l is set_is shards reader
       tally f h.taken);
 }
   where
-    regroup : (count : ℕ) (d : Divider) (maps : List SpelledMap) (a b c : Files)
-        → AreMapsTaken count d maps (with_more (with_more a b) c)
-        → AreMapsTaken count d maps (with_more a (with_more b c))
-    regroup count d maps a b c t = record {
-      shards = t.shards;
-      read = t.read;
-      each = t.each;
-      fit = t.fit;
-      tally = t.tally;
-      texts = λ s.
-          ap (λ x. x ++ waiting_maps d.waiting.items s) (sym (append_assoc (a.texts s) (b.texts s) (c.texts s)))
-          ∙ t.texts s;
-      tables = λ s.
-          ap (λ x. x ++ waiting_places d.waiting.items s) (sym (append_assoc (a.tables s) (b.tables s) (c.tables s)))
-          ∙ t.tables s;
-      counts = t.counts;
-    }
+    own : Files
+    own = lines_for i f.maps f.places
 
 pub none_flushed : (count : ℕ) (d : Divider) (maps : List SpelledMap) (written : Files) (files : Option Files)
     → AreMapsTaken count d maps written → AreTakenAfter count d maps written files files
 none_flushed count d maps written files t = record {
   more = no_lines;
   adds = adds_nothing files;
-  taken = record {
-    shards = t.shards;
-    read = t.read;
-    each = t.each;
-    fit = t.fit;
-    tally = t.tally;
-    texts = λ s. ap (λ x. x ++ waiting_maps d.waiting.items s) (append-nil (written.texts s)) ∙ t.texts s;
-    tables = λ s. ap (λ x. x ++ waiting_places d.waiting.items s) (append-nil (written.tables s)) ∙ t.tables s;
-    counts = t.counts;
-  };
+  taken = written_same count d maps written (with_more written no_lines) (λ s. append-nil (written.texts s))
+      (λ s. append-nil (written.tables s)) t;
 }

@@ -6,7 +6,6 @@ pub mod WholeAndShards
 pub mod WorkedShards
 pub mod FewerMaps
 pub mod FewerForms
-pub mod FewerEvents
 pub mod RenamedMaps
 pub mod RenamedForms
 pub mod WrittenShards

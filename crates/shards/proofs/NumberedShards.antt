@@ -1,13 +1,11 @@
 -- Where objects are divided by their numbers among some shards, no shard past the last has a map. The remainder of a
 -- number is less than the divisor, so each map is filtered out.
-use Rattle.std.proofs.Common.{◌≡◌, ℕ, ◌+◌, ◌/◌, ◌%◌, ◌<◌, ◌≤◌, ◌==◌, Bool, false, cond, List, [], ◌∷◌, filter}
-use Rattle.std.proofs.Common.{Option, Some, None, refl, sym, subst, ap, ◌∙◌, arith}
-use Rattle.std.specs.Option.{option_map_or}
+use Rattle.std.proofs.Common.{◌≡◌, ℕ, ◌+◌, ◌/◌, ◌%◌, ◌<◌, ◌≤◌, ◌==◌, Bool, false, List, [], ◌∷◌, filter}
+use Rattle.std.proofs.Common.{refl, arith}
 use Rattle.std.proofs.lemmas.Bool.{ne_eqb}
 use Rattle.std.proofs.lemmas.Nat.{mod_below}
-use Rattle.history.specs.Maps.{ClientMap, client_of}
 use Rattle.shards.specs.Forms.{is_on}
-use Rattle.shards.specs.ShardTexts.{SpelledMap, map_lines}
+use Rattle.shards.specs.ShardTexts.{SpelledMap}
 use Rattle.shards.specs.Dividing.{Files, IsDivided, most_names, name_in_shard, shard_among}
 
 module _ (count : ℕ) (some : 0 < count) (s : ℕ) (past : count ≤ s) where
@@ -20,17 +18,11 @@ module _ (count : ℕ) (some : 0 < count) (s : ℕ) (past : count ≤ s) where
   abbrev own : ℕ → Bool
   own x = shard_among count x == s
 
-  none_by : (o : Option ClientMap) → option_map_or (λ m. own m.object) o false ≡ false
-  none_by None = refl
-  none_by (Some m) = other_shard m.object
-
   none_of : (ms : List SpelledMap) → filter (λ m. is_on own m.form) ms ≡ []
   none_of [] = refl
-  none_of (m ∷ ms) = subst
-      (λ b. cond b (m ∷ filter (λ x. is_on own x.form) ms) (filter (λ x. is_on own x.form) ms) ≡ [])
-      (sym (none_by (client_of m.form))) (none_of ms)
+  none_of (m ∷ ms) = grind (arith, none_of ms, other_shard)
 
   -- a shard past the last has no text
   pub empty_past : (whole : List ℕ) (files : Files)
       → IsDivided (shard_among count) name_in_shard whole files → files.texts s ≡ []
-  empty_past whole files h = h.split.texts s ∙ ap map_lines (none_of h.split.maps)
+  empty_past whole files h = rw (h.split.texts s, none_of h.split.maps)

@@ -1,29 +1,28 @@
 -- Events that get the numbers of a list are renumbered: they say what they said, and their numbers rise, or the list
 -- does not fit. A table is written line by line. By steps of loops, an event or a number at a time.
 use Rattle.std.proofs.Common.{◌≡◌, ℕ, ◌+◌, ◌<◌, ◌≤◌, List, [], ◌∷◌, ◌++◌, length, get_or, map, take}
-use Rattle.std.proofs.Common.{All, AllPairs, refl, ap, sym, ◌∙◌, subst, arith}
+use Rattle.std.proofs.Common.{All, AllPairs, refl, ap, arith}
 use Rattle.std.proofs.lemmas.List.{get_or-map, length-map, map_more}
 use Rattle.std.proofs.lemmas.List.Elements.{All-push, All-weaker}
 use Rattle.std.proofs.lemmas.List.Quantifiers.{all_pairs_push}
 use Rattle.events.specs.declared.event.Event.{Event}
-use Rattle.shards.specs.Shards.{said}
+use Rattle.shards.specs.Shards.{AreRenumbered, said}
 use Rattle.shards.specs.Dividing.{numbered_by, table_text, with_numbers}
 use Rattle.shards.specs.Tables.{AreShort, FitsTable}
 
--- ---- a table
-
 -- ---- events
 
-said_same : (ns : List ℕ) (es : List Event) → map said (with_numbers ns es) ≡ map said es
+-- events say the same under other numbers
+pub said_same : (ns : List ℕ) (es : List Event) → map said (with_numbers ns es) ≡ map said es
 said_same ns [] = refl
-said_same ns (e ∷ es) = ap (λ xs. said e ∷ xs) (said_same ns es)
+said_same ns (e ∷ es) = rw (said_same ns es)
 
 -- one event more
 pub event_more : (ns : List ℕ) (es : List Event) (i : ℕ) (d : Event) (vs ws : List Event) → i < length es
     → vs ≡ with_numbers ns (take i es) → ws ≡ vs ++ numbered_by ns (get_or es i d) ∷ []
     → ws ≡ with_numbers ns (take (i + 1) es)
 event_more ns es i d vs ws less so_far more =
-    more ∙ (ap (λ u. u ++ numbered_by ns (get_or es i d) ∷ []) so_far ∙ sym (map_more (numbered_by ns) es i d less))
+    rw (map_more (numbered_by ns) es i d less, ← so_far) more
 
 -- events whose numbers rise, and are all below the next
 pub record RiseBelow (next : ℕ) (es : List Event) : Type 0 where
@@ -78,13 +77,7 @@ no_misfit ns es i next d within due low placed rising =
 pub fits : (ns table : List ℕ) (es others : List Event) → table_text ns ≡ table → AreShort ns → length ns ≡ length es
     → others ≡ with_numbers ns es → All (λ e. e.number < length ns) es
     → AllPairs (λ a b. a.number < b.number) others → FitsTable ns table es
-fits ns table es others written short one_each are placed rising = record {
-  written = written;
-  short = short;
-  one_each = one_each;
-  placed = placed;
-  renumbered = record {
-    same = said_same ns es;
-    rising = subst (AllPairs (λ (a b : Event). a.number < b.number)) are rising;
-  };
-}
+fits ns table es others written short one_each are placed rising =
+    let renumbered : AreRenumbered es (with_numbers ns es) =
+    record { same = said_same ns es; rising = rw are at rising } in
+    assumption

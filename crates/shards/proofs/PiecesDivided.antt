@@ -1,7 +1,7 @@
 -- A text that is divided piece by piece: whole lines at its front are divided, since texts with a line feed between
 -- them spell what both spell. A fault of a piece is one of the text, and at the end the text is divided.
 use Rattle.std.proofs.Common.{◌≡◌, ◌≢◌, ℕ, ◌+◌, ◌<◌, List, [], ◌∷◌, ◌++◌, drop, length, map, get_or, Option, refl, ap}
-use Rattle.std.proofs.Common.{sym, ◌∙◌, subst, append_assoc, arith}
+use Rattle.std.proofs.Common.{sym, ◌∙◌, append_assoc, arith}
 use Rattle.std.proofs.lemmas.List.{append-nil, drop_more, length-append, length-map, map-append}
 use Rattle.std.specs.Io.KnownBytes.{Consumes}
 use Rattle.edn_reader.specs.Datum.{Datum, max_length}
@@ -26,7 +26,7 @@ use Rattle.shards.specs.ShardTexts.{SpelledMap}
 use Rattle.shards.specs.SplitFaults.{BeginsWith, EndsPiece, HasTextFault, IsFoundAmong, IsSplitFault, NeedsMoreShards}
 use Rattle.shards.specs.Taking.{AreMapsTaken, AreTakenOf, AreTakenAfter, IsPieceFault, NoneWait, forms_of, with_more}
 use Rattle.shards.specs.Tallies.{IsTally}
-use Rattle.shards.specs.UnderWay.{AreUnderWay, EndsInsideForm, IsFaultFrom, IsFaultIn, PassesPiece, ReadsOn, StaysAs}
+use Rattle.shards.specs.UnderWay.{AreUnderWay, EndsInsideForm, IsFaultFrom, IsFaultIn, PassesPiece, ReadsOn}
 use Rattle.shards.specs.UnderWay.{too_long_at}
 use Rattle.judging.proofs.ReadSoFar.{one_more_consumed}
 use Rattle.shards.proofs.FittingObjects.{apart_where_fit}
@@ -41,42 +41,24 @@ forms_both a b = map-append (λ (m : SpelledMap). m.form) a b
 lines_more : (front piece : List ℕ) (ds es : List Datum) → SpellsBefore front ds → Spells es piece
     → SpellsBefore (front ++ (piece ++ 10 ∷ [])) (ds ++ es)
 lines_more front piece ds es before spells fs after h =
-    let later : Spells (es ++ fs) (piece ++ 10 ∷ after) = joined_spell es fs piece after spells h in
-    let text : front ++ (piece ++ 10 ∷ after) ≡ (front ++ (piece ++ 10 ∷ [])) ++ after =
-    ap (λ xs. front ++ xs) (sym (append_assoc piece (10 ∷ []) after))
-    ∙ sym (append_assoc front (piece ++ 10 ∷ []) after) in
-    subst (λ xs. Spells xs ((front ++ (piece ++ 10 ∷ [])) ++ after)) (sym (append_assoc ds es fs))
-    (subst (Spells (ds ++ (es ++ fs))) text (before (es ++ fs) (piece ++ 10 ∷ after) later))
+    rw (append_assoc ds es fs, append_assoc front (piece ++ 10 ∷ []) after, append_assoc piece (10 ∷ []) after)
+    (before (es ++ fs) (piece ++ 10 ∷ after) (joined_spell es fs piece after spells h))
 
 pub passes_piece : (count : ℕ) (d e : Divider) (p q : Pieces) (text piece : List ℕ) (written : Files)
     (h : AreUnderWay count d p text written) → AreTakenOf piece count e h.maps written → PassesPiece p q piece
     → AreUnderWay count e q text written
 passes_piece count d e p q text piece written h t pass =
     let line : List ℕ = piece ++ 10 ∷ [] in
-    let long : length (h.front ++ line) ≡ length h.front + (length piece + 1) =
-    length-append h.front line ∙ ap (λ n. length h.front + n) (length-append piece (10 ∷ [])) in
     record {
       front = h.front ++ line;
       maps = h.maps ++ t.more;
-      parts = h.parts ∙ (ap (λ xs. h.front ++ xs) (pass.text ∙ sym (append_assoc piece (10 ∷ []) q.text.items))
-          ∙ sym (append_assoc h.front line q.text.items));
-      start = pass.start ∙ (ap (λ n. n + (length piece + 1)) h.start ∙ sym long);
-      lines = subst (SpellsBefore (h.front ++ line)) (sym (forms_both h.maps t.more))
+      parts = h.parts
+          ∙ rw (pass.text, append_assoc h.front line q.text.items, append_assoc piece (10 ∷ []) q.text.items);
+      start = omega (arith, pass.start, h.start, length-append h.front line, length-append piece (10 ∷ []));
+      lines = rw (forms_both h.maps t.more)
           (lines_more h.front piece (forms_of h.maps) (forms_of t.more) h.lines t.spells);
       taken = t.taken;
     }
-
--- nothing was taken
-pub stays : (count : ℕ) (d e : Divider) (p q : Pieces) (text : List ℕ) (written : Files) → e ≡ d → StaysAs p q
-    → AreUnderWay count d p text written → AreUnderWay count e q text written
-stays count d e p q text written same stay h = record {
-  front = h.front;
-  maps = h.maps;
-  parts = h.parts ∙ ap (λ xs. h.front ++ xs) (sym stay.text);
-  start = stay.start ∙ h.start;
-  lines = h.lines;
-  taken = subst (λ x. AreMapsTaken count x h.maps written) (sym same) h.taken;
-}
 
 -- more of the text was read
 reads_on : (count : ℕ) (d : Divider) (p q : Pieces) (text : List ℕ) (written : Files)
@@ -85,8 +67,7 @@ reads_on : (count : ℕ) (d : Divider) (p q : Pieces) (text : List ℕ) (written
 reads_on count d p q text written left left_after r h = record {
   front = h.front;
   maps = h.maps;
-  parts = ap (λ xs. xs ++ r.more) h.parts ∙ (append_assoc h.front p.text.items r.more
-      ∙ ap (λ xs. h.front ++ xs) (sym r.text));
+  parts = ap (λ xs. xs ++ r.more) h.parts ∙ rw r.text (append_assoc h.front p.text.items r.more);
   start = r.start ∙ h.start;
   lines = h.lines;
   taken = h.taken;
@@ -134,67 +115,59 @@ flushed_so_far count d e p q left left_after files now files_after divided f flu
 
 -- ---- faults
 
-text_fault : (count : ℕ) (d : Divider) (p : Pieces) (text piece rest : List ℕ) (written : Files)
-    (left : Option (List ℕ)) (e : EdnFault) (place : ℕ) → (h : AreUnderWay count d p text written)
-    → p.text.items ≡ piece ++ rest → e.place ≡ p.start + place → IsUnreadable piece (record e { place = place })
-    → (e.kind ≢ TooLong → EndsPiece rest left) → (e.kind ≡ Unfinished → rest ≡ []) → HasTextFault text left e
-text_fault count d p text piece rest written left e place h parts place_is unreadable ends last = record {
-  front = h.front;
-  piece = piece;
-  rest = rest;
-  parts = h.parts ∙ ap (λ xs. h.front ++ xs) parts;
-  forms = forms_of h.maps;
-  lines = h.lines;
-  faultless = h.taken.read.faultless;
-  place = place;
-  place_is = place_is ∙ ap (λ n. n + place) h.start;
-  unreadable = unreadable;
-  ends = ends;
-  last = last;
-}
+module _ {count : ℕ} {d : Divider} {p : Pieces} {text : List ℕ} {written : Files}
+    (h : AreUnderWay count d p text written) (piece rest : List ℕ) (left : Option (List ℕ))
+    (parts : p.text.items ≡ piece ++ rest) where
+  text_fault : (e : EdnFault) (place : ℕ) → e.place ≡ p.start + place
+      → IsUnreadable piece (record e { place = place }) → (e.kind ≢ TooLong → EndsPiece rest left)
+      → (e.kind ≡ Unfinished → rest ≡ []) → HasTextFault text left e
+  text_fault e place place_is unreadable ends last = record {
+    front = h.front;
+    piece = piece;
+    rest = rest;
+    parts = h.parts ∙ rw parts;
+    forms = forms_of h.maps;
+    lines = h.lines;
+    faultless = h.taken.read.faultless;
+    place = place;
+    place_is = place_is ∙ rw h.start;
+    unreadable = unreadable;
+    ends = ends;
+    last = last;
+  }
 
--- what was found in the forms of a piece, after those before it
-found_in : (count : ℕ) (d : Divider) (p : Pieces) (text piece rest : List ℕ) (written : Files)
-    (left : Option (List ℕ)) (Found : List Datum → Type 0) → (h : AreUnderWay count d p text written)
-    → p.text.items ≡ piece ++ rest → EndsPiece rest left
-    → (es : List Datum) × Spells es piece × Found (forms_of h.maps ++ es) → BeginsWith text left Found
-found_in count d p text piece rest written left Found h parts ends found = record {
-  piece = h.front ++ piece;
-  rest = rest;
-  parts = h.parts ∙ (ap (λ xs. h.front ++ xs) parts ∙ sym (append_assoc h.front piece rest));
-  ends = ends;
-  forms = forms_of h.maps ++ found.0;
-  spelled = h.lines found.0 piece found.1;
-  found = found.2;
-}
+  -- what was found in the forms of a piece, after those before it
+  found_in : (Found : List Datum → Type 0) → EndsPiece rest left
+      → (es : List Datum) × Spells es piece × Found (forms_of h.maps ++ es) → BeginsWith text left Found
+  found_in Found ends found = record {
+    piece = h.front ++ piece;
+    rest = rest;
+    parts = h.parts ∙ rw parts (sym (append_assoc h.front piece rest));
+    ends = ends;
+    forms = forms_of h.maps ++ found.0;
+    spelled = h.lines found.0 piece found.1;
+    found = found.2;
+  }
 
--- a fault of a piece, after which this rest of the text was read
-pub fault_in : (count : ℕ) (d : Divider) (p : Pieces) (text piece rest : List ℕ) (written : Files)
-    (left : Option (List ℕ)) (fault : PieceFault) (f : SplitFault) → (h : AreUnderWay count d p text written)
-    → p.text.items ≡ piece ++ rest → EndsPiece rest left → IsPieceFault count (forms_of h.maps) piece fault
-    → (EndsInsideForm fault → rest ≡ []) → IsFaultFrom p.start fault f → IsFaultIn count text left f
-fault_in count d p text piece rest written left fault (split_fault.Malformed (Text e)) h parts ends is last from =
-    let place : ℕ = from.0 in
-    let own : EdnFault = record e { place = place } in
-    let piece_is : IsPieceFault count (forms_of h.maps) piece (piece_fault.Malformed (Text own)) =
-    subst (IsPieceFault count (forms_of h.maps) piece) from.2 is in
-    text_fault count d p text piece rest written left e place h parts from.1 (piece_is from.3) (λ ne. ends)
-    (subst (λ x. EndsInsideForm x → rest ≡ []) from.2 last)
-fault_in count d p text piece rest written left fault (split_fault.Malformed (Maps f)) h parts ends is last from =
-    found_in count d p text piece rest written left (λ ds. IsFoundAmong ds f) h parts ends
-    ((subst (IsPieceFault count (forms_of h.maps) piece) from.0 is) from.1)
-fault_in count d p text piece rest written left fault (split_fault.FewShards x) h parts ends is last from =
-    found_in count d p text piece rest written left (λ ds. NeedsMoreShards count ds x) h parts ends
-    (subst (IsPieceFault count (forms_of h.maps) piece) from is)
-fault_in count d p text piece rest written left fault split_fault.Read h parts ends is last from = tt
-fault_in count d p text piece rest written left fault split_fault.Write h parts ends is last from = tt
-fault_in count d p text piece rest written left fault split_fault.NoMemory h parts ends is last from = tt
+  -- a fault of a piece, after which this rest of the text was read
+  pub fault_in : (fault : PieceFault) (f : SplitFault) → EndsPiece rest left
+      → IsPieceFault count (forms_of h.maps) piece fault → (EndsInsideForm fault → rest ≡ [])
+      → IsFaultFrom p.start fault f → IsFaultIn count text left f
+  fault_in fault (split_fault.Malformed (Text e)) ends is last from =
+      let own : EdnFault = record e { place = from.0 } in
+      let piece_is : IsPieceFault count (forms_of h.maps) piece (piece_fault.Malformed (Text own)) = rw from.2 at is in
+      text_fault e from.0 from.1 (piece_is from.3) (λ ne. ends) (rw from.2 at last)
+  fault_in fault (split_fault.Malformed (Maps f)) ends is last from =
+      found_in (λ ds. IsFoundAmong ds f) ends ((rw from.0 at is) from.1)
+  fault_in fault (split_fault.FewShards x) ends is last from =
+      found_in (λ ds. NeedsMoreShards count ds x) ends (rw from at is)
+  fault_in fault f ends is last from = tt
 
 -- the rest that begins with a line feed
 pub ends_at_feed : (text : List ℕ) (n : ℕ) (left : Option (List ℕ)) → n < length text → get_or text n 0 ≡ 10
     → EndsPiece (drop n text) left
 ends_at_feed text n left l feed =
-    subst (λ xs. EndsPiece xs left) (sym (drop_more text n 0 l)) feed
+    rw (drop_more text n 0 l) feed
 
 -- what was read is longer than a text may be, and no piece of it can be read
 pub too_long_in : (count : ℕ) (d : Divider) (p : Pieces) (text : List ℕ) (written : Files) (left : Option (List ℕ))
@@ -202,10 +175,9 @@ pub too_long_in : (count : ℕ) (d : Divider) (p : Pieces) (text : List ℕ) (wr
     → IsFaultIn count text left (split_fault.Malformed (too_long_at p.start))
 too_long_in count d p text written left h long =
     let e : EdnFault = record { kind = TooLong; place = p.start } in
-    let at_start : p.start ≡ p.start + 0 = omega arith in
     let unreadable : IsUnreadable p.text.items (record e { place = 0 }) =
     record { not_memory = λ q. cc q; too_long = (λ q. long, λ l. refl); nothing = λ ne. absurd (ne refl) } in
-    text_fault count d p text p.text.items [] written left e 0 h (sym (append-nil p.text.items)) at_start unreadable
+    text_fault h p.text.items [] left (sym (append-nil p.text.items)) e 0 (omega arith) unreadable
     (λ ne. absurd (ne refl)) (λ q. refl)
 
 -- a fault of the text that was read
@@ -226,9 +198,7 @@ pub adds_shards : (count : ℕ) (d e : Divider) (p : Pieces) (text : List ℕ) (
 adds_shards count d e p text written first files files_after told h t last f adds none counted large long =
     let maps : List SpelledMap = h.maps ++ t.more in
     let spelled : Spells (forms_of maps) text =
-    subst (λ ds. Spells ds text) (sym (forms_both h.maps t.more))
-    (subst (Spells (forms_of h.maps ++ forms_of t.more)) (sym h.parts)
-    (h.lines (forms_of t.more) p.text.items t.spells)) in
+    rw (h.parts, forms_both h.maps t.more) (h.lines (forms_of t.more) p.text.items t.spells) in
     record {
       added = with_more written f.more;
       divided = record {
@@ -238,15 +208,13 @@ adds_shards count d e p text written first files files_after told h t last f add
           each = f.taken.each;
           faultless = f.taken.read.faultless;
           apart = apart_where_fit count maps f.taken.fit;
-          texts = λ s. sym (append-nil (written.texts s ++ f.more.texts s))
-              ∙ (ap (λ xs. (written.texts s ++ f.more.texts s) ++ xs) (sym (none.maps s)) ∙ f.taken.texts s);
+          texts = λ s. rw (none.maps s, append-nil) at (f.taken.texts s);
         };
-        tables = λ s. sym (append-nil (written.tables s ++ f.more.tables s))
-            ∙ (ap (λ xs. (written.tables s ++ f.more.tables s) ++ xs) (sym (none.places s)) ∙ f.taken.tables s);
+        tables = λ s. rw (none.places s, append-nil) at (f.taken.tables s);
       };
       fits = f.taken.fit;
       adds = adds_both first files files_after written f.more adds f.adds;
-      each_counted = ap length counted ∙ (length-map last.waiting.items (λ w. w.count) ∙ (long ∙ f.taken.shards));
-      counted = λ s l. ap (λ xs. get_or xs s 0) counted ∙ f.taken.counts s l;
+      each_counted = rw (counted, length-map, long) f.taken.shards;
+      counted = λ s l. rw counted (f.taken.counts s l);
       large = large (maps_on maps) f.taken.tally;
     }

@@ -41,9 +41,7 @@ proper_of_kinds es proper e op i q =
     let parts = in_split e es i in
     let follows : Follows parts.0 e.process e.object (Invoke op) =
     subst (Follows parts.0 e.process e.object) q (proper.each parts.0 parts.1 e parts.2) in
-    let there : kind_of_object (parts.0 ++ e ∷ parts.1) e.object ≡ kind_of op =
-    kind_there parts.0 parts.1 e op q (λ d o j. follows.1 d o (contains_from_in parts.0 d j)) in
-    sym (ap (λ (whole : List Event). kind_of_object whole e.object) parts.2 ∙ there)
+    rw parts.2 (sym (kind_there parts.0 parts.1 e op q (λ d o j. follows.1 d o (contains_from_in parts.0 d j))))
 
 -- ---- from runs to a proper list
 
@@ -51,38 +49,26 @@ idle_after : (last : Option Event) → state_after last ≡ idle → IsIdle last
 idle_after last q = grind arith
 
 outstanding : (last : Option Event) (x : ℕ) (op : AnyOp) → state_after last ≡ busy x op → IsOutstandingCall last x op
-outstanding None x op q = absurd (cc q)
-outstanding (Some e) x op q = go e.action refl q
-  where
-    go : (a : Action) → e.action ≡ a → state_by e.object a ≡ busy x op → IsOutstandingCall (Some e) x op
-    go (Invoke o) r s = let y : e.object ≡ x = cc in let same : o ≡ op = cc in (e, refl, y, r ∙ ap Invoke same)
-    go (Ok v) r s = absurd (cc s)
-    go Fail r s = absurd (cc s)
-    go Info r s = absurd (cc s)
+outstanding None x op q = absurd cc
+outstanding (Some e) x op q = (e, refl, grind arith, grind arith)
 
 -- an event fits where its process may do so, and the invocations on its object are of one kind
 follows : (earlier : List Event) (p : ℕ) (s : State) (x : ℕ) (a : Action) → state_after (last_event p earlier) ≡ s
     → MayDo s x a → ((op : AnyOp) → a ≡ Invoke op → IsOfKindAt earlier x op) → Follows earlier p x a
 follows earlier p idle x (Invoke op) q may kinds = (idle_after (last_event p earlier) q, kinds op refl)
-follows earlier p (busy y op) x (Ok r) q may kinds =
-    (op, outstanding (last_event p earlier) x op (q ∙ ap (λ z. busy z op) (sym may.0)), may.1)
-follows earlier p (busy y op) x Fail q may kinds =
-    (op, outstanding (last_event p earlier) x op (q ∙ ap (λ z. busy z op) (sym may)))
-follows earlier p (busy y op) x Info q may kinds =
-    (op, outstanding (last_event p earlier) x op (q ∙ ap (λ z. busy z op) (sym may)))
+follows earlier p (busy y op) x (Ok r) q may kinds = (op, outstanding (last_event p earlier) x op (rw may.0 q), may.1)
+follows earlier p (busy y op) x Fail q may kinds = (op, outstanding (last_event p earlier) x op (rw may q))
+follows earlier p (busy y op) x Info q may kinds = (op, outstanding (last_event p earlier) x op (rw may q))
 follows earlier p s x a q may h = absurd may
 
 -- what a process that runs may do when it comes to an event of its own
 reaches : (p : ℕ) (done earlier later : List Event) (e : Event)
     → Runs p (state_after (last_event p done)) (earlier ++ e ∷ later) → (e.process == p) ≡ true
     → MayDo (state_after (last_event p (done ++ earlier))) e.object e.action
-reaches p done [] later e runs q =
-    subst (λ d. MayDo (state_after (last_event p d)) e.object e.action) (sym (append-nil done)) (runs.0 q).0
+reaches p done [] later e runs q = rw (append-nil done) (runs.0 q).0
 reaches p done (d ∷ earlier) later e runs q =
-    subst (λ d. MayDo (state_after (last_event p d)) e.object e.action) (append_assoc done (d ∷ []) earlier)
-    (reaches p (done ++ d ∷ []) earlier later e
-    (subst (λ l. Runs p (state_after l) (earlier ++ e ∷ later)) (sym (last_push p done d)) (go (d.process == p) refl))
-    q)
+    rw (← append_assoc done (d ∷ []) earlier)
+    (reaches p (done ++ d ∷ []) earlier later e (rw (last_push p done d) (go (d.process == p) refl)) q)
   where
     go : (b : Bool) → (d.process == p) ≡ b
         → Runs p (state_after (cond b (Some d) (last_event p done))) (earlier ++ e ∷ later)
@@ -105,16 +91,11 @@ proper_from kinds es rising runs of_kinds = record { rising = rising; each = eac
       where
         one_kind : (op : AnyOp) → e.action ≡ Invoke op → IsOfKindAt earlier e.object op
         one_kind op q d o contains on_object invokes =
-            let before = in_from_contains earlier d contains in
-            let among : In d es = subst (In d) (sym is) (in_left d earlier (e ∷ later) before) in
-            let here : In e es = subst (In e) (sym is) (in_middle e earlier later) in
-            of_kinds d o among invokes ∙ (ap kinds on_object ∙ sym (of_kinds e op here q))
+            let before = in_left d earlier (e ∷ later) (in_from_contains earlier d contains) in
+            of_kinds d o (rw is before) invokes
+            ∙ (ap kinds on_object ∙ sym (of_kinds e op (rw is (in_middle e earlier later)) q))
 
 -- ---- events on some objects alone
-
--- a busy process does nothing on another object
-same_object : (y : ℕ) (op : AnyOp) (x : ℕ) (a : Action) → MayDo (busy y op) x a → x ≡ y
-same_object y op x a may = grind arith
 
 -- what a process is doing, as far as the events on these objects show
 abbrev seen : (ℕ → Bool) → State → State
@@ -126,11 +107,7 @@ seen_by : (has : ℕ → Bool) (x : ℕ) (a : Action) → has x ≡ true → see
 seen_by has x a q = grind arith
 
 may_seen : (has : ℕ → Bool) (s : State) (x : ℕ) (a : Action) → has x ≡ true → MayDo s x a → MayDo (seen has s) x a
-may_seen has idle x a q may = may
-may_seen has (busy y op) x a q may =
-    let here : has y ≡ true = ap has (sym (same_object y op x a may)) ∙ q in
-    subst (λ b. MayDo (cond b (busy y op) idle) x a) (sym here) may
-may_seen has closed x a q may = may
+may_seen has s x a q may = grind arith
 
 closed_does_nothing : (p : ℕ) (s : State) (es : List Event) → Runs p closed es → Runs p s es
 closed_does_nothing p s [] runs = tt
@@ -139,17 +116,7 @@ closed_does_nothing p s (e ∷ es) runs = (λ q. absurd (runs.0 q).0, λ q. clos
 -- an event that is not seen leaves a process as it is seen
 unseen : (has : ℕ → Bool) (p : ℕ) (s : State) (x : ℕ) (a : Action) (es : List Event) → has x ≡ false → MayDo s x a
     → Runs p (seen has (state_by x a)) es → Runs p (seen has s) es
-unseen has p idle x (Invoke op) es q may runs = subst (λ b. Runs p (cond b (busy x op) idle) es) q runs
-unseen has p (busy y op) x a es q may runs =
-    let here : has y ≡ false = ap has (sym (same_object y op x a may)) ∙ q in
-    subst (λ b. Runs p (cond b (busy y op) idle) es) (sym here) (ended a may runs)
-  where
-    ended : (a : Action) → MayDo (busy y op) x a → Runs p (seen has (state_by x a)) es → Runs p idle es
-    ended (Invoke o) m r = absurd m
-    ended (Ok v) m r = r
-    ended Fail m r = r
-    ended Info m r = closed_does_nothing p idle es r
-unseen has p s x a es q may h = absurd may
+unseen has p s x a es q may runs = grind (arith, closed_does_nothing p idle es)
 
 runs_on : (has : ℕ → Bool) (p : ℕ) (s : State) (es : List Event) → Runs p s es → Runs p (seen has s) (events_on has es)
 runs_on has p s [] runs = tt

@@ -1,6 +1,6 @@
 -- A table that is read byte by byte: after each byte there are the numbers of the lines so far, the number that the
 -- digits of this line make, and what is left. By cases on what is left.
-use Rattle.std.proofs.Common.{◌≡◌, ℕ, ◌+◌, ◌-◌, ◌*◌, ◌^◌, ◌<◌, ◌≤◌, true, false, List, [], ◌∷◌, ◌++◌}
+use Rattle.std.proofs.Common.{◌≡◌, ℕ, ◌+◌, ◌-◌, ◌*◌, ◌^◌, ◌<◌, ◌≤◌, true, List, [], ◌∷◌, ◌++◌}
 use Rattle.std.proofs.Common.{inl, length, get_or, drop, decimal, refl, ap, sym, ◌∙◌, subst, arith, append_assoc}
 use Rattle.std.specs.List.{list_all}
 use Rattle.std.proofs.lemmas.Bool.{and_parts}
@@ -42,10 +42,7 @@ short_later ns numbers later short all = all_from_in (λ n. n < 2 ^ 32) later
 
 -- a digit is no line feed
 digit_apart : (d : ℕ) (ds : List ℕ) → list_all is_digit (d ∷ ds) ≡ true → d ≡ 10 → ⊥
-digit_apart d ds h e =
-    let digit = (and_parts (is_digit d) (list_all is_digit ds) h).0 in
-    let no : true ≡ false = sym digit ∙ ap is_digit e in
-    cc no
+digit_apart d ds h e = grind arith
 
 -- a line feed ends the number of its line
 line_ends : (number : ℕ) (later tail : List ℕ) → IsLeft number later (10 ∷ tail)
@@ -54,14 +51,13 @@ line_ends number [] tail (zero, left) = absurd cc
 line_ends number (n ∷ later) tail ([], left, digits, value) =
     let rest : tail ≡ table_text later = cc in (later, ap (λ m. m ∷ later) (sym value), rest)
 line_ends number (n ∷ later) tail (d ∷ ds, left, digits, value) =
-    let first : d ≡ 10 = cc in absurd (digit_apart d ds digits first)
+    absurd (digit_apart d ds digits cc)
 
 read_line : (ns numbers : List ℕ) (number : ℕ) (tail : List ℕ) → AreShort ns
     → IsReadTo ns numbers number (10 ∷ tail) → IsReadTo ns (numbers ++ number ∷ []) 0 tail
 read_line ns numbers number tail short h =
     let line = line_ends number h.later tail h.rest in
-    let all : ns ≡ (numbers ++ number ∷ []) ++ line.0 =
-    h.all ∙ (ap (λ xs. numbers ++ xs) line.1 ∙ sym (append_assoc numbers (number ∷ []) line.0)) in
+    let all : ns ≡ (numbers ++ number ∷ []) ++ line.0 = rw (append_assoc, ← line.1) h.all in
     record {
       later = line.0;
       all = all;
@@ -79,7 +75,7 @@ digit_of : (ns numbers : List ℕ) (number byte : ℕ) (tail later : List ℕ) �
     → (byte ≡ 10 → ⊥) → IsLeft number later (byte ∷ tail) → ReadsDigit ns numbers number byte tail
 digit_of ns numbers number byte tail [] short all apart (zero, left) = absurd cc
 digit_of ns numbers number byte tail (n ∷ later) short all apart ([], left, digits, value) =
-    let first : byte ≡ 10 = cc in absurd (apart first)
+    absurd (apart (cc))
 digit_of ns numbers number byte tail (n ∷ later) short all apart (d ∷ ds, left, digits, value) =
     let first : d ≡ byte = cc in
     let others : tail ≡ ds ++ 10 ∷ table_text later = cc in
@@ -111,16 +107,13 @@ pub line_at : (table ns numbers more : List ℕ) (number i : ℕ) → AreShort n
     → get_or table i 0 ≡ 10 → more ≡ numbers ++ number ∷ [] → IsReadTo ns numbers number (drop i table)
     → IsReadTo ns more 0 (drop (i + 1) table)
 line_at table ns numbers more number i short less feed is h =
-    let left : drop i table ≡ 10 ∷ drop (i + 1) table =
-    drop_more table i 0 less ∙ ap (λ b. b ∷ drop (i + 1) table) feed in
-    subst (λ xs. IsReadTo ns xs 0 (drop (i + 1) table)) (sym is)
-    (read_line ns numbers number (drop (i + 1) table) short (subst (IsReadTo ns numbers number) left h))
+    rw is (read_line ns numbers number (drop (i + 1) table) short (rw (drop_more table i 0 less, feed) at h))
 
 pub digit_at : (table ns numbers : List ℕ) (number i : ℕ) → AreShort ns → i < length table
     → (get_or table i 0 ≡ 10 → ⊥) → IsReadTo ns numbers number (drop i table)
     → ReadsDigit ns numbers number (get_or table i 0) (drop (i + 1) table)
 digit_at table ns numbers number i short less apart h = read_digit ns numbers number (get_or table i 0)
-    (drop (i + 1) table) short apart (subst (IsReadTo ns numbers number) (drop_more table i 0 less) h)
+    (drop (i + 1) table) short apart (rw (drop_more table i 0 less) at h)
 
 pub read_all : (table ns numbers : List ℕ) (number i : ℕ) → length table ≤ i
     → IsReadTo ns numbers number (drop i table) → numbers ≡ ns

@@ -1,5 +1,5 @@
 -- More is read of a source: what was read so far, and what was put into the buffer, are what the source gave.
-use Rattle.std.proofs.Common.{◌≡◌, ℕ, List, [], ◌++◌, length, take, Option, ap, sym, ◌∙◌, subst, append_assoc}
+use Rattle.std.proofs.Common.{◌≡◌, ℕ, List, [], ◌++◌, length, take, Option, ap, sym, ◌∙◌, append_assoc}
 use Rattle.std.proofs.lemmas.List.{append-nil}
 use Rattle.std.proofs.Math.Seq.{take-append_seam}
 use Rattle.std.specs.Io.KnownBytes.{Consumes}
@@ -21,12 +21,11 @@ pub some_more : (left now left_after : Option (List ℕ)) (text mid text_after b
     → GivesBytes now left_after buf given → text_after ≡ mid ++ take given stored
     → IsMore left left_after text text_after
 some_more left now left_after text mid text_after buf behind stored given len h long at gave joined =
-    let same : stored ≡ buf = at ∙ (ap (λ n. take n (buf ++ behind)) (sym long) ∙ take-append_seam buf behind) in
+    let same : stored ≡ buf = rw (at, ← long) (take-append_seam buf behind) in
     record {
       more = h.more ++ take given buf;
       consumed = one_more_consumed left now left_after h.more (take given buf) h.consumed gave.consumed;
-      grown = joined ∙ (ap (λ xs. mid ++ take given xs) same ∙ (ap (λ xs. xs ++ take given buf) h.grown
-          ∙ append_assoc text h.more (take given buf)));
+      grown = joined ∙ rw same (ap (λ xs. xs ++ take given buf) h.grown ∙ append_assoc text h.more (take given buf));
     }
 
 -- the source came to its end
@@ -34,8 +33,7 @@ pub came_to_end : (left now left_after : Option (List ℕ)) (text mid buf : List
     → IsMore left now text mid → GivesBytes now left_after buf given → given ≡ 0 → IsMore left left_after text mid
 came_to_end left now left_after text mid buf given h gave none = record {
   more = h.more;
-  consumed = subst (Consumes left left_after) (append-nil h.more)
-      (one_more_consumed left now left_after h.more [] h.consumed
-      (subst (λ k. Consumes now left_after (take k buf)) none gave.consumed));
+  consumed = rw (append-nil h.more) at
+      (one_more_consumed left now left_after h.more [] h.consumed (rw none at gave.consumed));
   grown = h.grown;
 }

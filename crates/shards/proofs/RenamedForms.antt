@@ -1,38 +1,38 @@
 -- The forms of a shard say what those of the whole on its objects say, of these objects by their names there: they have
 -- no fault where the whole has none, and denote the same events, renamed.
-use Rattle.std.proofs.Common.{arith, ◌≡◌, ℕ, ◌+◌, ◌==◌, Bool, inl, inr, List, [], ◌∷◌, ◌++◌, All, filter, map, Option}
-use Rattle.std.proofs.Common.{Some, None, refl, ap, sym, ◌∙◌, subst}
-use Rattle.std.specs.List.{cons_option}
+use Rattle.std.proofs.Common.{arith, ◌≡◌, ℕ, ◌+◌, ◌==◌, Bool, inl, inr, List, [], ◌∷◌, ◌++◌, All, filter, length, map}
+use Rattle.std.proofs.Common.{Option, Some, None, refl, ap, sym, ◌∙◌}
+use Rattle.std.specs.List.{AllZip, cons_option}
 use Rattle.std.proofs.lemmas.Bool.{eqb-true}
 use Rattle.std.proofs.lemmas.List.{map-append}
 use Rattle.std.proofs.lemmas.List.Elements.{All-head, All-tail}
 use Rattle.model.specs.Lists.{In}
-use Rattle.model.proofs.Lists.{in_filter, in_filter_passes, in_right, in_split}
+use Rattle.model.proofs.Lists.{in_filter, in_filter_passes, in_middle, in_split}
 use Rattle.edn_reader.specs.Datum.{Datum}
 use Rattle.events.specs.declared.event.Action.{Action}
 use Rattle.events.specs.declared.event.Event.{Event}
 use Rattle.events.specs.Events.{IsNamed}
 use Rattle.history.specs.Maps.{ClientMap, client_of, clients}
-use Rattle.history.specs.Denotes.{action_of, event_of_map, event_of, events_of_forms}
+use Rattle.history.specs.Denotes.{action_of, event_of_map, events_of_forms}
 use Rattle.history.specs.Faults.{IsFaultlessAtAnyLength}
 use Rattle.history.specs.declared.fault.HistoryFaultKind.TheVariants.{BadValue}
 use Rattle.history.proofs.FirstFaults.{bad_value}
+use Rattle.history.proofs.PartEvents.{events_join}
 use Rattle.history.proofs.Proper.{proper_at_any_length}
+use Rattle.shards.specs.Dividing.{places_from}
 use Rattle.shards.specs.Forms.{is_on, forms_on}
 use Rattle.shards.specs.Shards.{AreApart, events_on, renamed, renamed_event, said}
 use Rattle.shards.specs.ShardTexts.{IsRenamed, IsSpelled, SaysRenamed, SpelledMap}
-use Rattle.shards.proofs.FewerEvents.{said_on}
 use Rattle.shards.proofs.FewerForms.{client_on, clients_on, faultless_from, fine_on_objects}
 use Rattle.shards.proofs.FewerMaps.{on}
 use Rattle.shards.proofs.RenamedMaps.{AreMapsApart, AreRenamedMaps, are_fine_renamed, same_action}
 use Rattle.shards.proofs.RenamedObjects.{named_in}
+use Rattle.shards.proofs.Numbers.{said_same}
+use Rattle.shards.proofs.Tables.{numbers_kept}
 
 -- forms one by one
 abbrev AreRenamedForms : (ℕ → ℕ) → List Datum → List Datum → Type 0
-AreRenamedForms name [] [] = Unit {0}
-AreRenamedForms name [] (e ∷ es) = ⊥
-AreRenamedForms name (d ∷ ds) [] = ⊥
-AreRenamedForms name (d ∷ ds) (e ∷ es) = SaysRenamed name d e × AreRenamedForms name ds es
+AreRenamedForms name ds es = AllZip (SaysRenamed name) ds es
 
 -- the forms of a shard
 abbrev pub own_forms_on : (ℕ → Bool) → List SpelledMap → List Datum
@@ -53,10 +53,7 @@ clients_renamed : (name : ℕ → ℕ) (ds es : List Datum) → AreRenamedForms 
     → AreRenamedMaps name (clients ds) (clients es)
 clients_renamed name [] [] h = tt
 clients_renamed name (d ∷ ds) (e ∷ es) h =
-    let says = h.0 in
-    subst (λ o. AreRenamedMaps name (cons_option o (clients ds)) (clients (e ∷ es))) (sym says.2)
-    (subst (λ o. AreRenamedMaps name (says.0 ∷ clients ds) (cons_option o (clients es))) (sym says.3)
-    (says.4, clients_renamed name ds es h.1))
+    let says = h.0 in rw (says.2, says.3) (says.4, clients_renamed name ds es h.1)
 clients_renamed name ds es h = absurd h
 
 renamed_client : (name : ℕ → ℕ) (ds es : List Datum) → AreRenamedForms name ds es → (e : Datum) → In e es
@@ -68,50 +65,35 @@ renamed_client name (d ∷ ds) (x ∷ es) h e i = elim i [
 ]
 renamed_client name ds es h e i = absurd h
 
--- each map of a client says something
-abbrev HaveActions : List Datum → Type 0
-HaveActions ds = (d : Datum) (m : ClientMap) → In d ds → client_of d ≡ Some m → action_of m.type m ≡ None → ⊥
-
-have_actions : (ds : List Datum) → IsFaultlessAtAnyLength ds → HaveActions ds
-have_actions ds faultless d m i q none =
-    let parts = in_split d ds i in
-    faultless parts.0 parts.1 d BadValue parts.2 (m, q, bad_value m.type m none)
-
-event_in : (ds : List Datum) (k : ℕ) → HaveActions ds → (m : ClientMap) → In m (clients ds)
-    → (e : Event) × In e (events_of_forms k ds) × (e.object ≡ m.object)
-event_in [] k have m i = absurd i
-event_in (d ∷ ds) k have m i = go (client_of d) refl i (λ j. event_in ds (k + 1) (λ x c l. have x c (inr l)) m j)
+-- a map of a client is that of a form
+map_form : (ds : List Datum) (m : ClientMap) → In m (clients ds) → (d : Datum) × In d ds × (client_of d ≡ Some m)
+map_form [] m i = absurd i
+map_form (d ∷ ds) m i = go (client_of d) refl i (λ j. let f = map_form ds m j in (f.0, inr f.1, f.2))
   where
-    later : List Event
-    later = events_of_forms (k + 1) ds
+    Found : Type 0
+    Found = (e : Datum) × In e (d ∷ ds) × (client_of e ≡ Some m)
 
-    Found : List Event → Type 0
-    Found es = (e : Event) × In e es × (e.object ≡ m.object)
-
-    with_action : (c : ClientMap) (a : Option Action) → client_of d ≡ Some c → action_of c.type c ≡ a → m ≡ c
-        → Found (event_of_map k c a ++ later)
-    with_action c None q r s = absurd (have d c (inl refl) q r)
-    with_action c (Some a) q r s = (
-      record { number = k; process = c.process; object = c.object; action = a },
-      inl refl,
-      ap (λ (x : ClientMap). x.object) (sym s),
-    )
-
-    go : (o : Option ClientMap) → client_of d ≡ o → In m (cons_option o (clients ds))
-        → (In m (clients ds) → Found later) → Found (event_of k o ++ later)
-    go None q j rest = rest j
-    go (Some c) q j rest = elim j [
-      | inl s ↦ with_action c (action_of c.type c) q refl s
-      | inr l ↦ let f = rest l in (f.0, in_right f.0 (event_of_map k c (action_of c.type c)) later f.1, f.2)
-    ]
+    go : (o : Option ClientMap) → client_of d ≡ o → In m (cons_option o (clients ds)) → (In m (clients ds) → Found)
+        → Found
+    go None q j later = later j
+    go (Some c) q j later = elim j [ inl s ↦ (d, inl refl, rw s q) | inr l ↦ later l ]
 
 -- the object of each map of a client is named
 map_named : (ds : List Datum) → IsFaultlessAtAnyLength ds → (m : ClientMap) → In m (clients ds)
     → IsNamed (events_of_forms 0 ds) m.object
 map_named ds faultless m i =
-    let e = event_in ds 0 (have_actions ds faultless) m i in
-    subst (IsNamed (events_of_forms 0 ds)) e.2
-    (named_in (events_of_forms 0 ds) (proper_at_any_length ds faultless) e.0 e.1)
+    let f = map_form ds m i in
+    let s = in_split f.0 ds f.1 in go f.0 f.2 s.0 s.1 s.2 (action_of m.type m) refl
+  where
+    go : (d : Datum) → client_of d ≡ Some m → (earlier later : List Datum) → ds ≡ earlier ++ d ∷ later
+        → (a : Option Action) → action_of m.type m ≡ a → IsNamed (events_of_forms 0 ds) m.object
+    go d q earlier later is None r = absurd (faultless earlier later d BadValue is (m, q, bad_value m.type m r))
+    go d q earlier later is (Some a) r =
+        let e : Event =
+        record { number = 0 + length earlier; process = m.process; object = m.object; action = a } in
+        let after = events_of_forms (0 + length earlier + 1) later in
+        named_in (events_of_forms 0 ds) (proper_at_any_length ds faultless) e
+        (rw (is, events_join 0 earlier (d ∷ later), q, r) (in_middle e (events_of_forms 0 earlier) after))
 
 maps_apart : (shard_of name : ℕ → ℕ) (ds : List Datum) → IsFaultlessAtAnyLength ds
     → AreApart shard_of name (events_of_forms 0 ds) → (s : ℕ)
@@ -134,8 +116,7 @@ own_faultless shard_of name ms each faultless s apart =
     let are = own_renamed name has ms each in
     faultless_from own (renamed_client name (forms_on has ds) own are)
     (are_fine_renamed name [] [] (on has (clients ds)) (clients own) tt
-    (subst (λ cs. AreRenamedMaps name cs (clients own)) (clients_on has ds)
-    (clients_renamed name (forms_on has ds) own are))
+    (rw (clients_on has ds) at (clients_renamed name (forms_on has ds) own are))
     (maps_apart shard_of name ds faultless apart s) (fine_on_objects has ds faultless))
 
 -- ---- events
@@ -143,9 +124,7 @@ own_faultless shard_of name ms each faultless s apart =
 event_renamed : (name : ℕ → ℕ) (k : ℕ) (m n : ClientMap) (a : Option Action) → IsRenamed name m n
     → event_of_map k n a ≡ renamed name (event_of_map k m a)
 event_renamed name k m n None r = refl
-event_renamed name k m n (Some a) r =
-    ap (λ p. record { number = k; process = p; object = n.object; action = a } ∷ []) r.process
-    ∙ ap (λ x. record { number = k; process = m.process; object = x; action = a } ∷ []) r.object
+event_renamed name k m n (Some a) r = rw (r.process, r.object)
 
 events_renamed : (name : ℕ → ℕ) (ds es : List Datum) → AreRenamedForms name ds es → (k : ℕ)
     → events_of_forms k es ≡ renamed name (events_of_forms k ds)
@@ -169,11 +148,17 @@ pub own_events_are : (name : ℕ → ℕ) (has : ℕ → Bool) (ms : List Spelle
 own_events_are name has ms each = events_renamed name (forms_on has (map (λ m. m.form) ms)) (own_forms_on has ms)
     (own_renamed name has ms each) 0
 
+-- what the events of the forms on some objects say: their numbers are those of a table
+said_on : (has : ℕ → Bool) (ds : List Datum)
+    → map said (events_of_forms 0 (forms_on has ds)) ≡ map said (events_on has (events_of_forms 0 ds))
+said_on has ds =
+    sym (said_same (places_from 0 has ds) (events_of_forms 0 (forms_on has ds))) ∙ ap (map said) (numbers_kept has ds)
+
 -- what renamed events say depends on what the events say
 said_renamed : (name : ℕ → ℕ) (es : List Event)
     → map said (renamed name es) ≡ map (λ t. (t.0, name t.1, t.2)) (map said es)
 said_renamed name [] = refl
-said_renamed name (e ∷ es) = ap (λ ts. (e.process, name e.object, e.action) ∷ ts) (said_renamed name es)
+said_renamed name (e ∷ es) = rw (said_renamed name es)
 
 pub own_said : (name : ℕ → ℕ) (has : ℕ → Bool) (ms : List SpelledMap) → All (IsSpelled name) ms
     → map said (events_of_forms 0 (own_forms_on has ms))
@@ -182,5 +167,5 @@ own_said name has ms each =
     let ds = map (λ (m : SpelledMap). m.form) ms in
     ap (map said) (own_events_are name has ms each)
     ∙ (said_renamed name (events_of_forms 0 (forms_on has ds))
-    ∙ (ap (map (λ (t : ℕ × ℕ × Action). (t.0, name t.1, t.2))) (said_on has ds 0 0)
+    ∙ (ap (map (λ (t : ℕ × ℕ × Action). (t.0, name t.1, t.2))) (said_on has ds)
     ∙ sym (said_renamed name (events_on has (events_of_forms 0 ds)))))

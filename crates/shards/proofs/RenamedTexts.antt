@@ -17,22 +17,13 @@ use Rattle.seq_objects.specs.contracts.function.FunctionPartialEq.TheImpl.{eq-va
 use Rattle.seq_objects.specs.contracts.value.ValuePartialEq.TheImpl.{eq-value}
 use Rattle.seq_objects.specs.declared.function.Function.{Function}
 use Rattle.seq_objects.specs.declared.value.Value.{Value}
-use Rattle.seq_objects.specs.declared.value.Value.TheVariants.{Nil, False, True, Int, Pair, Triple}
 
 -- values that are found equal are the same
 values_same : (a b : Value) → eq-value.it a b ≡ true → a ≡ b
-values_same Nil Nil q = refl
-values_same False False q = refl
-values_same True True q = refl
-values_same (Int x) (Int y) q = grind arith
-values_same (Pair x y) (Pair z w) q = grind arith
-values_same (Triple x y z) (Triple u v w) q = grind arith
-values_same a b q = absurd (cc q)
+values_same a b q = grind arith
 
 pub values_in_same : (a b : Option Value) → option_eq eq-value.it a b ≡ true → a ≡ b
-values_in_same None None q = refl
-values_in_same (Some v) (Some w) q = ap Some (values_same v w q)
-values_in_same a b q = absurd (cc q)
+values_in_same a b q = grind (arith, values_same)
 
 -- and so are functions
 pub functions_in_same : (a b : Option Function) → option_eq function_eq.it a b ≡ true → a ≡ b
@@ -42,12 +33,7 @@ functions_in_same a b q = absurd (cc q)
 
 pub same_map : (a b : ClientMap) → a.process ≡ b.process → a.object ≡ b.object → a.map_type ≡ b.map_type
     → a.function ≡ b.function → a.value ≡ b.value → a ≡ b
-same_map a b process object type function value =
-    ap (λ p. record a { process = p }) process
-    ∙ (ap (λ x. record a { process = b.process; object = x }) object
-    ∙ (ap (λ t. record a { process = b.process; object = b.object; map_type = t }) type
-    ∙ (ap (λ f. record a { process = b.process; object = b.object; map_type = b.map_type; function = f }) function
-    ∙ ap (λ v. record b { value = v }) value)))
+same_map a b process object type function value = grind arith
 
 abbrev SpellsOne : List ℕ → ClientMap → Type 0
 SpellsOne text c = (e : Datum) × Spells (e ∷ []) text × IsClient (Some c) (client_of e)

@@ -5,9 +5,8 @@ use Rattle.std.proofs.Common.{length, decimal, All, Option, Some, None, refl, ap
 use Rattle.std.proofs.Common.{append_assoc}
 use Rattle.std.specs.List.{list_all}
 use Rattle.std.specs.Option.{option_map_or}
-use Rattle.std.proofs.lemmas.Bool.{and_parts}
 use Rattle.std.proofs.lemmas.Fmt.{decimal_injective}
-use Rattle.std.proofs.lemmas.List.{get_or_at, length_push, map-append}
+use Rattle.std.proofs.lemmas.List.{get_or_at, length-append, length_push, map-append}
 use Rattle.std.proofs.lemmas.List.Elements.{All-append, All-cons, All-head, All-nil, All-tail, filter-append}
 use Rattle.edn_reader.specs.Bytes.{is_digit}
 use Rattle.edn_reader.specs.Datum.{Datum}
@@ -26,28 +25,13 @@ use Rattle.shards.specs.Tables.{AreShort}
 -- digits end at the first line feed
 digits_end : (ds bs xs ys : List ℕ) → list_all is_digit ds ≡ true → list_all is_digit bs ≡ true
     → ds ++ 10 ∷ xs ≡ bs ++ 10 ∷ ys → (ds ≡ bs) × (xs ≡ ys)
-digits_end [] [] xs ys h k e = let rest : xs ≡ ys = cc in (refl, rest)
-digits_end [] (b ∷ bs) xs ys h k e =
-    let line_feed : 10 ≡ b = cc in
-    let digit : is_digit b ≡ true = (and_parts (is_digit b) (list_all is_digit bs) k).0 in
-    absurd (let no : false ≡ true = ap is_digit line_feed ∙ digit in cc)
-digits_end (d ∷ ds) [] xs ys h k e =
-    let line_feed : 10 ≡ d = cc in
-    let digit : is_digit d ≡ true = (and_parts (is_digit d) (list_all is_digit ds) h).0 in
-    absurd (let no : false ≡ true = ap is_digit line_feed ∙ digit in cc)
-digits_end (d ∷ ds) (b ∷ bs) xs ys h k e =
-    let first : d ≡ b = cc in
-    let later : ds ++ 10 ∷ xs ≡ bs ++ 10 ∷ ys = cc in
-    let rest = digits_end ds bs xs ys (and_parts (is_digit d) (list_all is_digit ds) h).1
-    (and_parts (is_digit b) (list_all is_digit bs) k).1 later in
-    (ap (λ x. x ∷ ds) first ∙ ap (λ zs. b ∷ zs) rest.0, rest.1)
+digits_end [] [] xs ys h k e = (refl, cc)
+digits_end [] (b ∷ bs) xs ys h k e = grind arith
+digits_end (d ∷ ds) [] xs ys h k e = grind arith
+digits_end (d ∷ ds) (b ∷ bs) xs ys h k e = grind (arith, digits_end ds bs xs ys)
 
 nothing_written : (n : ℕ) (ns : List ℕ) → [] ≡ table_text (n ∷ ns) → ⊥
-nothing_written n ns = go (decimal n)
-  where
-    go : (ds : List ℕ) → [] ≡ ds ++ 10 ∷ table_text ns → ⊥
-    go [] e = cc
-    go (d ∷ ds) e = cc
+nothing_written n ns e = omega (arith, simp length-append at (ap length e))
 
 pub one_table : (ns ms : List ℕ) → AreShort ns → AreShort ms → table_text ns ≡ table_text ms → ns ≡ ms
 one_table [] [] h k e = refl
@@ -87,21 +71,12 @@ event_placed : (has : ℕ → Bool) (before later : List ℕ) (n : ℕ) (m : Cli
 event_placed has before later n m None own = refl
 event_placed has before later n m (Some a) own =
     let e : Event = record { number = n; process = m.process; object = m.object; action = a } in
-    ap (λ k. record e { number = k } ∷ []) (get_or_at before n later 0 (length before) refl)
-    ∙ sym (ap (λ b. cond b (e ∷ []) []) own)
+    rw (get_or_at before n later 0 (length before) refl, own)
 
 -- the event of a map that is not kept is on none of the objects
-event_left : (has : ℕ → Bool) (n : ℕ) (m : ClientMap) (a : Option Action) → has m.object ≡ false
-    → events_on has (event_of_map n m a) ≡ []
-event_left has n m None other = refl
-event_left has n m (Some a) other =
-    let e : Event = record { number = n; process = m.process; object = m.object; action = a } in
-    ap (λ b. cond b (e ∷ []) []) other
-
 form_left : (has : ℕ → Bool) (n : ℕ) (o : Option ClientMap) → option_map_or (λ m. has m.object) o false ≡ false
     → events_on has (event_of n o) ≡ []
-form_left has n None other = refl
-form_left has n (Some m) other = event_left has n m (action_of m.type m) other
+form_left has n o other = grind arith
 
 form_placed : (has : ℕ → Bool) (before later : List ℕ) (n : ℕ) (o : Option ClientMap)
     → option_map_or (λ m. has m.object) o false ≡ true
@@ -131,22 +106,17 @@ numbers_after has before n (d ∷ ds) = go (is_on has d) refl (numbers_after has
         → with_numbers (before ++ (place_if b n ++ places_from (n + 1) has ds))
         (events_of_forms (length before) (cond b (d ∷ forms_on has ds) (forms_on has ds)))
         ≡ events_on has (event_of n (client_of d) ++ events_of_forms (n + 1) ds)
-    go false q skipped kept =
-        skipped
-        ∙ sym (rest ∙ ap (λ es. es ++ events_on has (events_of_forms (n + 1) ds)) (form_left has n (client_of d) q))
+    go false q skipped kept = rw (rest, form_left has n (client_of d) q) skipped
     go true q skipped kept =
-        let later = places_from (n + 1) has ds in
-        let own = before ++ n ∷ later in
-        let forms = forms_on has ds in
+        let own = before ++ n ∷ places_from (n + 1) has ds in
         let k = length before in
-        map-append (numbered_by own) (event_of k (client_of d)) (events_of_forms (k + 1) forms)
-        ∙ (ap (λ es. es ++ with_numbers own (events_of_forms (k + 1) forms))
-        (form_placed has before later n (client_of d) q)
-        ∙ (ap (λ es. events_on has (event_of n (client_of d)) ++ es)
-        (ap (λ ns. with_numbers ns (events_of_forms (k + 1) forms)) (sym (append_assoc before (n ∷ []) later))
-        ∙ (ap (λ j. with_numbers ((before ++ n ∷ []) ++ later) (events_of_forms j forms)) (sym (length_push before n))
-        ∙ kept))
-        ∙ sym rest))
+        rw (
+          rest,
+          map-append (numbered_by own) (event_of k (client_of d)) (events_of_forms (k + 1) (forms_on has ds)),
+          form_placed has before (places_from (n + 1) has ds) n (client_of d) q,
+        )
+        (ap (λ es. events_on has (event_of n (client_of d)) ++ es)
+        (rw (length_push before n, append_assoc before (n ∷ []) (places_from (n + 1) has ds)) at kept))
 
 pub numbers_kept : (has : ℕ → Bool) (ds : List Datum)
     → with_numbers (places_from 0 has ds) (events_of_forms 0 (forms_on has ds)) ≡ events_on has (events_of_forms 0 ds)

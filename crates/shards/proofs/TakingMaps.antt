@@ -2,13 +2,12 @@
 -- among all maps of its piece, of which it is one.
 use Rattle.std.proofs.Common.{◌≡◌, ◌≢◌, ℕ, zero, suc, ◌+◌, ◌/◌, ◌<◌, ◌≤◌, ◌==◌, decimal, inl, inr, Bool, true, false}
 use Rattle.std.proofs.Common.{List, [], ◌∷◌, ◌++◌, All, filter, length, get_or, take, drop, Some, None, refl, ap, sym}
-use Rattle.std.proofs.Common.{◌∙◌, subst, append_assoc, arith}
+use Rattle.std.proofs.Common.{◌∙◌, append_assoc, zero-add, arith}
 use Rattle.std.proofs.lemmas.Bool.{cases_eq, eq-eqb, ne_eqb}
-use Rattle.std.proofs.lemmas.List.{append-nil, map-append, length-append, take_more, take_all, take-append-drop}
-use Rattle.std.proofs.lemmas.List.{take-append-le}
+use Rattle.std.proofs.lemmas.List.{append-nil, map-append, length-append, length_push, take_more, take_all}
+use Rattle.std.proofs.lemmas.List.{take-append-drop, take-append-le}
 use Rattle.std.proofs.lemmas.List.Elements.{All-push}
 use Rattle.std.proofs.lemmas.Option.{same_Some}
-use Rattle.model.proofs.Lists.{all_at, all_from_in, in_map}
 use Rattle.edn_reader.specs.Datum.{Datum, atom, nil}
 use Rattle.edn_reader.specs.Reading.{skip}
 use Rattle.edn_reader.specs.Spells.{Spells}
@@ -22,7 +21,6 @@ use Rattle.history.specs.declared.map_texts.MapText.{MapText}
 use Rattle.shards.specs.declared.divider.Divider.{Divider}
 use Rattle.shards.specs.declared.fault.PieceFault.{PieceFault}
 use Rattle.shards.specs.declared.fault.PieceFault.TheVariants.{Malformed, FewShards}
-use Rattle.shards.specs.declared.waiting.Waiting.{Waiting}
 use Rattle.shards.specs.Forms.{is_on}
 use Rattle.shards.specs.LargeObjects.{maps_on}
 use Rattle.shards.specs.ShardTexts.{IsSpelled, SaysRenamed, SpelledMap, map_lines, maps_of_shard}
@@ -32,8 +30,8 @@ use Rattle.history.specs.Faults.{IsFaultlessAtAnyLength}
 use Rattle.shards.specs.SplitFaults.{IsFoundAmong, NeedsMoreShards, most_maps}
 use Rattle.shards.specs.Taking.{AddsLine, AddsMap, AreMapsTaken, AreTakenOf, AreTakenWith, IsMapFoundAmong}
 use Rattle.shards.specs.Taking.{IsPieceFault}
-use Rattle.shards.specs.Taking.{maps_in, forms_of, waiting_maps, waiting_places}
-use Rattle.shards.specs.Tallies.{CountsOne, IsTally}
+use Rattle.shards.specs.Taking.{forms_of, waiting_maps, waiting_places}
+use Rattle.shards.specs.Tallies.{CountsOne}
 use Rattle.shards.proofs.BareMaps.{bare_spells}
 use Rattle.shards.proofs.LinesMore.{lines_push, table_push, filter_kept, filter_left, places_kept, places_left}
 use Rattle.shards.proofs.EventsOfMaps.{on_object, on_none}
@@ -58,51 +56,27 @@ module _ (count s : ℕ) (maps : List SpelledMap) (m : SpelledMap) where
   own_table ms = table_text (places_from 0 has (forms_of ms))
 
   text_kept : on m ≡ true → own_text (maps ++ m ∷ []) ≡ own_text maps ++ (m.text ++ 10 ∷ [])
-  text_kept q = ap map_lines (filter_kept on maps m q) ∙ lines_push (maps_of_shard (shard_among count) s maps) m
+  text_kept q = rw (filter_kept on maps m q) (lines_push (maps_of_shard (shard_among count) s maps) m)
 
   text_left : on m ≡ false → own_text (maps ++ m ∷ []) ≡ own_text maps
   text_left q = ap map_lines (filter_left on maps m q)
 
-  places_push : places_from 0 has (forms_of (maps ++ m ∷ [])) ≡ places_from 0 has (forms_of maps ++ m.form ∷ [])
-  places_push = ap (places_from 0 has) (forms_push maps m)
-
   table_kept : (place : ℕ) → place ≡ length (forms_of maps) → on m ≡ true
       → own_table (maps ++ m ∷ []) ≡ own_table maps ++ (decimal place ++ 10 ∷ [])
   table_kept place is q =
-      let e : 0 + length (forms_of maps) ≡ place = omega (arith, is) in
-      ap table_text (places_push ∙ (places_kept 0 has (forms_of maps) m.form q
-      ∙ ap (λ k. places_from 0 has (forms_of maps) ++ k ∷ []) e))
-      ∙ table_push (places_from 0 has (forms_of maps)) place
+      rw (forms_push maps m, places_kept 0 has (forms_of maps) m.form q, zero-add (length (forms_of maps)), ← is)
+      (table_push (places_from 0 has (forms_of maps)) place)
 
   table_left : on m ≡ false → own_table (maps ++ m ∷ []) ≡ own_table maps
-  table_left q = ap table_text (places_push ∙ places_left 0 has (forms_of maps) m.form q)
+  table_left q = rw (forms_push maps m, places_left 0 has (forms_of maps) m.form q)
 
   count_kept : on m ≡ true → length (maps_of_shard (shard_among count) s (maps ++ m ∷ []))
       ≡ length (maps_of_shard (shard_among count) s maps) + 1
-  count_kept q = ap length (filter_kept on maps m q) ∙ length-append (maps_of_shard (shard_among count) s maps) (m ∷ [])
+  count_kept q = rw (filter_kept on maps m q) (length_push (maps_of_shard (shard_among count) s maps) m)
 
   count_left : on m ≡ false → length (maps_of_shard (shard_among count) s (maps ++ m ∷ []))
       ≡ length (maps_of_shard (shard_among count) s maps)
   count_left q = ap length (filter_left on maps m q)
-
--- ---- the maps on one object
-
-on_one : (x : ℕ) (maps : List SpelledMap) (m : SpelledMap) (c : ClientMap) → client_of m.form ≡ Some c
-    → c.object ≡ x → maps_on (maps ++ m ∷ []) x ≡ maps_on maps x + 1
-on_one x maps m c client own =
-    let on = λ (k : SpelledMap). is_on (λ y. y == x) k.form in
-    ap length (filter_kept on maps m (on_object (λ y. y == x) m.form c client ∙ eq-eqb c.object x own))
-    ∙ length-append (filter on maps) (m ∷ [])
-
-on_another : (x y : ℕ) (maps : List SpelledMap) (m : SpelledMap) (c : ClientMap) → client_of m.form ≡ Some c
-    → c.object ≡ x → y ≢ x → maps_on (maps ++ m ∷ []) y ≡ maps_on maps y
-on_another x y maps m c client own ne = ap length (filter_left (λ k. is_on (λ z. z == y) k.form) maps m
-    (on_object (λ z. z == y) m.form c client ∙ ne_eqb c.object y (λ q. ne (sym q ∙ own))))
-
-read_more : (maps : List SpelledMap) (m : SpelledMap) (new : Divider)
-    → AreReadAtAnyLength new.reader (forms_of maps ++ m.form ∷ [])
-    → AreReadAtAnyLength new.reader (forms_of (maps ++ m ∷ []))
-read_more maps m new read = subst (AreReadAtAnyLength new.reader) (sym (forms_push maps m)) read
 
 -- a map whose object gets the name that it has in its shard
 pub says_by : (k x : ℕ) (d e : Datum) (c : ClientMap) → client_of d ≡ Some c → c.object ≡ x → k ≡ name_in_shard x
@@ -124,11 +98,10 @@ taken_unseen count old new maps written d h read none shards tally same =
       refl,
       record {
         shards = shards ∙ h.shards;
-        read = read_more maps m new read;
+        read = rw (forms_push maps m) read;
         each = All-push (IsSpelled name_in_shard) maps m h.each (λ c q. absurd (cc (q, none)));
         fit = All-push (ObjectFits count) maps m h.fit (λ c q. absurd (cc (q, none)));
-        tally = subst (λ t. IsTally t (maps_on (maps ++ m ∷ []))) (sym tally)
-            (tally_same old.tally (maps_on maps) (maps_on (maps ++ m ∷ [])) h.tally
+        tally = rw tally (tally_same old.tally (maps_on maps) (maps_on (maps ++ m ∷ [])) h.tally
             (λ y. ap length (filter_left (λ k. is_on (λ z. z == y) k.form) maps m (on_none (λ z. z == y) d none))));
         texts = λ s. cc (h.texts s, text_left count s maps m (off s));
         tables = λ s. cc (h.tables s, table_left count s maps m (off s));
@@ -139,86 +112,58 @@ taken_unseen count old new maps written d h read none shards tally same =
     off : (s : ℕ) → is_on (λ x. shard_among count x == s) d ≡ false
     off s = on_none (λ x. shard_among count x == s) d none
 
--- the map of a client on this object
-module _ (count : ℕ) (old new : Divider) (maps : List SpelledMap) (written : Files) (m : SpelledMap) (x place : ℕ)
-  where
-    abbrev i : ℕ
-    i = shard_among count x
+-- the map of a client
+module _ (count : ℕ) (old new : Divider) (maps : List SpelledMap) (written : Files) (m : SpelledMap) (c : ClientMap)
+    (place : ℕ) (h : AreMapsTaken count old maps written) (client : client_of m.form ≡ Some c)
+    (is : place ≡ length (forms_of maps))
+    (a : AddsLine (shard_among count c.object) m.text place old.waiting.items new.waiting.items) where
+  abbrev i : ℕ
+  i = shard_among count c.object
 
-    abbrev line : List ℕ
-    line = m.text ++ 10 ∷ []
+  on_own : (s : ℕ) → s ≡ i → is_on (λ x. shard_among count x == s) m.form ≡ true
+  on_own s q = on_object (λ x. shard_among count x == s) m.form c client ∙ eq-eqb i s (sym q)
 
-    abbrev row : List ℕ
-    row = decimal place ++ 10 ∷ []
+  on_other : (s : ℕ) → s ≢ i → is_on (λ x. shard_among count x == s) m.form ≡ false
+  on_other s ne = on_object (λ x. shard_among count x == s) m.form c client ∙ ne_eqb i s (λ q. ne (sym q))
 
-    abbrev before : List Waiting
-    before = old.waiting.items
+  -- the maps on its object are one more, and those on any other as many as before
+  one_more : maps_on (maps ++ m ∷ []) c.object ≡ maps_on maps c.object + 1
+  one_more =
+      let on = λ (k : SpelledMap). is_on (λ y. y == c.object) k.form in
+      rw (filter_kept on maps m (on_object (λ y. y == c.object) m.form c client ∙ eq-eqb c.object c.object refl))
+      (length_push (filter on maps) m)
 
-    abbrev after : List Waiting
-    after = new.waiting.items
+  no_more : (y : ℕ) → y ≢ c.object → maps_on (maps ++ m ∷ []) y ≡ maps_on maps y
+  no_more y ne = ap length (filter_left (λ k. is_on (λ z. z == y) k.form) maps m
+      (on_object (λ z. z == y) m.form c client ∙ ne_eqb c.object y (λ q. ne (sym q))))
 
-    abbrev OnObject : Type 0
-    OnObject = (c : ClientMap) × (client_of m.form ≡ Some c) × (c.object ≡ x)
-
-    seen : OnObject → (s : ℕ) → is_on (λ y. shard_among count y == s) m.form ≡ (i == s)
-    seen own s = on_object (λ y. shard_among count y == s) m.form own.0 own.1
-        ∙ ap (λ y. shard_among count y == s) own.2
-
-    on_own : OnObject → (s : ℕ) → s ≡ i → is_on (λ y. shard_among count y == s) m.form ≡ true
-    on_own own s q = seen own s ∙ eq-eqb i s (sym q)
-
-    on_other : OnObject → (s : ℕ) → s ≢ i → is_on (λ y. shard_among count y == s) m.form ≡ false
-    on_other own s ne = seen own s ∙ ne_eqb i s (λ q. ne (sym q))
-
-    text_more : OnObject → AreMapsTaken count old maps written → AddsLine i m.text place before after → (s : ℕ)
-        → written.texts s ++ waiting_maps after s ≡ map_lines (maps_of_shard (shard_among count) s (maps ++ m ∷ []))
-    text_more own h a s = elim (cases_eq s i) [
-      | inl q ↦ cc (
-        a.maps,
-        append_assoc (written.texts s) (waiting_maps before s) line,
-        h.texts s,
-        text_kept count s maps m (on_own own s q),
-      )
-      | inr ne ↦ cc (a.other_maps s ne, h.texts s, text_left count s maps m (on_other own s ne))
-    ]
-
-    table_more : OnObject → AreMapsTaken count old maps written → AddsLine i m.text place before after
-        → place ≡ length (forms_of maps) → (s : ℕ) → written.tables s ++ waiting_places after s
-        ≡ table_text (places_from 0 (λ y. shard_among count y == s) (forms_of (maps ++ m ∷ [])))
-    table_more own h a is s = elim (cases_eq s i) [
-      | inl q ↦ cc (
-        a.places,
-        append_assoc (written.tables s) (waiting_places before s) row,
-        h.tables s,
-        table_kept count s maps m place is (on_own own s q),
-      )
-      | inr ne ↦ cc (a.other_places s ne, h.tables s, table_left count s maps m (on_other own s ne))
-    ]
-
-    count_more : OnObject → AreMapsTaken count old maps written → AddsLine i m.text place before after → (s : ℕ)
-        → s < count → maps_in after s ≡ length (maps_of_shard (shard_among count) s (maps ++ m ∷ []))
-    count_more own h a s l = elim (cases_eq s i) [
-      | inl q ↦ cc (a.count, h.counts s l, count_kept count s maps m (on_own own s q))
-      | inr ne ↦ cc (a.other_counts s ne, h.counts s l, count_left count s maps m (on_other own s ne))
-    ]
-
-    taken_line : AreMapsTaken count old maps written → AreReadAtAnyLength new.reader (forms_of maps ++ m.form ∷ [])
-        → IsSpelled name_in_shard m → OnObject → x / most_names < count → place ≡ length (forms_of maps)
-        → new.shards ≡ old.shards → CountsOne x old.tally new.tally → AddsLine i m.text place before after
-        → AreMapsTaken count new (maps ++ m ∷ []) written
-    taken_line h read spells own fits is shards counts a = record {
-      shards = shards ∙ h.shards;
-      read = read_more maps m new read;
-      each = All-push (IsSpelled name_in_shard) maps m h.each spells;
-      fit = All-push (ObjectFits count) maps m h.fit
-          (λ c q. subst (λ y. y / most_names < count)
-          (sym (ap (λ (k : ClientMap). k.object) (same_Some c own.0 (sym q ∙ own.1)) ∙ own.2)) fits);
-      tally = counts (maps_on maps) (maps_on (maps ++ m ∷ [])) h.tally (on_one x maps m own.0 own.1 own.2)
-          (λ y ne. on_another x y maps m own.0 own.1 own.2 ne);
-      texts = text_more own h a;
-      tables = table_more own h a is;
-      counts = count_more own h a;
-    }
+  taken_line : AreReadAtAnyLength new.reader (forms_of maps ++ m.form ∷ []) → IsSpelled name_in_shard m
+      → c.object / most_names < count → new.shards ≡ old.shards → CountsOne c.object old.tally new.tally
+      → AreMapsTaken count new (maps ++ m ∷ []) written
+  taken_line read spells fits shards counts = record {
+    shards = shards ∙ h.shards;
+    read = rw (forms_push maps m) read;
+    each = All-push (IsSpelled name_in_shard) maps m h.each spells;
+    fit = All-push (ObjectFits count) maps m h.fit (λ k q. rw (same_Some k c (sym q ∙ client)) fits);
+    tally = counts (maps_on maps) (maps_on (maps ++ m ∷ [])) h.tally one_more no_more;
+    texts = λ s. elim (cases_eq s i) [
+      | inl q ↦
+          let joined = append_assoc (written.texts s) (waiting_maps old.waiting.items s) (m.text ++ 10 ∷ []) in
+          cc (a.maps, joined, h.texts s, text_kept count s maps m (on_own s q))
+      | inr ne ↦ cc (a.other_maps s ne, h.texts s, text_left count s maps m (on_other s ne))
+    ];
+    tables = λ s. elim (cases_eq s i) [
+      | inl q ↦
+          let row = decimal place ++ 10 ∷ [] in
+          let joined = append_assoc (written.tables s) (waiting_places old.waiting.items s) row in
+          cc (a.places, joined, h.tables s, table_kept count s maps m place is (on_own s q))
+      | inr ne ↦ cc (a.other_places s ne, h.tables s, table_left count s maps m (on_other s ne))
+    ];
+    counts = λ s l. elim (cases_eq s i) [
+      | inl q ↦ cc (a.count, h.counts s l, count_kept count s maps m (on_own s q))
+      | inr ne ↦ cc (a.other_counts s ne, h.counts s l, count_left count s maps m (on_other s ne))
+    ];
+  }
 
 pub taken_map : (count : ℕ) (old new : Divider) (maps : List SpelledMap) (written : Files) (d : Datum)
     (c : ClientMap) (place : ℕ) → AreMapsTaken count old maps written
@@ -231,10 +176,8 @@ taken_map count old new maps written d c place h read client fits is shards coun
     let m : SpelledMap = record { form = d; own = a.own; text = a.text } in (
       m,
       refl,
-      taken_line count old new maps written m c.object place h read (λ k q. (a.says, a.spells)) (c, client, refl)
-          (subst (λ k. c.object / most_names < k) h.shards fits) is shards counts
-          (subst (λ k. AddsLine (shard_among k c.object) a.text place old.waiting.items new.waiting.items) h.shards
-          a.adds),
+      taken_line count old new maps written m c place h client is (rw h.shards at a.adds) read
+          (λ k q. (a.says, a.spells)) (rw h.shards at fits) shards counts,
     )
 
 -- ---- the maps of a piece
@@ -279,7 +222,7 @@ pub none_taken : (ds : List Datum) (count : ℕ) (d : Divider) (maps : List Spel
 none_taken ds count d maps written h = record {
   more = [];
   are = refl;
-  taken = subst (λ xs. AreMapsTaken count d xs written) (sym (append-nil maps)) h;
+  taken = rw (append-nil maps) h;
 }
 
 -- one more was taken
@@ -291,14 +234,12 @@ pub map_taken : (count : ℕ) (mid new : Divider) (maps : List SpelledMap) (writ
     → AreTakenUpTo i ds count mid maps written → AreTakenUpTo (i + 1) ds count new maps written
 map_taken count mid new maps written ms ds i z text h l bare take_one t =
     let n = next_map ms ds i z h l in
-    let spells : Spells (n.form ∷ []) text =
-    subst (Spells (n.form ∷ [])) (sym bare) (bare_spells n.form (get_or ms i z).text.now n.is.spelled) in
+    let spells : Spells (n.form ∷ []) text = rw bare (bare_spells n.form (get_or ms i z).text.now n.is.spelled) in
     let one = take_one (maps ++ t.more) n.form n.is.says spells t.taken in
     record {
       more = t.more ++ one.0 ∷ [];
-      are = forms_push t.more one.0 ∙ (ap (λ d. forms_of t.more ++ d ∷ []) one.1
-          ∙ (ap (λ xs. xs ++ n.form ∷ []) t.are ∙ sym n.more));
-      taken = subst (λ xs. AreMapsTaken count new xs written) (append_assoc maps t.more (one.0 ∷ [])) one.2;
+      are = rw (forms_push t.more one.0, one.1, t.are, n.more);
+      taken = rw (← append_assoc maps t.more (one.0 ∷ [])) one.2;
     }
 
 -- all maps of the piece were taken
@@ -307,7 +248,7 @@ pub all_taken : (count : ℕ) (d : Divider) (maps : List SpelledMap) (written : 
     → AreTakenUpTo i ds count d maps written → AreTakenOf piece count d maps written
 all_taken count d maps written piece ms ds i h spells l t = record {
   more = t.more;
-  spells = subst (λ es. Spells es piece) (sym (t.are ∙ take_all i ds (omega (arith, l, length_all ms ds h)))) spells;
+  spells = rw (t.are, take_all i ds (omega (arith, l, length_all ms ds h))) spells;
   taken = t.taken;
 }
 
@@ -318,8 +259,7 @@ pub all_before : (ds : List Datum) (d : Datum) → length ds ≡ most_maps → I
     → IsFaultlessAtAnyLength (take most_maps (ds ++ d ∷ []))
 all_before ds d long faultless =
     let within : most_maps ≤ length ds = omega (arith, long) in
-    let all : take most_maps ds ≡ ds = take_all most_maps ds (omega (arith, long)) in
-    subst IsFaultlessAtAnyLength (sym (take-append-le most_maps ds (d ∷ []) within ∙ all)) faultless
+    rw (take-append-le most_maps ds (d ∷ []) within, take_all most_maps ds (omega (arith, long))) faultless
 
 found_more : (ds es : List Datum) (f : HistoryFault) → IsFoundAmong ds f → IsFoundAmong (ds ++ es) f
 found_more ds es f h = (
@@ -335,8 +275,7 @@ found_more ds es f h = (
   },
   λ many. let g = h.1 many in
       let within : most_maps ≤ length ds = omega (arith, g.1) in
-      let front : take most_maps (ds ++ es) ≡ take most_maps ds = take-append-le most_maps ds es within in
-      (g.0, omega (arith, g.1, length-append ds es), subst IsFaultlessAtAnyLength (sym front) g.2),
+      (g.0, omega (arith, g.1, length-append ds es), rw (take-append-le most_maps ds es within) g.2),
 )
 
 unfit_more : (count : ℕ) (ds es : List Datum) (x : ℕ) → NeedsMoreShards count ds x
@@ -371,13 +310,6 @@ unfit_last count ds d c faultless client unfit fit = record {
   first = fit;
 }
 
--- the forms of maps fit where the maps do
-pub forms_fit : (count : ℕ) (maps : List SpelledMap) → All (ObjectFits count) maps
-    → All (FitsAmong count) (forms_of maps)
-forms_fit count maps fit = all_from_in (FitsAmong count) (forms_of maps) (λ d i.
-    let m = in_map (λ (x : SpelledMap). x.form) d maps i in
-    subst (FitsAmong count) (sym m.2) (all_at (ObjectFits count) maps fit m.0 m.1))
-
 -- what is found at the next map is found among all maps of the piece
 found_in_all : (maps more : List SpelledMap) (ms : List MapText) (ds : List Datum) (i : ℕ) (z : MapText)
     (Found : List Datum → Type 0) → ((xs es : List Datum) → Found xs → Found (xs ++ es)) → AreMapTexts ms ds
@@ -387,15 +319,16 @@ found_in_all : (maps more : List SpelledMap) (ms : List MapText) (ds : List Datu
 found_in_all maps more ms ds i z Found longer h l are found =
     let n = next_map ms ds i z h l in
     let rest : List Datum = drop (i + 1) ds in
-    let front : forms_of (maps ++ more) ++ n.form ∷ [] ≡ forms_of maps ++ take (i + 1) ds =
-    ap (λ xs. xs ++ n.form ∷ []) (map-append (λ (x : SpelledMap). x.form) maps more)
-    ∙ (append_assoc (forms_of maps) (forms_of more) (n.form ∷ [])
-    ∙ ap (λ xs. forms_of maps ++ xs) (ap (λ xs. xs ++ n.form ∷ []) are ∙ sym n.more)) in
-    subst Found
-    (ap (λ xs. xs ++ rest) front
-    ∙ (append_assoc (forms_of maps) (take (i + 1) ds) rest
-    ∙ ap (λ xs. forms_of maps ++ xs) (take-append-drop (i + 1) ds)))
-    (longer (forms_of (maps ++ more) ++ n.form ∷ []) rest (found n.form n.is.says))
+    let all : (forms_of (maps ++ more) ++ n.form ∷ []) ++ rest ≡ forms_of maps ++ ds =
+    rw (
+      map-append (λ (x : SpelledMap). x.form) maps more,
+      are,
+      append_assoc (forms_of maps) (take i ds) (n.form ∷ []),
+      ← n.more,
+      append_assoc (forms_of maps) (take (i + 1) ds) rest,
+      take-append-drop (i + 1) ds,
+    ) in
+    rw all at (longer (forms_of (maps ++ more) ++ n.form ∷ []) rest (found n.form n.is.says))
 
 pub piece_fault : (count : ℕ) (d : Divider) (maps : List SpelledMap) (written : Files) (piece : List ℕ)
     (ms : List MapText) (ds : List Datum) (i : ℕ) (z : MapText) (f : PieceFault) → AreMapTexts ms ds → Spells ds piece

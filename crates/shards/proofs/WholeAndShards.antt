@@ -1,24 +1,22 @@
 -- A whole is linearizable exactly where each shard is: by locality and its converse, since an object has the same calls
 -- and the same kind in its shard as in the whole, and so the same valid orders, whatever its name is there.
-use Rattle.std.proofs.Common.{◌≡◌, ◌↔◌, ℕ, ◌==◌, Bool, true, false, cond, List, [], ◌∷◌, filter}
-use Rattle.std.proofs.Common.{refl, ap, sym, ◌∙◌, subst}
-use Rattle.std.proofs.lemmas.Bool.{eq-eqb, ne_eqb}
-use Rattle.model.specs.Orders.{ProcessCall, calls_in, calls_on}
-use Rattle.model.specs.Lists.{In}
-use Rattle.model.proofs.Lists.{in_filter_from, in_map_from, all_from_in}
-use Rattle.locality.specs.Locality.{HasValidOrder}
-use Rattle.locality.proofs.OneKind.{locality_of_kinds, named_kinds, orders_of_kinds}
+use Rattle.std.proofs.Common.{◌≡◌, ◌↔◌, ℕ, ◌==◌, Bool, true, List, [], ◌∷◌}
+use Rattle.std.proofs.Common.{refl, ap, sym, ◌∙◌, arith}
+use Rattle.std.proofs.lemmas.Bool.{eq-eqb}
+use Rattle.std.proofs.lemmas.Bool.Decides.{nat_tests}
+use Rattle.model.specs.Orders.{calls_on}
+use Rattle.model.proofs.Lists.{in_filter_passes}
 use Rattle.events.specs.declared.event.Event.{Event}
-use Rattle.events.specs.Events.{denoted, kind_by, kind_of_object, IsProper}
+use Rattle.events.specs.Events.{denoted, kind_of_object, IsProper}
 use Rattle.events.specs.Operations.{calls_of}
 use Rattle.events.proofs.ProcessRuns.{idle, runs_from_start}
 use Rattle.events.proofs.Calls.{proper_calls}
-use Rattle.events.proofs.Owned.{operations_owned, no_operations}
-use Rattle.events.proofs.WellFormed.{denoted_is_history}
+use Rattle.events.proofs.Owned.{operations_owned}
 use Rattle.shards.specs.Shards.{events_on, renamed, AreApart, AreShards, DenoteLinearizable}
 use Rattle.shards.proofs.Naming.{named_on}
 use Rattle.shards.proofs.Proper.{proper_on}
-use Rattle.shards.proofs.RenamedObjects.{HaveOwnNames, OrderedAt, ordered_same, renamed_proper}
+use Rattle.shards.proofs.RenamedObjects.{HaveOwnNames, OrderedAt, linearizable_by, ordered_same, orders_of}
+use Rattle.shards.proofs.RenamedObjects.{renamed_proper}
 use Rattle.shards.proofs.RenamedObjects.{renamed_linearizable, linearizable_renamed}
 use Rattle.shards.proofs.Renumbered.{same_from, proper_renumbered, linearizable_same}
 
@@ -34,15 +32,7 @@ calls_kept has x es own proper =
 kind_kept : (has : ℕ → Bool) (x : ℕ) (es : List Event) → has x ≡ true → kind_of_object (events_on has es) x
     ≡ kind_of_object es x
 kind_kept has x [] own = refl
-kind_kept has x (e ∷ es) own = go (has e.object) refl (kind_kept has x es own)
-  where
-    go : (b : Bool) → has e.object ≡ b → kind_of_object (events_on has es) x ≡ kind_of_object es x
-        → kind_of_object (cond b (e ∷ events_on has es) (events_on has es)) x ≡ kind_of_object (e ∷ es) x
-    go true q later = ap (λ k. cond (e.object == x) (kind_by e.action k) k) later
-    go false q later =
-        let own_object : e.object ≡ x → has e.object ≡ true = λ s. ap has s ∙ own in
-        let ne : (e.object == x) ≡ false = ne_eqb e.object x (λ s. let t = own_object s in absurd (cc (q, t))) in
-        later ∙ sym (ap (λ b. cond b (kind_by e.action (kind_of_object es x)) (kind_of_object es x)) ne)
+kind_kept has x (e ∷ es) own = grind (arith, nat_tests, kind_kept has x es own)
 
 -- so it has a valid order among them where it has one among all
 order_kept : (has : ℕ → Bool) (x : ℕ) (es : List Event) → has x ≡ true → IsProper es → OrderedAt es x
@@ -55,44 +45,21 @@ order_found : (has : ℕ → Bool) (x : ℕ) (es : List Event) → has x ≡ tru
 order_found has x es own proper =
     ordered_same (events_on has es) es x x (kind_kept has x es own) (calls_kept has x es own proper)
 
--- an object with a call among them is one of theirs
-called_is_own : (has : ℕ → Bool) (es : List Event) → IsProper es → (call : ProcessCall)
-    → In call (calls_in (denoted (events_on has es))) → has call.object ≡ true
-called_is_own has es proper call i = go (has call.object) refl
-  where
-    go : (b : Bool) → has call.object ≡ b → b ≡ true
-    go true q = refl
-    go false q =
-        let x = call.object in
-        let part = events_on has es in
-        let none : calls_on x (denoted part) ≡ [] =
-        sym (proper_calls part (proper_on has es proper) x) ∙ ap calls_of (no_operations has x es q) in
-        let there = λ (c : ProcessCall). c.object == x in
-        let on_x = filter there (calls_in (denoted part)) in
-        let among : In call on_x = in_filter_from there call (calls_in (denoted part)) i (eq-eqb x x refl) in
-        absurd (subst (In call.call) none (in_map_from (λ (c : ProcessCall). c.call) call on_x among))
-
 -- the events on some objects of a linearizable whole
 part_linearizable : (has : ℕ → Bool) (es : List Event) → IsProper es → DenoteLinearizable es
     → DenoteLinearizable (events_on has es)
-part_linearizable has es proper l =
-    let part = events_on has es in
-    let orders = orders_of_kinds (kind_of_object es) (denoted es) (denoted_is_history es proper) l in
-    named_kinds (kind_of_object part) (denoted part) (denoted_is_history part (proper_on has es proper))
-    (all_from_in (λ (c : ProcessCall). HasValidOrder (kind_of_object part) (denoted part) c.object)
-    (calls_in (denoted part))
-    (λ c i. order_kept has c.object es (called_is_own has es proper c i) proper (orders c.object)))
+part_linearizable has es proper l = linearizable_by (events_on has es) (proper_on has es proper)
+    (λ e i.
+    let own = in_filter_passes (λ d. has d.object) e es i in
+    order_kept has e.object es own proper (orders_of es proper l e.object))
 
 -- a whole, where the part with each object is linearizable
 whole_linearizable : (has : ℕ → ℕ → Bool) (es : List Event) → IsProper es → ((x : ℕ) → has x x ≡ true)
     → ((x : ℕ) → DenoteLinearizable (events_on (has x) es)) → DenoteLinearizable es
-whole_linearizable has es proper own each = locality_of_kinds (kind_of_object es) (denoted es)
-    (denoted_is_history es proper)
-    (λ x.
-    let part = events_on (has x) es in
+whole_linearizable has es proper own each = linearizable_by es proper (λ e i.
+    let x = e.object in
     order_found (has x) x es (own x) proper
-    (orders_of_kinds (kind_of_object part) (denoted part) (denoted_is_history part (proper_on (has x) es proper))
-    (each x) x))
+    (orders_of (events_on (has x) es) (proper_on (has x) es proper) (each x) x))
 
 -- ---- shards
 

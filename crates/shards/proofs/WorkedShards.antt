@@ -1,28 +1,28 @@
 -- The worked events. Each shard has one enqueue or nothing, and so is proper, and linearizable by the order of its one
 -- call: so a proper whole is linearizable. Where a process invokes twice before a response, the whole is neither.
-use Rattle.std.proofs.Common.{◌≡◌, ℕ, ℤ, pos, ◌==◌, ◌<◌, Bool, true, false, cond, inl, inr, List, [], ◌∷◌}
-use Rattle.std.proofs.Common.{map, filter, Some, AllPairs, lit<, refl, ap, sym, ◌∙◌, subst, arith}
+use Rattle.std.proofs.Common.{◌≡◌, ℕ, ℤ, pos, ◌==◌, ◌<◌, Bool, true, false, cond, List, [], ◌∷◌}
+use Rattle.std.proofs.Common.{filter, Some, lit<, refl, sym, subst, arith}
 use Rattle.std.proofs.lemmas.Bool.{eqb-true}
+use Rattle.std.proofs.lemmas.Bool.Decides.{nat_tests}
+use Rattle.std.proofs.lemmas.List.{map-id}
 use Rattle.model.specs.declared.Kind.TheVariants.{Queue}
 use Rattle.model.specs.declared.AnyOp.TheVariants.{Enqueue}
 use Rattle.model.specs.declared.AnyReply.TheVariants.{Value}
-use Rattle.model.specs.Objects.{kind_of, queue}
-use Rattle.model.specs.Orders.{ProcessCall, calls_in, calls_on, IsValidOrder}
+use Rattle.model.specs.Objects.{queue}
+use Rattle.model.specs.Orders.{calls_on, IsValidOrder}
 use Rattle.model.specs.Lists.{In}
-use Rattle.model.proofs.Lists.{Pairs, in_map_from, all_from_in, all_from_pairs}
-use Rattle.locality.specs.Locality.{HasValidOrder}
-use Rattle.locality.proofs.OneKind.{named_kinds}
+use Rattle.model.proofs.Lists.{all_from_pairs}
 use Rattle.locality.proofs.WrittenOut.{valid_order}
 use Rattle.locality.proofs.WorkedOrders.{returned}
 use Rattle.events.specs.declared.event.Action.TheVariants.{Invoke, Ok}
 use Rattle.events.specs.declared.event.Event.{Event}
 use Rattle.events.specs.Events.{denoted, kind_of_object, IsProper}
 use Rattle.events.proofs.ProcessRuns.{idle, Runs}
-use Rattle.events.proofs.WellFormed.{denoted_is_history}
-use Rattle.shards.specs.Shards.{events_on, renamed, AreRenumbered, AreShards, DenoteLinearizable}
+use Rattle.shards.specs.Shards.{events_on, AreRenumbered, AreShards, DenoteLinearizable}
 use Rattle.shards.specs.WorkedShards.{own_shard, does, one_each, renumbered_shard, shards_of_one_each}
 use Rattle.shards.specs.WorkedShards.{two_at_once, shards_of_two_at_once}
-use Rattle.shards.proofs.Proper.{AreOfKinds, proper_from, proper_on}
+use Rattle.shards.proofs.Proper.{proper_from, proper_on}
+use Rattle.shards.proofs.RenamedObjects.{linearizable_by}
 use Rattle.shards.proofs.WholeAndShards.{decided_by_shards}
 
 -- one enqueue that returned
@@ -30,63 +30,26 @@ abbrev enqueued : ℕ → ℕ → ℕ → ℕ → ℤ → List Event
 enqueued p n m x v = does n p x (Invoke (Enqueue v)) ∷ does m p x (Ok (Value (Some v))) ∷ []
 
 enqueued-proper : (p n m x : ℕ) (v : ℤ) → n < m → IsProper (enqueued p n m x v)
-enqueued-proper p n m x v less = proper_from (λ y. Queue) (enqueued p n m x v) rising runs of_kinds
-  where
-    rising : AllPairs (λ (a b : Event). a.number < b.number) (enqueued p n m x v)
-    rising = all_from_pairs (λ (a b : Event). a.number < b.number) (enqueued p n m x v) (
-      λ e i. elim i [ inl q ↦ subst (λ (d : Event). n < d.number) (sym q) less | inr j ↦ absurd j ],
-      (λ e i. absurd i, tt),
-    )
-
-    runs : (q : ℕ) → Runs q idle (enqueued p n m x v)
-    runs q = (λ s. (tt, (λ t. ((refl, refl), tt), λ t. tt)), λ s. (λ t. absurd (cc (s, t)), λ t. tt))
-
-    of_kinds : AreOfKinds (λ y. Queue) (enqueued p n m x v)
-    of_kinds e op i q = elim i [
-      | inl s ↦
-          let r : Invoke (Enqueue v) ≡ Invoke op = sym (ap (λ (d : Event). d.action) s) ∙ q in
-          let t : op ≡ Enqueue v = cc in
-          ap kind_of t
-      | inr j ↦ elim j [
-        | inl s ↦ let r : Ok (Value (Some v)) ≡ Invoke op = sym (ap (λ (d : Event). d.action) s) ∙ q in absurd (cc r)
-        | inr k ↦ absurd k
-      ]
-    ]
+enqueued-proper p n m x v less = proper_from (λ y. Queue) (enqueued p n m x v)
+    (all_from_pairs (λ a b. a.number < b.number) (enqueued p n m x v) (λ e i. grind arith, (λ e i. absurd i, tt)))
+    (λ q. grind (arith, nat_tests)) (λ e op i q. grind arith)
 
 -- of events that denote one enqueue the order with its call alone is valid
 one_call : (es : List Event) (x n m : ℕ) (v : ℤ) → IsProper es → kind_of_object es x ≡ Queue
-    → map (λ (c : ProcessCall). c.object) (calls_in (denoted es)) ≡ x ∷ []
+    → ((e : Event) → In e es → e.object ≡ x)
     → calls_on x (denoted es) ≡ returned n (Enqueue v) m (Some v) ∷ [] → DenoteLinearizable es
-one_call es x n m v proper kind objects calls = named_kinds (kind_of_object es) (denoted es)
-    (denoted_is_history es proper)
-    (all_from_in (λ (c : ProcessCall). HasValidOrder (kind_of_object es) (denoted es) c.object) (calls_in (denoted es))
-    (λ c i. of_one c.object (subst (In c.object) objects
-    (in_map_from (λ (d : ProcessCall). d.object) c (calls_in (denoted es)) i))))
+one_call es x n m v proper kind objects calls = linearizable_by es proper (λ e i.
+    rw (objects e i, kind, calls) (pos n ∷ [], valid))
   where
     valid : IsValidOrder Queue (returned n (Enqueue v) m (Some v) ∷ []) (pos n ∷ [])
     valid = valid_order Queue (returned n (Enqueue v) m (Some v) ∷ []) (returned n (Enqueue v) m (Some v) ∷ []) refl
         ((0, lit< tt, refl), tt) (λ s. (0, lit< tt, refl), tt) (queue (v ∷ []), Value (Some v), refl, refl, tt)
 
-    order : HasValidOrder (kind_of_object es) (denoted es) x
-    order = (
-      pos n ∷ [],
-      subst (λ k. IsValidOrder k (calls_on x (denoted es)) (pos n ∷ [])) (sym kind)
-          (subst (λ cs. IsValidOrder Queue cs (pos n ∷ [])) (sym calls) valid),
-    )
-
-    of_one : (y : ℕ) → In y (x ∷ []) → HasValidOrder (kind_of_object es) (denoted es) y
-    of_one y i = elim i [
-      | inl q ↦ subst (HasValidOrder (kind_of_object es) (denoted es)) (sym q) order
-      | inr j ↦
-          absurd j
-    ]
-
 nothing-proper : IsProper []
 nothing-proper = proper_from (λ y. Queue) [] (λ i j d l m. absurd (omega arith)) (λ p. tt) (λ e op i q. absurd i)
 
-nothing-linearizable : DenoteLinearizable []
-nothing-linearizable =
-    named_kinds (kind_of_object []) [] (denoted_is_history [] nothing-proper) (λ k d l. absurd (omega arith))
+pub nothing-linearizable : DenoteLinearizable []
+nothing-linearizable = linearizable_by [] nothing-proper (λ e i. absurd i)
 
 abbrev pub IsGood : List Event → Type 0
 IsGood es = IsProper es × DenoteLinearizable es
@@ -94,17 +57,17 @@ IsGood es = IsProper es × DenoteLinearizable es
 first-good : IsGood (enqueued 3 0 2 1 (pos 7))
 first-good =
     let proper = enqueued-proper 3 0 2 1 (pos 7) (lit< tt) in
-    (proper, one_call (enqueued 3 0 2 1 (pos 7)) 1 0 2 (pos 7) proper refl refl refl)
+    (proper, one_call (enqueued 3 0 2 1 (pos 7)) 1 0 2 (pos 7) proper refl (λ e i. grind arith) refl)
 
 second-good : IsGood (enqueued 3 1 3 2 (pos 8))
 second-good =
     let proper = enqueued-proper 3 1 3 2 (pos 8) (lit< tt) in
-    (proper, one_call (enqueued 3 1 3 2 (pos 8)) 2 1 3 (pos 8) proper refl refl refl)
+    (proper, one_call (enqueued 3 1 3 2 (pos 8)) 2 1 3 (pos 8) proper refl (λ e i. grind arith) refl)
 
 renumbered_shard-good : IsGood renumbered_shard
 renumbered_shard-good =
     let proper = enqueued-proper 4 0 1 2 (pos 8) (lit< tt) in
-    (proper, one_call renumbered_shard 2 0 1 (pos 8) proper refl refl refl)
+    (proper, one_call renumbered_shard 2 0 1 (pos 8) proper refl (λ e i. grind arith) refl)
 
 nothing-good : IsGood []
 nothing-good = (nothing-proper, nothing-linearizable)
@@ -112,11 +75,6 @@ nothing-good = (nothing-proper, nothing-linearizable)
 -- no shard has both objects
 not_both : (s : ℕ) → (1 == s) ≡ true → (2 == s) ≡ true → ⊥
 not_both s q r = let one = eqb-true 1 s q in let two = eqb-true 2 s r in omega arith
-
--- the same events, where each object keeps its number
-pub numbers_kept : (es : List Event) → renamed (λ x. x) es ≡ es
-numbers_kept [] = refl
-numbers_kept (e ∷ es) = ap (λ fs. e ∷ fs) (numbers_kept es)
 
 -- ---- a process that has two operations at once
 
@@ -136,7 +94,7 @@ two_at_once-shards s = two_at_once-shard (1 == s) (2 == s) (not_both s)
 pub two_at_once-divided : AreShards own_shard (λ x. x) two_at_once shards_of_two_at_once
 two_at_once-divided s =
     let shard = shards_of_two_at_once s in
-    subst (λ es. AreRenumbered es shard) (sym (numbers_kept shard))
+    subst (λ es. AreRenumbered es shard) (sym (map-id shard))
     (record { same = refl; rising = (two_at_once-shards s).0.rising })
 
 pub two_at_once-refused : ¬ IsProper two_at_once
@@ -151,47 +109,11 @@ two_at_once-not_linearizable l = let s = l.completes.well_formed 3 in let m = s.
 
 pub one_each-proper : IsProper one_each
 one_each-proper = proper_from (λ y. Queue) one_each
-    (all_from_pairs (λ (a b : Event). a.number < b.number) one_each rising) runs of_kinds
+    (all_from_pairs (λ (a b : Event). a.number < b.number) one_each (grind arith)) runs (λ e op i q. grind arith)
   where
-    rising : Pairs (λ (a b : Event). a.number < b.number) one_each
-    rising = (λ e i. grind arith, (λ e i. grind arith, (λ e i. grind arith, (λ e i. absurd i, tt))))
-
     -- process 3 alone invokes and returns, or process 4 alone, or neither does anything
     runs : (p : ℕ) → Runs p idle one_each
-    runs p = go (3 == p) (4 == p) refl refl
-      where
-        go : (three four : Bool) → (3 == p) ≡ three → (4 == p) ≡ four → Runs p idle one_each
-        go true true q r = let three = eqb-true 3 p q in let four = eqb-true 4 p r in absurd (omega arith)
-        go true false q r =
-            let other : (4 == p) ≡ true → ⊥ = λ t. cc (r, t) in
-            let own : (3 == p) ≡ false → ⊥ = λ t. cc (q, t) in (
-              λ t. (
-                tt,
-                (
-                  λ u. absurd (other u),
-                  λ u. (λ v. ((refl, refl), (λ w. absurd (other w), λ w. tt)), λ v. absurd (own v)),
-                ),
-              ),
-              λ t. absurd (own t),
-            )
-        go false true q r =
-            let other : (3 == p) ≡ true → ⊥ = λ t. cc (q, t) in
-            let own : (4 == p) ≡ false → ⊥ = λ t. cc (r, t) in (
-              λ t. absurd (other t),
-              λ t. (
-                λ u. (tt, (λ v. absurd (other v), λ v. (λ w. ((refl, refl), tt), λ w. absurd (own w)))),
-                λ u. absurd (own u),
-              ),
-            )
-        go false false q r =
-            let three : (3 == p) ≡ true → ⊥ = λ t. cc (q, t) in
-            let four : (4 == p) ≡ true → ⊥ = λ t. cc (r, t) in (
-              λ t. absurd (three t),
-              λ t. (λ u. absurd (four u), λ u. (λ v. absurd (three v), λ v. (λ w. absurd (four w), λ w. tt))),
-            )
-
-    of_kinds : AreOfKinds (λ y. Queue) one_each
-    of_kinds e op i q = grind arith
+    runs p = grind (arith, nat_tests)
 
 -- the shard with object 2 has numbers of its own, and another has one enqueue or nothing
 one_each-shard : (one two : Bool) → (one ≡ true → two ≡ true → ⊥)
@@ -205,7 +127,7 @@ one_each-good s = one_each-shard (1 == s) (2 == s) (not_both s)
 
 pub one_each-divided : AreShards own_shard (λ x. x) one_each shards_of_one_each
 one_each-divided s = subst (λ es. AreRenumbered es (shards_of_one_each s))
-    (sym (numbers_kept (events_on (λ x. own_shard x == s) one_each))) (go (2 == s) refl)
+    (sym (map-id (events_on (λ x. own_shard x == s) one_each))) (go (2 == s) refl)
   where
     go : (b : Bool) → (2 == s) ≡ b
         → AreRenumbered (events_on (λ x. x == s) one_each) (cond b renumbered_shard (events_on (λ x. x == s) one_each))

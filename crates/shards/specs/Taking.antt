@@ -1,12 +1,11 @@
 -- What a history's text is while it is divided. No public clause names these.
-use Rattle.std.specs.Prelude.{⊤, ◌≡◌, ◌≢◌, ℕ, ◌+◌, ◌/◌, ◌<◌, ◌==◌, List, [], ◌∷◌, ◌++◌, All, length}
-use Rattle.std.specs.Prelude.{decimal, get_or, map, Option, Some}
+use Rattle.std.specs.Prelude.{⊤, ◌≡◌, ◌≢◌, ℕ, ◌+◌, ◌<◌, ◌==◌, List, [], ◌∷◌, ◌++◌, All, length}
+use Rattle.std.specs.Prelude.{decimal, get_or, map, Option}
 use Rattle.edn_reader.specs.Datum.{Datum}
 use Rattle.edn_reader.specs.Sound.{IsUnreadable}
 use Rattle.edn_reader.specs.Spells.{Spells}
 use Rattle.edn_reader.specs.declared.fault.FaultKind.TheVariants as edn_kind
 use Rattle.history.specs.LongReading.{AreReadAtAnyLength}
-use Rattle.history.specs.Maps.{ClientMap, client_of}
 use Rattle.history.specs.declared.fault.HistoryFaultKind.TheVariants as history_kind
 use Rattle.history.specs.declared.fault.TextFault.TheVariants.{Text, Maps}
 use Rattle.shards.specs.declared.divider.Divider.{Divider}

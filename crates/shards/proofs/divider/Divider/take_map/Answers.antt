@@ -12,8 +12,9 @@ use Rattle.history.specs.LongReading.{AreReadAtAnyLength}
 use Rattle.history.specs.Views.{Says, client_map}
 use Rattle.shards.specs.Taking.{forms_of}
 use Rattle.shards.proofs.EventsOfMaps.{event_is, no_client, says_client}
-use Rattle.shards.specs.Dividing.{most_names}
-use Rattle.shards.proofs.TakingMaps.{all_before, forms_fit, taken_map, taken_unseen, unfit_last}
+use Rattle.shards.specs.Dividing.{FitsAmong, most_names}
+use Rattle.std.proofs.lemmas.List.Elements.{All-map}
+use Rattle.shards.proofs.TakingMaps.{all_before, taken_map, taken_unseen, unfit_last}
 use Rattle.shards.proofs.divider.Divider.take_map.Goals as goal
 
 pub returns-in-Ok-clause-taken : goal.returns-in-Ok-clause-taken
@@ -55,7 +56,8 @@ returns-then-not-fits-clause-fault c = λ count maps written d says h.
       | inr unfit ↦ unfit
     ] in
     let unfit : count ≤ map.object / most_names = subst (λ n. n ≤ map.object / most_names) h.shards own in
-    unfit_last count ds d (client_map map client.0) read.faultless client.1 unfit (forms_fit count maps h.fit)
+    unfit_last count ds d (client_map map client.0) read.faultless client.1 unfit
+    (All-map (FitsAmong count) (λ m. m.form) maps h.fit)
 
 -- only the map of a client has an event
 pub returns-in_default : goal.returns-in_default
