@@ -295,10 +295,10 @@ def plain_words(program, report):
         report.equal(f"plain_words: '{word}' is in no name", [], where_said)
 
 
-# The most characters of a line of these files: of proofs, of definitions, of code, and of prose.
+# The most characters of a line of these files: of proofs, of definitions, of code, of comments of the tools, and of prose.
 WIDTHS = {
-    "crates/*/proofs/**/*.antt": 120, "crates/*/specs/**/*.antt": 100, "crates/*/src/**/*.rt": 100, "docs/*.md": 150, "README.md": 150,
-    "CHANGELOG.md": 150,
+    "crates/*/proofs/**/*.antt": 120, "crates/*/specs/**/*.antt": 100, "crates/*/src/**/*.rt": 100, "tools/*/src/**/*.rs": 100,
+    "tools/*/tests/**/*.rs": 100, "docs/*.md": 150, "README.md": 150, "CHANGELOG.md": 150,
 }
 # And of files in Python, some of which have names without an ending.
 WIDTH_OF_PYTHON = 150
@@ -306,16 +306,20 @@ WIDTH_OF_PYTHON = 150
 ONE_NAME = re.compile(r"use \S+\{\S+\}$| *#\[tactic\(.*\)\]$| *b?\"([^\"\\]|\\.)*\"[,;]?$")
 # A row of a table, or a line that is one link.
 NO_PROSE = re.compile(r"\|| *(?:[-*] )?\[[^\[\]]*\]\(\S+\)\W?$")
+# What is no comment of the tools: rustfmt lays out their code.
+NO_COMMENT = re.compile(r" *(?!//)\S|$")
 
 
 def lines_with_numbers(path):
-    """The lines of a file, counted from 1: of a page those of prose."""
+    """The lines of a file, counted from 1: of a page those of prose, and of a file of the tools its comments."""
     is_fenced, is_code, before = False, False, ""
+    left_out = {".md": NO_PROSE, ".rs": NO_COMMENT}.get(os.path.splitext(path)[1], ONE_NAME)
     for number, line in enumerate(read(path).split("\n"), 1):
-        is_fenced ^= line.startswith("```")
-        is_code = line.startswith("    ") and (is_code or not before)
-        before = line
-        if not (is_fenced or is_code or NO_PROSE.match(line) if path.endswith(".md") else ONE_NAME.match(line)):
+        if path.endswith(".md"):
+            is_fenced ^= line.startswith("```")
+            is_code = line.startswith("    ") and (is_code or not before)
+            before = line
+        if not (is_fenced or is_code or left_out.match(line)):
             yield number, line
 
 
@@ -327,7 +331,8 @@ def files_with_widths():
 
 
 def widths(program, report):
-    """No line of a proof has more than 120 characters, of a definition or of code more than 100, and of prose or of Python more than 150."""
+    """No line of a proof has more than 120 characters, of a definition, of code or of a comment of the tools more than 100, and of prose or of Python
+    more than 150."""
     for files, paths, most in files_with_widths():
         report.holds(f"widths: there are files {files}", paths)
         counted = ((path, number, len(line)) for path in paths for number, line in lines_with_numbers(path))

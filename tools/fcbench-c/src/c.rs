@@ -1,5 +1,5 @@
-//! The functions that C calls, and those of the proved half. This is the only file of the tools
-//! with unsafe code.
+//! The functions that C calls, and those of the proved half. This is the only file of this
+//! crate with unsafe code.
 #![allow(unsafe_code)]
 
 use crate::evidence::find;

@@ -1,5 +1,5 @@
-//! The answer of the verifier. Its lines are passed on only if it ended by itself, with the status that belongs to
-//! them: so the printed lines always agree with the exit status.
+//! The answer of the verifier. Its lines are passed on only if it ended by itself, with the status
+//! that belongs to them: so the printed lines always agree with the exit status.
 
 use crate::program::say;
 use crate::status::Status;
@@ -39,7 +39,8 @@ fn read_whole(mut printed: ChildStdout) -> Result<Vec<u8>, Status> {
     }
 }
 
-/// Reads what the verifier prints, and waits for its end. The error is the status if it has no answer.
+/// Reads what the verifier prints, and waits for its end. The error is the status if it has no
+/// answer.
 pub fn answer_of(program: &mut Child) -> Result<Answer, Status> {
     let lines = program.stdout.take().map_or(Ok(Vec::new()), read_whole);
     let status = status_of(program.wait())?;

@@ -36,8 +36,8 @@ pub fn write_evidence(decisions: &[Decision], out: impl Write) -> io::Result<()>
     out.flush()
 }
 
-/// The decisions that are there at the limit, in rising object number. The threads that go on end with
-/// the program.
+/// The decisions that are there at the limit, in rising object number. The threads that go on end
+/// with the program.
 fn decisions_by(limit: Limit, history: History, command: &Find) -> Vec<Decision> {
     let all = history.objects.len();
     let options = Options { steps: command.steps, workers: command.workers };

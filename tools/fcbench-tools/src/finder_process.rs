@@ -1,4 +1,4 @@
-//! The finder as a process of its own: how it is started, heard, stopped at the limit, and ended.
+//! The finder as a process of its own: how it is started, read, stopped at the limit, and ended.
 
 use crate::command_line::Find;
 use crate::limit::{BETWEEN_LIMIT_CHECKS, Limit, PROGRESS};
@@ -13,8 +13,8 @@ use std::sync::mpsc::{Receiver, RecvTimeoutError, Sender, channel};
 use std::thread::{self, Builder, JoinHandle};
 use std::time::{Duration, Instant};
 
-/// How often, when the answer is there, it is checked whether the finder has ended, and the time between
-/// two checks.
+/// How often, when the answer is there, it is checked whether the finder has ended, and the time
+/// between two checks.
 const EXIT_CHECKS: u32 = 100;
 const BETWEEN_EXIT_CHECKS: Duration = Duration::from_millis(1);
 
@@ -24,10 +24,11 @@ const LAST_WORDS: Duration = Duration::from_secs(5);
 /// The longest summary that is read.
 const LONGEST_SUMMARY: u64 = 1 << 20;
 
-/// The finder of evidence: the program that the environment variable FCBENCH_FINDER names, otherwise
-/// this one. What it finds is checked, so any program may be named. It is started with the arguments
-/// `find HISTORY --workers N [--steps N]`, and writes evidence to its standard output. It is waited
-/// for until it closes that. At the limit it gets SIGTERM, and after five more seconds it is killed.
+/// The finder of evidence: the program that the environment variable FCBENCH_FINDER names,
+/// otherwise this one. What it finds is checked, so any program may be named. It is started with
+/// the arguments `find HISTORY --workers N [--steps N]`, and writes evidence to its standard
+/// output. It is waited for until it closes that. At the limit it gets SIGTERM, and after five more
+/// seconds it is killed.
 pub fn finder(command: &Find) -> io::Result<Command> {
     let named = env::var_os("FCBENCH_FINDER").map(PathBuf::from);
     let is_own = named.is_none();
@@ -53,7 +54,8 @@ fn has_found(ended: ExitStatus) -> bool {
     Status::of(ended).is_some_and(|status| statuses.contains(&status))
 }
 
-/// Returns how a finder ended, if it did so by itself: its output may be closed a moment before it ends.
+/// Returns how a finder ended, if it did so by itself: its output may be closed a moment before it
+/// ends.
 fn end_of(finder: &mut Child) -> Option<ExitStatus> {
     (0..EXIT_CHECKS).find_map(|look| {
         if look > 0 {
@@ -77,14 +79,14 @@ fn end(finder: &mut Child, was_stopped: bool) {
     }
 }
 
-/// Stops a finder at the limit, and ends it when the answer is there, so that nothing can be received.
-/// One that is heard says itself that it is stopped.
-fn stop_at_limit(finder: &mut Child, is_heard: bool, limit: Limit, answer: &Receiver<()>) {
+/// Stops a finder at the limit, and ends it once the answer is there: then the channel is closed.
+/// If its standard error has a reader, the finder itself reports there that it is stopped.
+fn stop_at_limit(finder: &mut Child, has_reader: bool, limit: Limit, answer: &Receiver<()>) {
     let mut stopped = None;
     while answer.recv_timeout(BETWEEN_LIMIT_CHECKS) == Err(RecvTimeoutError::Timeout) {
         match stopped {
             None if limit.is_over() && send_sigterm(finder) => {
-                if !is_heard {
+                if !has_reader {
                     say(format_args!("the finder is stopped"));
                 }
                 stopped = Some(Instant::now());
@@ -111,31 +113,31 @@ fn forward_messages(said: ChildStderr) -> String {
     summary
 }
 
-/// A finder that works, with the threads that look after it and hear it.
+/// A running finder, with the thread that stops it and the one that reads its standard error.
 pub struct Finder {
     answer: Sender<()>,
     keeper: JoinHandle<()>,
-    hearer: Option<JoinHandle<String>>,
+    reader: Option<JoinHandle<String>>,
 }
 
 impl Finder {
     /// Starts a finder that works until the limit at most.
     pub fn start(command: &mut Command, limit: Limit) -> io::Result<Finder> {
         let mut finder = command.spawn()?;
-        let hearing =
+        let reading =
             finder.stderr.take().map(|said| Builder::new().spawn(|| forward_messages(said)));
-        let hearer = hearing.transpose()?;
-        let is_heard = hearer.is_some();
+        let reader = reading.transpose()?;
+        let has_reader = reader.is_some();
         let (answer, answered) = channel();
-        let keeping = move || stop_at_limit(&mut finder, is_heard, limit, &answered);
+        let keeping = move || stop_at_limit(&mut finder, has_reader, limit, &answered);
         let keeper = Builder::new().spawn(keeping)?;
-        Ok(Finder { answer, keeper, hearer })
+        Ok(Finder { answer, keeper, reader })
     }
 
     /// Ends it, since the answer is there. Returns what it said about the history.
     pub fn end(self) -> String {
         drop(self.answer);
         let _ = self.keeper.join();
-        self.hearer.and_then(|it| it.join().ok()).unwrap_or_default()
+        self.reader.and_then(|it| it.join().ok()).unwrap_or_default()
     }
 }

@@ -77,18 +77,18 @@ fn warns(warning: &str, is_yes: bool) -> bool {
     !warning.contains(if is_yes { SILENT_PUTS } else { OVERLAP })
 }
 
-/// Prints the summary of a history, if it is asked for, and what is suspicious in it in any case. On a terminal it
-/// prints the summary too.
+/// Prints the summary of a history, if it is asked for, and what is suspicious in it in any case.
+/// On a terminal it prints the summary too.
 fn summarize(summary: &str, is_yes: bool, is_printed: bool) -> Result<(), Status> {
     let lines = || summary.lines().filter_map(|line| line.strip_prefix("; "));
     if is_printed {
         return put_out(&lines().map(|line| format!("; {line}\n")).collect::<String>());
     }
     let is_shown = io::stderr().is_terminal();
-    let is_told = |line: &&str| {
+    let is_printed_now = |line: &&str| {
         if line.starts_with("warning: ") { warns(line, is_yes) } else { is_shown }
     };
-    lines().filter(is_told).for_each(|line| say(format_args!("{line}")));
+    lines().filter(is_printed_now).for_each(|line| say(format_args!("{line}")));
     Ok(())
 }
 
@@ -116,8 +116,8 @@ fn quoted(path: &str) -> String {
     }
 }
 
-/// Reads the beginning of a file or folder, and says why if that fails: the verifier says only that it does. Pipes and other files
-/// are not read, since what is read here would be missing there.
+/// Reads the beginning of a file or folder, and reports the cause if that fails, which the verifier
+/// does not. Pipes and other files are not read: what is read here would be missing there.
 fn try_to_read(history: &str) -> Result<(), Status> {
     let is_other = fs::metadata(history).is_ok_and(|it| !it.is_file() && !it.is_dir());
     if is_other {

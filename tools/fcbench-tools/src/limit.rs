@@ -7,7 +7,8 @@ use std::time::{Duration, Instant};
 /// How often the limit is checked.
 pub const BETWEEN_LIMIT_CHECKS: Duration = Duration::from_millis(10);
 
-/// When the search for evidence began, and its most seconds, if they are given. SIGTERM ends it too.
+/// When the search for evidence began, and its most seconds, if they are given. SIGTERM ends it
+/// too.
 #[derive(Clone, Copy)]
 pub struct Limit {
     begun: Instant,
@@ -45,8 +46,8 @@ pub struct Progress {
 
 impl Progress {
     /// The progress of a search of `all` objects.
-    pub fn new(limit: Limit, all: usize, is_told: bool) -> Progress {
-        Progress { limit, all, next: is_told.then_some(Duration::from_secs(2)) }
+    pub fn new(limit: Limit, all: usize, is_printed: bool) -> Progress {
+        Progress { limit, all, next: is_printed.then_some(Duration::from_secs(2)) }
     }
 
     fn tell(&self, before: &str, done: usize) {

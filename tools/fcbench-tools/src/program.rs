@@ -30,14 +30,16 @@ pub fn proved(words: &[&str], steps: Option<u64>) -> Command {
     command
 }
 
-/// `fcbench verify` of a history by this many workers, which reads evidence from its standard input.
+/// `fcbench verify` of a history by this many workers, which reads evidence from its standard
+/// input.
 pub fn verifier(history: &str, steps: Option<u64>, workers: usize) -> Command {
     let workers = workers.to_string();
     proved(&["verify", history, "/dev/stdin", "--workers", &workers], steps)
 }
 
-/// Returns a path by which both programs can read a history: that of its file, if it is named by the
-/// number of an open file, as with /dev/stdin. Refuses a pipe, and - for standard input, since only one could read it.
+/// Returns a path by which both programs can read a history: that of its file, if it is named by
+/// the number of an open file, as with /dev/stdin. Refuses a pipe, and - for standard input, since
+/// only one could read it.
 pub fn path_for_both(history: &str) -> Result<String, Status> {
     let kind = fs::metadata(history).map(|it| it.file_type());
     if history == "-" || kind.is_ok_and(|kind| kind.is_fifo() || kind.is_socket()) {

@@ -1,6 +1,7 @@
-//! The signal SIGTERM, by which a program is asked to end: as by `kill`, or by `timeout`, which sends it
-//! to a program and to those that it started. This file is the only one of the program with unsafe
-//! code: std has no signals, but it links the C library, which has two functions for them.
+//! The signal SIGTERM, by which a program is asked to end: as by `kill`, or by `timeout`, which
+//! sends it to a program and to those that it started. This file is the only one of the program
+//! with unsafe code: std has no signals, but it links the C library, which has two functions for
+//! them.
 #![allow(unsafe_code)]
 
 use std::ffi::c_int;
@@ -30,8 +31,9 @@ extern "C" fn note(_: c_int) {
 
 /// From now on SIGTERM does not end this program: `got_sigterm` says whether it came.
 pub fn catch_sigterm() {
-    // Sound: the handler has the type that the C library calls, and does nothing but an atomic store,
-    // which is allowed at any moment. If the C library refuses it, SIGTERM ends the program as before.
+    // Sound: the handler has the type that the C library calls, and does nothing but an atomic
+    // store, which is allowed at any moment. If the C library refuses it, SIGTERM ends the program
+    // as before.
     unsafe { signal(SIGTERM, note as *const () as usize) };
 }
 
@@ -46,8 +48,9 @@ pub fn ignore_sigterm(command: &mut Command) -> &mut Command {
         SIG_ERR => Err(io::Error::last_os_error()),
         _ => Ok(()),
     };
-    // Sound: the closure runs in the new process before its program, where nothing may be called that
-    // takes a lock or allocates. `signal` does neither, and an error of the system is a number.
+    // Sound: the closure runs in the new process before its program, where nothing may be called
+    // that takes a lock or allocates. `signal` does neither, and an error of the system is a
+    // number.
     unsafe { command.pre_exec(ignore) }
 }
 

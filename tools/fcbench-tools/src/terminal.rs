@@ -1,5 +1,5 @@
-//! Shortens an answer for a terminal: shows the first operations of a long part, and the beginning of
-//! a long reason, and says how much is left out.
+//! Shortens an answer for a terminal: shows the first operations of a long part, and the beginning
+//! of a long reason, and says how much is left out.
 
 use std::io::{self, BufRead, Write};
 

@@ -8,8 +8,8 @@ use crate::timeline::Call;
 /// The number of the content of an empty cell.
 pub const NOTHING: usize = 0;
 
-/// A call on one cell. Contents are identified by their numbers in the cell. What sets the content that
-/// it asks for sets nothing.
+/// A call on one cell. Contents are identified by their numbers in the cell. What sets the content
+/// that it asks for sets nothing.
 #[derive(Clone, Copy)]
 pub struct Access {
     pub call: Call,

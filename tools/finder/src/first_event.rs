@@ -3,10 +3,11 @@
 //! needs the first one.
 //!
 //! Beginnings are tried that end at a return: of 8 returns, of 16, and so on until one has no valid
-//! order, and then by halves in the last step, which takes some two looks for each bit of the answer
-//! (Bentley and Yao, "An Almost Optimal Algorithm for Unbounded Searching", Information Processing
-//! Letters 5, 1976). They have together, those of all objects, at most two million operations, so
-//! that this takes a second or two; or half as many as their object, if that is more.
+//! order, and then by halves in the last step, which takes some two looks for each bit of the
+//! answer (Bentley and Yao, "An Almost Optimal Algorithm for Unbounded Searching", Information
+//! Processing Letters 5, 1976). They have together, those of all objects, at most two million
+//! operations, so that this takes a second or two; or half as many as their object, if that is
+//! more.
 
 use crate::cuts::{Cut, part_by};
 use crate::decide::by_search;
@@ -85,8 +86,8 @@ impl<'a> Beginnings<'a> {
         }
     }
 
-    /// Tries the beginning of this many returns. Whether it is known to have no valid order. `None`:
-    /// no budget is left.
+    /// Tries the beginning of this many returns. Whether it is known to have no valid order.
+    /// `None`: no budget is left.
     fn is_refuted(&mut self, count: usize) -> Option<bool> {
         let part = part_by(self.history, &[self.cut(count)])?;
         self.budget = self.budget.checked_sub(part.ops.len())?;
@@ -121,14 +122,14 @@ impl<'a> Beginnings<'a> {
     }
 }
 
-/// The reason, or one of an earlier event that is as small, and the first event by which the object,
-/// one of this many, has no valid order, as far as it is known.
+/// The reason, or one of an earlier event that is as small, and the first event by which the
+/// object, one of this many, has no valid order, as far as it is known.
 pub fn earlier(history: &ObjectHistory, reason: FoundReason, objects: usize) -> FoundReason {
     let mut beginnings = Beginnings::of(history, &reason, budget(history, objects));
     if beginnings.returns.is_empty() {
         return reason;
     }
-    // What was found until the budget was spent is told.
+    // What was found until the budget was spent is returned.
     let _ = beginnings.search();
     let Beginnings { returns, ordered, refuted, .. } = beginnings;
     let by = refuted.as_ref().map_or(returns.len(), |(count, _)| *count);

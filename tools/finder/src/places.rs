@@ -59,8 +59,9 @@ impl Places {
 }
 
 impl History {
-    /// The same history, in which the number of each map is its place in the whole. What is found of
-    /// it is so of the whole: the operations of its objects are those of the whole, in all they have.
+    /// The same history, in which the number of each map is its place in the whole. What is found
+    /// of it is so of the whole: the operations of its objects are those of the whole, in all they
+    /// have.
     pub fn with_places(mut self, places: &Places) -> Result<History, PlacesFault> {
         let Places(places) = places;
         if places.len() != self.maps as usize {

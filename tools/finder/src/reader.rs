@@ -223,7 +223,8 @@ impl Reading {
         Some(())
     }
 
-    /// Adds the maps at the front of the rest. If there was none, then only when it is twice as long.
+    /// Adds the maps at the front of the rest. If there was none, then only when it is twice as
+    /// long.
     fn add_rest(&mut self) -> Option<()> {
         if self.rest.len() < 2 * self.tried {
             return Some(());

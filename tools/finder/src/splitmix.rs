@@ -4,8 +4,8 @@
 use std::collections::HashMap;
 use std::hash::{BuildHasherDefault, Hasher};
 
-/// A table whose keys are made of numbers. It takes a fraction of the time of the hash of std, which
-/// guards against keys that are chosen to clash.
+/// A table whose keys are made of numbers. It takes a fraction of the time of the hash of std,
+/// which guards against keys that are chosen to clash.
 pub type NumberTable<K, V> = HashMap<K, V, BuildHasherDefault<NumberHasher>>;
 
 /// The hash of a key of a few numbers.

@@ -5,8 +5,8 @@ use crate::kinds::{Function, Reply, Shape, functions};
 use std::collections::HashSet;
 use std::fmt::{self, Display, Formatter};
 
-/// How many operations a history has, and how they overlap. Only operations on one object are compared, since two objects share no
-/// order.
+/// How many operations a history has, and how they overlap. Only operations on one object are
+/// compared, since two objects share no order.
 #[derive(Clone, Copy, Debug, Default, PartialEq, Eq)]
 pub struct Statistics {
     /// Those that did not fail.
@@ -78,7 +78,8 @@ impl Display for Statistics {
     }
 }
 
-/// Whether each put of a map replied that nothing was there, also of a key that was put before: then the replies were not recorded.
+/// Whether each put of a map replied that nothing was there, also of a key that was put before:
+/// then the replies were not recorded.
 fn puts_tell_nothing(object: &ObjectHistory) -> bool {
     let mut keys = HashSet::new();
     let mut has_second = false;
@@ -87,10 +88,10 @@ fn puts_tell_nothing(object: &ObjectHistory) -> bool {
             continue;
         };
         let op = operation.op;
-        let is_told = op.function.reply == Shape::Content;
+        let is_content = op.function.reply == Shape::Content;
         match (op.key(), op.sets()) {
-            (Some(_), Some(Some(_))) if is_told && reply != Reply::Value(None) => return false,
-            (Some(key), Some(Some(_))) if is_told => has_second |= !keys.insert(key),
+            (Some(_), Some(Some(_))) if is_content && reply != Reply::Value(None) => return false,
+            (Some(key), Some(Some(_))) if is_content => has_second |= !keys.insert(key),
             (Some(key), Some(Some(_))) if !reply.is_refusal() => _ = keys.insert(key),
             (Some(_), Some(Some(_))) => {}
             (Some(key), Some(None)) => _ = keys.remove(&key),
@@ -111,8 +112,8 @@ fn failed_removals(history: &History) -> Option<(usize, &'static str)> {
         .find_map(|(count, all_failed, f)| (count > 1 && all_failed).then_some((count, f)))
 }
 
-/// The one value that was seen in a register and that no operation puts in, if it was seen first before any write returned: then the
-/// register may begin with it.
+/// The one value that was seen in a register and that no operation puts in, if it was seen first
+/// before any write returned: then the register may begin with it.
 fn first_value(object: &ObjectHistory) -> Option<i64> {
     let mut put = HashSet::new();
     let mut first_set = u32::MAX;
@@ -170,8 +171,8 @@ fn named(word: &str, all: &[u32]) -> Option<String> {
     }
 }
 
-/// Words of two warnings, by which `judge` knows them again: it prints the first only with a yes, and the
-/// second only without one.
+/// Words of two warnings, by which `judge` knows them again: it prints the first only with a yes,
+/// and the second only without one.
 pub const OVERLAP: &str = " overlap";
 pub const SILENT_PUTS: &str = "every :put replied nil";
 
@@ -227,9 +228,13 @@ mod tests {
     use super::*;
     use crate::read_history;
 
-    fn told(text: &str) -> (String, Vec<String>) {
+    fn summary_of(text: &str) -> String {
         let history = read_history(text.as_bytes()).expect("a history");
-        (Statistics::of(&history).to_string(), warnings(&history))
+        Statistics::of(&history).to_string()
+    }
+
+    fn warnings_of(text: &str) -> Vec<String> {
+        warnings(&read_history(text.as_bytes()).expect("a history"))
     }
 
     fn event(process: u32, kind: &str, call: &str, object: u32) -> String {
@@ -245,12 +250,12 @@ mod tests {
         let text = call(0, ":f :enqueue, :value 1") + &call(1, ":f :enqueue, :value 2");
         let wanted =
             "0 % of 2 operations overlap another one, at most 1 at once; 0 pending, 0 failed";
-        assert_eq!(told(&text).0, wanted);
+        assert_eq!(summary_of(&text), wanted);
         assert_eq!(
-            told(&text).1,
+            warnings_of(&text),
             ["no two operations overlap: a race cannot show in this history"]
         );
-        assert_eq!(told(&call(0, ":f :enqueue, :value 1")).1, [""; 0]);
+        assert_eq!(warnings_of(&call(0, ":f :enqueue, :value 1")), [""; 0]);
     }
 
     #[test]
@@ -265,7 +270,8 @@ mod tests {
             + &event(3, "fail", ":f :dequeue, :value nil", 1);
         let wanted =
             "66 % of 3 operations overlap another one, at most 2 at once; 1 pending, 1 failed";
-        assert_eq!(told(&text), (wanted.to_owned(), Vec::new()));
+        assert_eq!(summary_of(&text), wanted);
+        assert_eq!(warnings_of(&text), [""; 0]);
     }
 
     #[test]
@@ -276,7 +282,7 @@ mod tests {
             + &event(1, "invoke", ":f :enqueue, :value 99", 0));
         let wanted =
             "only 2 of 62 operations overlap another one: a race can hardly show in this history";
-        assert_eq!(told(&text).1, [wanted]);
+        assert_eq!(warnings_of(&text), [wanted]);
     }
 
     #[test]
@@ -288,14 +294,14 @@ mod tests {
         let del =
             event(0, "invoke", ":f :del, :value 1", 0) + &event(0, "ok", ":f :del, :value 5", 0);
         let is_warned = |text: &str| {
-            told(text).1.iter().any(|it| it.starts_with("object 0: every :put replied nil"))
+            warnings_of(text).iter().any(|it| it.starts_with("object 0: every :put replied nil"))
         };
         assert!(is_warned(&(put(0, 5) + &put(1, 6))));
         assert!(!is_warned(&put(0, 5)));
         assert!(!is_warned(&(put(0, 5) + &del + &put(0, 6))));
-        let told = event(0, "invoke", ":f :put, :value [1 7]", 0)
+        let replied = event(0, "invoke", ":f :put, :value [1 7]", 0)
             + &event(0, "ok", ":f :put, :value 6", 0);
-        assert!(!is_warned(&(put(0, 5) + &put(1, 6) + &told)));
+        assert!(!is_warned(&(put(0, 5) + &put(1, 6) + &replied)));
     }
 
     fn answered(process: u32, of: &str, reply: &str, object: u32) -> String {
@@ -306,7 +312,7 @@ mod tests {
 
     /// The one warning that has these words, or nothing.
     fn warned(text: &str, words: &str) -> String {
-        let mut all = told(text).1;
+        let mut all = warnings_of(text);
         all.retain(|it| it.contains(words));
         assert!(all.len() < 2, "{all:?}");
         all.concat()
@@ -341,22 +347,23 @@ mod tests {
 
     #[test]
     fn replies_that_are_not_the_argument() {
-        let told = |text: &str| warned(text, "is not its argument: the recorder is probably wrong");
+        let warning =
+            |text: &str| warned(text, "is not its argument: the recorder is probably wrong");
         for f in ["write", "enqueue", "push", "insert"] {
             let call = |reply: &str| answered(0, &format!(":f :{f}, :value 1"), reply, 0);
-            assert_eq!(told(&call("1")), "");
-            assert!(told(&call("2")).starts_with("the reply of event 1 is not "), "{f}");
+            assert_eq!(warning(&call("1")), "");
+            assert!(warning(&call("2")).starts_with("the reply of event 1 is not "), "{f}");
             let text = call("1") + &call("2") + &call("3");
-            assert!(told(&text).starts_with("the reply of event 3 and 1 more is not "), "{f}");
+            assert!(warning(&text).starts_with("the reply of event 3 and 1 more is not "), "{f}");
         }
         let cas = |reply: &str| answered(0, ":f :cas, :value [1 2]", reply, 0);
-        assert_eq!(told(&(cas("[1 2]") + &cas("false"))), "");
-        assert!(told(&cas("[3 4]")).starts_with("the reply of event 1 is not "));
+        assert_eq!(warning(&(cas("[1 2]") + &cas("false"))), "");
+        assert!(warning(&cas("[3 4]")).starts_with("the reply of event 1 is not "));
     }
 
     #[test]
     fn nothing_is_judged() {
-        let warned = |text: &str, what| told(text).1.iter().any(|it| it.starts_with(what));
+        let warned = |text: &str, what| warnings_of(text).iter().any(|it| it.starts_with(what));
         assert!(warned("{:process :nemesis}", "the history has no operations"));
         let failed = event(1, "invoke", ":f :dequeue, :value nil", 0)
             + &event(1, "fail", ":f :dequeue, :value nil", 0);
@@ -377,7 +384,7 @@ mod tests {
         };
         let text: String = (3..8).map(|object| put(object, 5) + &put(object, 6)).collect();
         let about_puts: Vec<_> =
-            told(&text).1.into_iter().filter(|it| it.contains(":put")).collect();
+            warnings_of(&text).into_iter().filter(|it| it.contains(":put")).collect();
         assert_eq!(about_puts.len(), 1);
         assert!(about_puts[0].starts_with("object 3 and 4 more: every :put replied nil"));
     }

@@ -1,7 +1,8 @@
 //! From operations as a tool wrote them to a text that `fcbench` judges.
 //!
-//! Each operation becomes one map, in its place, so that the numbers of events are those of the operations. Of the nemesis, and of others
-//! whose process is a keyword, only the function and the marks are written.
+//! Each operation becomes one map, in its place, so that the numbers of events are those of the
+//! operations. Of the nemesis, and of others whose process is a keyword, only the function and the
+//! marks are written.
 
 use crate::edn::Reader;
 use crate::failures::{Failures, Replies, error_of};
@@ -17,7 +18,8 @@ use std::fmt::Write;
 /// How a history is to be read.
 #[derive(Clone, Debug, Default, PartialEq, Eq)]
 pub struct Options {
-    /// Values are tuples `[key value]` of `jepsen.independent`. Without it they are, if they cannot be anything else.
+    /// Values are tuples `[key value]` of `jepsen.independent`. Without it they are, if they cannot
+    /// be anything else.
     pub is_independent: bool,
     /// The errors by which a failed operation is a reply of nil, or of a `:cas` one of false.
     pub replies: Replies,
@@ -25,11 +27,13 @@ pub struct Options {
     pub checks_owners: bool,
     /// The values of operations that lock and unlock are owners, which are kept.
     pub has_owners: bool,
-    /// What each register contains at first: one value for all, or a map with the values of objects.
+    /// What each register contains at first: one value for all, or a map with the values of
+    /// objects.
     pub initial: Option<Form>,
 }
 
-/// A history that `fcbench` judges, what its numbers stand for, and what was left out of which the user should know.
+/// A history that `fcbench` judges, what its numbers stand for, and what was left out of which the
+/// user should know.
 #[derive(Clone, Debug, PartialEq, Eq)]
 pub struct Imported {
     pub text: String,
@@ -237,8 +241,8 @@ fn reply_of(shape: Shape, form: &Form, argument: &Said) -> Option<Said> {
     }
 }
 
-/// Whether the values of a history can only be tuples `[key value]`: a function without an argument has `[key nil]`, or one of a pair has
-/// `[key [a b]]`.
+/// Whether the values of a history can only be tuples `[key value]`: a function without an argument
+/// has `[key nil]`, or one of a pair has `[key [a b]]`.
 fn has_tuples(all: &[Operation], has_owners: bool) -> bool {
     all.iter().any(|Operation { map, .. }| {
         let named = name_of(map.get("f"));
@@ -339,7 +343,8 @@ impl State<'_> {
         Ok((object, argument))
     }
 
-    /// What a failed operation replied, if it is a reply that nothing was there, or another content.
+    /// What a failed operation replied, if it is a reply that nothing was there, or another
+    /// content.
     fn reply_of_failure(
         &mut self,
         map: &Form,
@@ -356,7 +361,8 @@ impl State<'_> {
         None
     }
 
-    /// A completion is on the object of its call, and in a history of tuples says so if it has a reply.
+    /// A completion is on the object of its call, and in a history of tuples says so if it has a
+    /// reply.
     fn check_object(
         &self,
         object: Option<Form>,
@@ -450,7 +456,7 @@ impl State<'_> {
     }
 }
 
-/// The events, and the failed operations of which it is told that they are left out.
+/// The events, and the failed operations that are left out with a warning.
 fn events_of(all: &[Operation], options: &Options) -> Result<(Vec<Entry>, Failures), Refused> {
     let is_keyed = options.is_independent || has_tuples(all, options.has_owners);
     let mut state = State {
@@ -476,7 +482,8 @@ fn initial_of<'a>(initial: &'a Form, event: &Event) -> Option<&'a Form> {
     }
 }
 
-/// An object of which something is said, where the history has none of those: they may be spelled otherwise.
+/// An object of which something is said, where the history has none of those: they may be spelled
+/// otherwise.
 fn unknown_object<'a>(initial: &'a Form, firsts: &[&Event]) -> Option<&'a Form> {
     let Form::Map(of) = initial else { return None };
     let known: HashSet<&Form> = firsts.iter().map(|it| &it.object).collect();
@@ -554,8 +561,9 @@ fn put_in(event: &Event) -> Option<&Form> {
     }
 }
 
-/// Refuses a reply that nothing has put in, if values are not integers: it may be a message, such as `:empty`, or another form of a value,
-/// such as the string of a keyword. In a history of integers alone it is for `fcbench` to judge.
+/// Refuses a reply that nothing has put in, if values are not integers: it may be a message, such
+/// as `:empty`, or another form of a value, such as the string of a keyword. In a history of
+/// integers alone it is for `fcbench` to judge.
 fn refuse_strange_replies(events: &[Entry]) -> Result<(), Refused> {
     let all = || events.iter().filter_map(Entry::client);
     let put: HashSet<&Form> =

@@ -1,5 +1,5 @@
-//! Reads EDN, with all that a store of Jepsen may hold: tagged elements, sets, lists, characters and floats.
-//! <https://github.com/edn-format/edn>
+//! Reads EDN, with all that a store of Jepsen may hold: tagged elements, sets, lists, characters
+//! and floats. <https://github.com/edn-format/edn>
 
 use crate::form::{Entries, Form};
 
@@ -64,7 +64,8 @@ impl<'a> Reader<'a> {
         }
     }
 
-    /// Passes over an opening bracket of a vector or list, if one is next. Gives the bracket that closes it.
+    /// Passes over an opening bracket of a vector or list, if one is next. Gives the bracket that
+    /// closes it.
     pub fn enter(&mut self) -> Option<char> {
         self.pass();
         let close = match self.peek()? {
@@ -239,7 +240,8 @@ fn without_sign(word: &str) -> &str {
     word.strip_prefix(['+', '-']).unwrap_or(word)
 }
 
-/// Whether a word begins as a number. It may be none, as `007`, or `0x1f` in what Java prints of an object.
+/// Whether a word begins as a number. It may be none, as `007`, or `0x1f` in what Java prints of an
+/// object.
 pub fn begins_number(word: &str) -> bool {
     without_sign(word).starts_with(|it: char| it.is_ascii_digit())
 }
@@ -259,7 +261,8 @@ fn after_integer(word: &str) -> Option<&str> {
     )
 }
 
-/// Whether this may follow the first digits of a decimal or a ratio: a fraction, an exponent, or what says how exact it is.
+/// Whether this may follow the first digits of a decimal or a ratio: a fraction, an exponent, or
+/// what says how exact it is.
 fn is_end_of_number(rest: &str) -> bool {
     if let Some(denominator) = rest.strip_prefix('/') {
         return after_digits(denominator) == Some("");

@@ -1,6 +1,7 @@
-//! Failed operations that say that nothing was there, and failed `:cas`, which may say that there was another value. A failed operation is
-//! not part of a history, so a store that is wrongly empty, or wrongly refuses, would not be found by them: either they are replies, as the
-//! user says, or it is told how many there are.
+//! Failed operations that say that nothing was there, and failed `:cas`, which may say that there
+//! was another value. A failed operation is not part of a history, so it cannot show that a store
+//! is wrongly empty, or refuses wrongly. So either such operations are replies, as the user says,
+//! or `import` warns how many there are.
 
 use crate::form::Form;
 use finder::{Function, OfNothing, Shape};
@@ -46,13 +47,15 @@ impl Replies {
         self.0.iter().any(|own| own == error || (word.is_some() && word_of(own) == word))
     }
 
-    /// Whether a failed call of this function without an error is a reply. A read is written so if there was no answer.
+    /// Whether a failed call of this function without an error is a reply. A read is written so if
+    /// there was no answer.
     pub fn has_none(&self, function: &Function) -> bool {
         self.0.contains(&Form::Nil) && !function.only_looks()
     }
 }
 
-/// What a failed operation says of itself: its `:error`, or its value, such as `:exhausted`, if its function takes none.
+/// What a failed operation says of itself: its `:error`, or its value, such as `:exhausted`, if its
+/// function takes none.
 pub fn error_of<'a>(map: &'a Form, function: &Function, value: &'a Form) -> Option<&'a Form> {
     let error = map.get("error").filter(|error| **error != Form::Nil);
     let is_word = function.argument == Shape::Nothing && word_of(value).is_some();
@@ -102,7 +105,7 @@ struct Failure {
 #[derive(Default)]
 pub struct Failures(Vec<Failure>);
 
-/// How many errors are named, and how many are told apart.
+/// How many errors are named, and how many are distinguished.
 const MOST_NAMED: usize = 5;
 const MOST_KEPT: usize = 100;
 

@@ -67,7 +67,8 @@ impl Entries {
         }
     }
 
-    /// Whether this key is there already, if it is a keyword or a string. Others may be equal since their tags are dropped.
+    /// Whether this key is there already, if it is a keyword or a string. Others may be equal since
+    /// their tags are dropped.
     pub fn has(&self, key: &Form) -> bool {
         matches!(key, Form::Keyword(_) | Form::Str(_))
             && match self.all.len() {

@@ -32,7 +32,8 @@ pub fn function(name: &str, has_owners: bool) -> Option<&'static Function> {
     Some(owning.unwrap_or(named))
 }
 
-/// Whether a form can be a value: an integer of 64 bits, or a name. Names are compared for equality, and for nothing else.
+/// Whether a form can be a value: an integer of 64 bits, or a name. Names are compared for
+/// equality, and for nothing else.
 pub fn is_value(form: &Form) -> bool {
     match form {
         Form::Int(_) | Form::Bool(_) | Form::Str(_) | Form::Keyword(_) => true,

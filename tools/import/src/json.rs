@@ -1,4 +1,5 @@
-//! Reads values of JSON as forms: an object is a map with keywords for keys. <https://www.rfc-editor.org/rfc/rfc8259>
+//! Reads values of JSON as forms: an object is a map with keywords for keys.
+//! <https://www.rfc-editor.org/rfc/rfc8259>
 
 use crate::edn::{number, twice};
 use crate::form::{Entries, Form};
@@ -27,7 +28,8 @@ struct Lines<'a> {
 }
 
 impl Lines<'_> {
-    /// The line at which this rest of the text begins, counted from 1. The rest is no longer than that before.
+    /// The line at which this rest of the text begins, counted from 1. The rest is no longer than
+    /// that before.
     fn at(&mut self, rest: &str) -> usize {
         let passed = self.whole.len() - rest.len();
         let more = self.whole.as_bytes()[self.passed..passed].iter();

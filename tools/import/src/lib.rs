@@ -1,8 +1,8 @@
-//! Imports a history from a Jepsen store or from lines of JSON: writes a text that `fcbench` judges, and a table of names, with which `judge`
-//! prints its answer in the words of the history.
+//! Imports a history from a Jepsen store or from lines of JSON: writes a text that `fcbench`
+//! judges, and a table of names, with which `judge` prints its answer in the words of the history.
 //!
-//! What an operation says is taken as it is. If it is not plain, such as a `:cas` that replies nil, nothing is assumed: the history is
-//! refused, and the operation is named with its line.
+//! What an operation says is taken as it is. If it is not plain, such as a `:cas` that replies nil,
+//! nothing is assumed: the history is refused, and the operation is named with its line.
 
 mod convert;
 pub mod edn;

@@ -1,4 +1,5 @@
-//! Numbers for names: an integer keeps its own, and each other name gets the least that no integer has.
+//! Numbers for names: an integer keeps its own, and each other name gets the least that no integer
+//! has.
 
 use crate::form::Form;
 use std::collections::{HashMap, HashSet};

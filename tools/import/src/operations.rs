@@ -1,5 +1,5 @@
-//! The operations of a file: maps of EDN, one after another or in one vector, as in `history.edn` of a Jepsen store; or objects of JSON,
-//! one after another, as in lines, or in one array.
+//! The operations of a file: maps of EDN, one after another or in one vector, as in `history.edn`
+//! of a Jepsen store; or objects of JSON, one after another, as in lines, or in one array.
 
 use crate::edn::{Malformed, Reader};
 use crate::form::Form;

@@ -6,7 +6,8 @@ use crate::names::Names;
 use finder::setting;
 use std::collections::{BTreeMap, HashMap};
 
-/// The text, in which each integer is what this gives of it. The sign belongs to an integer that follows no letter or digit.
+/// The text, in which each integer is what this gives of it. The sign belongs to an integer that
+/// follows no letter or digit.
 fn with_numbers(text: &str, mut named: impl FnMut(i64) -> Option<String>) -> String {
     let (mut said, mut rest) = (String::new(), text);
     while let Some(place) = rest.find(|it: char| it.is_ascii_digit()) {
@@ -93,7 +94,8 @@ fn sentence(names: &Names, text: &str) -> String {
     said + rest
 }
 
-/// The numbers that stand for any other value in the part that a reason names, and the words for them.
+/// The numbers that stand for any other value in the part that a reason names, and the words for
+/// them.
 fn others_of(reason: &str) -> HashMap<i64, &'static str> {
     let cuts = Reader::new(reason).form().ok().flatten();
     let Some(Form::Vector(cuts)) = cuts.as_ref().and_then(|it| it.get("cuts")) else {
@@ -177,7 +179,8 @@ impl Names {
     }
 }
 
-/// The lines of an answer in the words of the history. A reason stays as it is, for `refute`; it is after the operations of its part.
+/// The lines of an answer in the words of the history. A reason stays as it is, for `refute`; it is
+/// after the operations of its part.
 pub fn with_names(names: &Names, answer: &str) -> String {
     let mut others = HashMap::new();
     let mut lines: Vec<String> = Vec::new();

@@ -443,7 +443,8 @@ fn value(draws: &mut Draws) -> String {
     }
 }
 
-/// The words of one operation of a history: its process, its object, and its value, as the file has them.
+/// The words of one operation of a history: its process, its object, and its value, as the file has
+/// them.
 type Words = (String, String, String);
 
 /// A history of registers, and the words of each of its operations.
@@ -482,17 +483,17 @@ fn names_come_back() {
         let (text, words) = drawn(&mut draws);
         let (made, table) = imported(&text);
         let names = Names::read(&table).expect("the table is one to one");
-        let told = |names: &std::collections::BTreeMap<i64, Form>, word: &str| {
+        let original = |names: &std::collections::BTreeMap<i64, Form>, word: &str| {
             names.get(&word.parse().expect("a number")).map_or(word.to_owned(), Form::to_string)
         };
         let back: Vec<Words> = made
             .lines()
             .map(|line| {
-                let process = told(&names.processes, after(line, ":process "));
+                let process = original(&names.processes, after(line, ":process "));
                 (
                     process,
-                    told(&names.objects, after(line, ":object ")),
-                    told(&names.values, after(line, ":value ")),
+                    original(&names.objects, after(line, ":object ")),
+                    original(&names.values, after(line, ":value ")),
                 )
             })
             .collect();

@@ -1,5 +1,5 @@
-//! What the text of a history has beside its operations: the times of its maps, and the values of the maps of a nemesis. They
-//! decorate a page, and no answer depends on them.
+//! What the text of a history has beside its operations: the times of its maps, and the values of
+//! the maps of a nemesis. They decorate a page, and no answer depends on them.
 
 use crate::elements::{elements_in, value_in};
 use finder::History;
@@ -104,8 +104,8 @@ mod tests {
 
     #[test]
     fn tells_seconds() {
-        let told = [(1_204_351_999, 3), (1_204_351_999, 6), (999_999, 3), (-2_000_000_000, 3)]
+        let shown = [(1_204_351_999, 3), (1_204_351_999, 6), (999_999, 3), (-2_000_000_000, 3)]
             .map(|(time, digits)| seconds(time, digits));
-        assert_eq!(told, ["1.204 s", "1.204351 s", "0.000 s", "−2.000 s"]);
+        assert_eq!(shown, ["1.204 s", "1.204351 s", "0.000 s", "−2.000 s"]);
     }
 }

@@ -12,8 +12,8 @@ use crate::words::Words;
 use finder::{Cut, Decision, End, Evidence, History, ObjectHistory, Pattern, Sentence, part_by};
 use std::borrow::Cow;
 
-/// The most operations that a page of several objects draws. With the longest numbers and values one
-/// takes some 2,200 bytes, so such a page has less than a megabyte.
+/// The most operations that a page of several objects draws. With the longest numbers and values
+/// one takes some 2,200 bytes, so such a page has less than a megabyte.
 const BUDGET: usize = 440;
 
 /// What of a history is drawn.
@@ -27,7 +27,7 @@ pub struct Options {
 }
 
 /// A history with the names of its file and of its certificates' file, the lines that were said of
-/// it, what of it is drawn, and the words in which that is told.
+/// it, what of it is drawn, and the words of the page.
 #[derive(Clone, Copy)]
 pub struct Drawn<'a> {
     pub history: &'a History,
@@ -210,8 +210,8 @@ impl Refusal {
         }
     }
 
-    /// The row of an object. Those before the refused one were accepted, and those after it were not
-    /// looked at.
+    /// The row of an object. Those before the refused one were accepted, and those after it were
+    /// not looked at.
     fn row(&self, object: &ObjectHistory) -> ObjectRow {
         let are_all_valid = matches!(self, Refusal::StrangeObject { .. });
         if are_all_valid || object.object < self.object() {
@@ -447,7 +447,8 @@ impl<'a> Drawn<'a> {
         }
     }
 
-    /// The page of a history that was checked by these orders, and why they are refused if they are.
+    /// The page of a history that was checked by these orders, and why they are refused if they
+    /// are.
     pub fn checked_page(&self, orders: &[Order], refusal: Option<&Refusal>) -> String {
         match refusal {
             None => self.valid_page(orders),

@@ -1,10 +1,11 @@
-//! The words of a page: values, keys, processes and objects as the history that was imported names them, and the times of its
-//! events.
+//! The words of a page: values, keys, processes and objects as the history that was imported names
+//! them, and the times of its events.
 
 use crate::asides::{Asides, seconds};
 use import::Names;
 
-/// The table of names, if the page is told in names, and what the text has beside its operations.
+/// The table of names, if the page has the names of an imported history, and what the text has
+/// beside its operations.
 #[derive(Clone, Copy, Default)]
 pub struct Words<'a> {
     names: Option<&'a Names>,

@@ -15,8 +15,8 @@ fn text_of(calls: &[&str]) -> String {
     events.collect()
 }
 
-/// The page of these calls, checked by this order, or judged by what the finder finds, where this is
-/// the answer. Tags are left out.
+/// The page of these calls, checked by this order, or judged by what the finder finds, where this
+/// is the answer. Tags are left out.
 fn page(calls: &[&str], order: Option<&str>, lines: &str) -> String {
     let history = read_history(text_of(calls).as_bytes()).expect("a history");
     let drawn = Drawn {

@@ -329,7 +329,7 @@ mod tests {
     }
 
     #[test]
-    fn a_word_of_several_lines_is_told_in_one() {
+    fn a_word_of_several_lines_is_printed_in_one() {
         let words = ["judge".to_owned(), "--a\nb".to_owned()];
         let refused = Command::parse(words).expect_err("no option").to_string();
         assert!(refused.starts_with("error: judge has no option '--a\\nb'; "), "{refused}");

@@ -1,7 +1,8 @@
-//! The kinds of objects. A kind has one room, the file of its name here, which has all that is
-//! special to it: its functions, what they ask of a content and leave there, the methods that find
-//! its orders and reasons, and the words for it. All other code works by what a room says, or by
-//! the family of the kind: a container, cells, a token, or a number.
+//! The kinds of objects. A kind has one room, the file of its name here. The room says what the
+//! functions of the kind ask of a content and leave there, and has the words for it. It names the
+//! methods that find its orders and reasons, which are files of `orders` and `reasons`. All other
+//! code works by what a room says, or by the family of the kind: a container, cells, a token, or a
+//! number.
 //!
 //! A new kind is a room, and its lines in this file, the only one that lists the kinds.
 

@@ -122,7 +122,8 @@ pub enum Shape {
     Swapped,
     /// Whether it did what it asks for.
     Flag,
-    /// Nothing, or what a client notes where it was told nothing: its argument, or that it was done.
+    /// Nothing, or what a client notes if the store replied nothing: its argument, or that it was
+    /// done.
     Silent,
     /// What a client notes if it has acquired or released a lock.
     Token,
@@ -298,7 +299,8 @@ impl Function {
         }
     }
 
-    /// Whether it replaces a value that its argument names, and is refused where another one is there.
+    /// Whether it replaces a value that its argument names, and is refused where another one is
+    /// there.
     pub fn may_be_refused(&self) -> bool {
         self.reply == Shape::Swapped || self.argument == Shape::Triple
     }

@@ -1,11 +1,11 @@
 //! Orders of an object's calls that may be valid, each looked for by a method that is made for its
-//! kind. What is handed out was checked.
+//! kind. What `quick_order` and `order_by_contents` return was checked.
 //!
 //! The methods are made to find an order of any token without owners, and of a container in which
 //! each value is put in once, in some n log n steps of n calls. If values repeat those of a
-//! container find many orders, and further ones by its contents, and `cells` those of an object that
-//! has cells, of a token with owners, and of a number. They do not find each. The room of a kind says
-//! which methods are for it.
+//! container find many orders, and further ones by its contents, and `cells` those of an object
+//! that has cells, of a token with owners, and of a number. They do not find each. The room of a
+//! kind says which methods are for it.
 
 mod cells;
 mod heap;
@@ -37,8 +37,8 @@ use number::number_order;
 /// What the quick methods find.
 pub enum Quick {
     Order(Vec<u32>),
-    /// No order. Of a map it may be told at which key they stopped: they found orders for the calls
-    /// on each lesser key.
+    /// No order. For a map `key` may name the key at which they stopped: they found orders for the
+    /// calls on each lesser key.
     Open {
         key: Option<i64>,
     },

@@ -1,7 +1,7 @@
 //! Reasons why no order of an object's operations is valid: small parts of its history that have no
 //! valid order. They are looked for by patterns, facts about the whole history that no valid order
 //! allows, as a value that is taken twice and put in once, and made smaller step by step. The
-//! patterns do not find each reason. What is handed out was checked.
+//! patterns do not find each reason. Only reasons that were checked are returned.
 
 mod cells;
 mod containers;

@@ -1,9 +1,10 @@
-//! Narrow windows of a part that a search refuted: what begins at a call that tells what it left, and
-//! ends soon after the furthest return that the search passed. A store fails at some moment, and what
-//! was before that few calls reveal, so that most of a long history shows nothing. The windows
-//! begin at the last such call, the second, the fourth, and so on, as a search by doubling does
-//! (Bentley and Yao, "An Almost Optimal Algorithm for Unbounded Searching", Information Processing
-//! Letters 5, 1976). One that has no valid order is made smaller by patterns, or step by step.
+//! Narrow windows of a part that a search refuted: what begins at a call that tells what it left,
+//! and ends soon after the furthest return that the search passed. A store fails at some moment,
+//! and what was before that few calls reveal, so that most of a long history shows nothing. The
+//! windows begin at the last such call, the second, the fourth, and so on, as a search by doubling
+//! does (Bentley and Yao, "An Almost Optimal Algorithm for Unbounded Searching", Information
+//! Processing Letters 5, 1976). One that has no valid order is made smaller by patterns, or step by
+//! step.
 
 use super::propose::{Proposal, propose_within};
 use super::reason::Refuted;
@@ -106,8 +107,8 @@ fn pattern_in_window(pattern: Pattern) -> Pattern {
     }
 }
 
-/// A reason for a smaller part than that of these cuts, which a search or a count refuted, if one is
-/// found in a third of the steps that the search took.
+/// A reason for a smaller part than that of these cuts, which a search or a count refuted, if one
+/// is found in a third of the steps that the search took.
 pub fn narrowed(
     history: &ObjectHistory,
     cuts: &[Cut],

@@ -35,8 +35,8 @@ pub enum Element {
 }
 
 /// What is kept, from a call on, until a number. Where `all_values` is set, as at a number, the
-/// elements are operations alone. If there is a `key` it is that of a map, of which a cell is kept: the
-/// values are those under the key.
+/// elements are operations alone. If there is a `key` it is that of a map, of which a cell is kept:
+/// the values are those under the key.
 #[derive(Default)]
 pub struct Plan {
     pub key: Option<i64>,

@@ -90,8 +90,8 @@ impl FoundReason {
         untils.min().unwrap_or(u32::MAX)
     }
 
-    /// The same reason, which is of what was invoked before this number, as one of the whole history,
-    /// if it is one.
+    /// The same reason, which is of what was invoked before this number, as one of the whole
+    /// history, if it is one.
     pub fn in_whole(self, history: &ObjectHistory, until: u32) -> Option<FoundReason> {
         let FoundReason { mut cuts, shown, sentence } = self;
         if cuts.last() == Some(&Cut::Until(until)) {

@@ -1,5 +1,5 @@
-//! The longest order of an object's operations that a short search finds, for a page of an object that stays open. Nothing depends
-//! on it.
+//! The longest order of an object's operations that a short search finds, for a page of an object
+//! that stays open. Nothing depends on it.
 
 use super::content::Content;
 use crate::timeline::{Operation, State};
@@ -39,8 +39,8 @@ struct Trying<'a> {
 }
 
 impl Trying<'_> {
-    /// The places of the operations that may come next: no other one that is not placed returned before they began. Those that
-    /// return first come first.
+    /// The places of the operations that may come next: no other one that is not placed returned
+    /// before they began. Those that return first come first.
     fn ways(&mut self) -> Vec<usize> {
         while self.is_placed.get(self.low) == Some(&true) {
             self.low += 1;
@@ -61,7 +61,8 @@ impl Trying<'_> {
         ways
     }
 
-    /// Whether the operation fits there: it gives its reply, or, if it is pending, changes something.
+    /// Whether the operation fits there: it gives its reply, or, if it is pending, changes
+    /// something.
     fn fits(operation: &Operation, content: &Content) -> bool {
         match (content.gives(operation.op()), operation.reply()) {
             (None, _) => false,

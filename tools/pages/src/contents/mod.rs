@@ -1,5 +1,5 @@
-//! What an object contains along an order of its operations: as boxes, as rows of a table, and where
-//! an order cannot go on.
+//! What an object contains along an order of its operations: as boxes, as rows of a table, and
+//! where an order cannot go on.
 
 mod boxes;
 mod content;

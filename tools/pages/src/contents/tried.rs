@@ -13,8 +13,8 @@ const STEPS: usize = 2_000;
 /// The most rows of the table.
 const ROWS: usize = 24;
 
-/// A way to begin: the places of operations of the part in their order, these as a set, and the next
-/// one.
+/// A way to begin: the places of operations of the part in their order, these as a set, and the
+/// next one.
 struct Way {
     before: Vec<usize>,
     placed: u64,

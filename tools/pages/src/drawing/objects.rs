@@ -334,7 +334,8 @@ pub fn draw_valid(subject: &Subject, order: Option<&[i64]>) -> ObjectDrawing {
     draw(subject, &subject.operations(), order, Explanation::new(None, Alone::Never))
 }
 
-/// The sentences on the longest order that was found, of this many operations, and on what comes next.
+/// The sentences on the longest order that was found, of this many operations, and on what comes
+/// next.
 fn longest_sentence(found: usize, all: usize, next: &[Operation]) -> Spans {
     let mut said =
         spans!["The longest order that was found for this page has ", found, " of ", all];
@@ -361,7 +362,8 @@ fn steps_sentence() -> Spans {
     ]
 }
 
-/// The drawing of an object that stays open, as this sentence says, with the longest order that a short search finds.
+/// The drawing of an object that stays open, as this sentence says, with the longest order that a
+/// short search finds.
 pub fn draw_open(subject: &Subject, open: Spans) -> ObjectDrawing {
     let operations = subject.operations();
     let longest = longest_order(&operations, subject.object.kind);
@@ -482,8 +484,9 @@ fn first_sentence(first: FirstEvent) -> Spans {
     spans![one, least, " to event ", most, ". They were not all tried."]
 }
 
-/// The drawing of an object of which no order is valid, for no order of this part is: the operations
-/// of the part alone, the orders of them that were tried, and where they are in the history.
+/// The drawing of an object of which no order is valid, for no order of this part is: the
+/// operations of the part alone, the orders of them that were tried, and where they are in the
+/// history.
 pub fn draw_impossible(subject: &Subject, part: &DrawnPart) -> ObjectDrawing {
     let operations = subject.operations();
     let live = part.live();

@@ -399,7 +399,8 @@ impl Reason<'_> {
     fn of_pattern(&self) -> Option<Spans> {
         match &self.sentence.pattern {
             Pattern::Lost(lost) => self.not_empty().or_else(|| self.lost(lost)),
-            // If an operation failed that would have put the value in, the finder's sentence says so.
+            // If an operation failed that would have put the value in, the finder's sentence says
+            // so.
             Pattern::NeverSet(_) | Pattern::TooEarly(_) if self.sentence.facts.undone.is_some() => {
                 None
             }

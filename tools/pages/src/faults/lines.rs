@@ -1,5 +1,5 @@
-//! What is wrong with a malformed history, in lines: the event and its key, the value that is there, and what is expected; and the text of
-//! the event.
+//! What is wrong with a malformed history, in lines: the event and its key, the value that is
+//! there, and what is expected; and the text of the event.
 
 use super::excerpts::visible;
 use super::number_in;
@@ -250,8 +250,8 @@ mod tests {
 
     /// The first line on an event of this text, after its number.
     fn said(text: &str, code: &str, number: usize) -> String {
-        let told = lines(text, &format!("malformed history: {code} at map {number}\n"));
-        let first = told.lines().next().expect("a line");
+        let explained = lines(text, &format!("malformed history: {code} at map {number}\n"));
+        let first = explained.lines().next().expect("a line");
         first.split_once(": ").expect("a place").1.to_owned()
     }
 
@@ -314,23 +314,26 @@ mod tests {
 
     #[test]
     fn names_the_line_of_a_text() {
-        let told = lines("{:process 0,\n :value 1.5}", "malformed history: E9 at byte 21\n");
+        let explained = lines("{:process 0,\n :value 1.5}", "malformed history: E9 at byte 21\n");
         assert_eq!(
-            told,
+            explained,
             "; line 2: 1.5: this is EDN that is not read, as a float, a list, a set, a tag or a symbol\n"
         );
-        let told = lines("{:process 0", "malformed history: E2 at byte 11\n");
-        assert_eq!(told, "; line 1: the end of the text: the text ends inside the map of line 1\n");
-        let told = lines("\u{feff}{:process 0}", "malformed history: E9 at byte 0\n");
-        assert_eq!(told, "; line 1: a byte order mark: remove it\n");
+        let explained = lines("{:process 0", "malformed history: E2 at byte 11\n");
+        assert_eq!(
+            explained,
+            "; line 1: the end of the text: the text ends inside the map of line 1\n"
+        );
+        let explained = lines("\u{feff}{:process 0}", "malformed history: E9 at byte 0\n");
+        assert_eq!(explained, "; line 1: a byte order mark: remove it\n");
         for (text, code, byte, wanted) in [
             ("{:process :1}", 3, 10, ":1: it is no keyword: after the colon a letter, and then"),
             ("{:process 007}", 3, 10, "007: it is no integer"),
             ("{:process 1]", 3, 11, "]: it closes nothing that is open"),
             ("{:process \"a\\q\"}", 3, 12, "\\: it is none of the escapes \\t, "),
         ] {
-            let told = lines(text, &format!("malformed history: E{code} at byte {byte}\n"));
-            assert!(told.starts_with(&format!("; line 1: {wanted}")), "{told}");
+            let explained = lines(text, &format!("malformed history: E{code} at byte {byte}\n"));
+            assert!(explained.starts_with(&format!("; line 1: {wanted}")), "{explained}");
         }
     }
 }

@@ -16,17 +16,17 @@ pub fn count_text(count: usize) -> String {
     text
 }
 
-/// The reply that a label tells; none if it tells nothing that the operation does not.
-fn told_reply(operation: &Operation) -> Option<Value> {
+/// The reply that a label shows; none if it says no more than the operation.
+fn shown_reply(operation: &Operation) -> Option<Value> {
     let reply = operation.reply()?;
     let op = operation.op();
-    let is_told = match op.function.reply {
+    let is_shown = match op.function.reply {
         Shape::Token | Shape::Nothing | Shape::Silent => false,
         Shape::Done => reply.value() != op.argument,
         Shape::Content | Shape::NumberOrNothing | Shape::Swapped | Shape::Flag => true,
         Shape::Value | Shape::Number | Shape::Pair | Shape::Triple => true,
     };
-    is_told.then(|| reply.value())
+    is_shown.then(|| reply.value())
 }
 
 /// The operation as text: its name, its argument unless that is nil, and what it returned where
@@ -40,7 +40,7 @@ pub fn label(operation: &Operation, words: &Words) -> String {
     if operation.state() == State::Pending {
         text += " → ?";
     }
-    if let Some(reply) = told_reply(operation) {
+    if let Some(reply) = shown_reply(operation) {
         text += &format!(" → {reply}");
     }
     words.values(text)

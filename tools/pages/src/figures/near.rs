@@ -1,5 +1,5 @@
-//! The events of a large object that a figure may need: those near to what it draws, and some more on
-//! each side, which show that there is a hole.
+//! The events of a large object that a figure may need: those near to what it draws, and some more
+//! on each side, which show that there is a hole.
 
 use super::moments::{Moment, moments_at, moments_of};
 use super::numbers::{FIRST, MOST};
@@ -18,8 +18,8 @@ const MARGIN: usize = 256;
 /// Where what may be drawn is in more places, all events are listed.
 const MOST_PLACES: usize = 32;
 
-/// The numbers around this one that have, besides the margins, `before` events before it and `after`
-/// from it on, if there are that many.
+/// The numbers around this one that have, besides the margins, `before` events before it and
+/// `after` from it on, if there are that many.
 fn numbers_near(operations: &[Operation], number: u32, before: usize, after: usize) -> Range<u32> {
     let place = operations.partition_point(|operation| operation.number() < number);
     let first = place.saturating_sub(before + MARGIN);
@@ -62,8 +62,8 @@ pub struct Near {
     has_all: bool,
 }
 
-/// Where the events are listed that a window may need: of few operations everywhere; of many near to
-/// the stretch and to the events of the focus, or at the beginning.
+/// Where the events are listed that a window may need: of few operations everywhere; of many near
+/// to the stretch and to the events of the focus, or at the beginning.
 pub fn near_to(operations: &[Operation], focus: &[u32], stretch: Stretch) -> Near {
     let mut numbers = Vec::new();
     if operations.len() > FEW {

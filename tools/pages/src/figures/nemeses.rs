@@ -1,4 +1,5 @@
-//! The maps of nemeses in a figure: marks, and bands from where a nemesis begins something to where it ends that.
+//! The maps of nemeses in a figure: marks, and bands from where a nemesis begins something to where
+//! it ends that.
 
 use super::columns::{Column, What};
 use super::labels::fit;
@@ -32,7 +33,8 @@ fn ends(function: &str, begun: &str) -> bool {
     })
 }
 
-/// What the nemeses began. A nemesis has two maps for each thing that it does, with the same function.
+/// What the nemeses began. A nemesis has two maps for each thing that it does, with the same
+/// function.
 pub fn spells(nemeses: &[Nemesis]) -> Vec<Spell<'_>> {
     let mut spells: Vec<Spell> = Vec::new();
     let mut last_end: Option<&Nemesis> = None;

@@ -111,8 +111,8 @@ impl Layout {
     }
 
     /// Whether the first of the columns is the invocation of a focus operation that is to begin a
-    /// new line: its label would not fit, in the right half of this one, or it would be broken here,
-    /// and not there, alone or with those that begin before it ends.
+    /// new line: its label would not fit, in the right half of this one, or it would be broken
+    /// here, and not there, alone or with those that begin before it ends.
     fn is_early(&self, scene: &Scene, columns: &[Column], left: u32) -> bool {
         let Some(operation) = focus_invoked(scene, &columns[0]) else {
             return false;

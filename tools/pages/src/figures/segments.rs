@@ -28,8 +28,8 @@ struct BarEnd {
     is_open: bool,
 }
 
-/// How far a bar that goes on into a gap ends before the middle of it, or begins after that: so that
-/// one that ends there and one that begins there do not look like one.
+/// How far a bar that goes on into a gap ends before the middle of it, or begins after that: so
+/// that one that ends there and one that begins there do not look like one.
 const FROM_MIDDLE: u32 = 4;
 
 /// Which end of a bar.
@@ -39,8 +39,8 @@ enum Side {
     Right,
 }
 
-/// The end of a bar at the event with this number: at its spot, beside the middle of the gap that has
-/// it, or at the beginning or the end of all lines.
+/// The end of a bar at the event with this number: at its spot, beside the middle of the gap that
+/// has it, or at the beginning or the end of all lines.
 fn end_at(layout: &Layout, number: u32, side: Side) -> BarEnd {
     if let Some(spot) = layout.event(number) {
         return BarEnd { line: spot.line, x: spot.x, is_open: false };
@@ -57,7 +57,8 @@ fn end_at(layout: &Layout, number: u32, side: Side) -> BarEnd {
     BarEnd { line, x, is_open: true }
 }
 
-/// The part in a line of the stretch from one event to another, or to the end; none if it is not in the line, or no wider than a gap.
+/// The part in a line of the stretch from one event to another, or to the end; none if it is not in
+/// the line, or no wider than a gap.
 pub fn stretch_between(
     layout: &Layout,
     from: u32,
@@ -129,8 +130,9 @@ fn through<'a>(operations: &'a [Operation], starts: &[u32]) -> impl Iterator<Ite
     })
 }
 
-/// The operations that have a bar: those with a drawn event, and those that are open where a stretch
-/// begins, and return, while there are lanes and room. And how many others are open all through.
+/// The operations that have a bar: those with a drawn event, and those that are open where a
+/// stretch begins, and return, while there are lanes and room. And how many others are open all
+/// through.
 pub fn shown_operations(scene: &Scene, layout: &Layout) -> (Vec<Operation>, usize) {
     let drawn = layout.rooms.keys();
     let mut shown: Vec<Operation> =

@@ -19,7 +19,8 @@ fn first_of(column: u32, maps: u32) -> usize {
     (u64::from(column) * u64::from(maps)).div_ceil(u64::from(columns)) as usize
 }
 
-/// For each column the most operations that run at once. One that is pending runs until its `:info`.
+/// For each column the most operations that run at once. One that is pending runs until its
+/// `:info`.
 fn heights(operations: &[Operation], maps: u32) -> Vec<u32> {
     let mut changes = vec![0_i32; maps as usize + 1];
     for operation in operations.iter().filter(|it| it.state() != State::Failed) {

@@ -70,9 +70,9 @@ fn draw_no_more(moments: &mut [Moment]) {
     }
 }
 
-/// Draws the events of the window: those of the stretch, if one is given; all, if there are no
-/// more than `whole`; without a focus the first ones; and else what is around the focus, the less of
-/// it the more the focus is.
+/// Draws the events of the window: those of the stretch, if one is given; all, if there are no more
+/// than `whole`; without a focus the first ones; and else what is around the focus, the less of it
+/// the more the focus is.
 pub fn choose(moments: &mut [Moment], focus: &[u32], stretch: Stretch, whole: usize) {
     if stretch.is_given() {
         let first = place_of(moments, stretch.from.unwrap_or(0));
@@ -142,8 +142,8 @@ fn lanes_of(nearest: &BTreeMap<u64, Nearness>) -> BTreeSet<u64> {
     sorted.into_iter().take(LANES).map(|(_, process)| process).collect()
 }
 
-/// What a window leaves out for lack of lanes: operations with an event in it, by their numbers, and
-/// how many processes these are of.
+/// What a window leaves out for lack of lanes: operations with an event in it, by their numbers,
+/// and how many processes these are of.
 #[derive(Default)]
 pub struct WithoutLane {
     pub operations: BTreeSet<u32>,

@@ -16,8 +16,8 @@ pub fn scaled(size: u32, is_large: bool) -> u32 {
     if is_large { size * 3 / 2 } else { size }
 }
 
-/// What is added to the class of what holds a drawing: one that is drawn large is not made larger in
-/// a wide window.
+/// What is added to the class of what holds a drawing: one that is drawn large is not made larger
+/// in a wide window.
 pub fn large_class(is_large: bool) -> Option<&'static str> {
     is_large.then_some(" large")
 }
@@ -226,7 +226,8 @@ impl Drawing<'_> {
         ]
     }
 
-    /// The names of the lanes once more, which stay where they are while a narrow window is scrolled.
+    /// The names of the lanes once more, which stay where they are while a narrow window is
+    /// scrolled.
     fn names(&self, line: &Line) -> Html {
         let is_large = self.figure.is_large;
         // The first number of a line may begin before its lanes do.

@@ -4,8 +4,8 @@ use super::html::{Html, html};
 use crate::timeline::ObjectDrawing;
 use std::collections::BTreeSet;
 
-/// On a page of more points none lights its row: a browser looks at each of these rules whenever the
-/// mouse moves, and takes seconds to read the page.
+/// On a page of more points none lights its row: a browser looks at each of these rules whenever
+/// the mouse moves, and takes seconds to read the page.
 const MOST_LIT: usize = 100;
 
 /// The points of a page: operation, object and rank.

@@ -1,5 +1,5 @@
-//! What a drawing of an object's history shows, as plain data: the operations, their bars, the points
-//! of an order, the sentences and the tables. All coordinates are whole numbers.
+//! What a drawing of an object's history shows, as plain data: the operations, their bars, the
+//! points of an order, the sentences and the tables. All coordinates are whole numbers.
 
 mod boxes;
 mod figure;

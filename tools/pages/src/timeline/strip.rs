@@ -6,8 +6,8 @@ use std::ops::RangeInclusive;
 pub const COLUMNS: u32 = 480;
 
 /// The history of an object, cut into columns of equally many maps: how many of its operations run
-/// at once in each, and which columns have what is drawn, what the sentence speaks of, and maps of a
-/// nemesis.
+/// at once in each, and which columns have what is drawn, what the sentence speaks of, and maps of
+/// a nemesis.
 pub struct Strip {
     /// How many maps the history has.
     pub maps: u32,

@@ -44,8 +44,8 @@ impl Position<'_> {
         matches!(self.accesses[place].need, Need::IsNot(_))
     }
 
-    /// Until when calls need the content that this call sets, or a content made from it, as far as no
-    /// other call can set these.
+    /// Until when calls need the content that this call sets, or a content made from it, as far as
+    /// no other call can set these.
     fn until(&self, place: usize, content: usize) -> u32 {
         let mut until = self.now;
         let mut begin = self.now;

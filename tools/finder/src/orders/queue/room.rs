@@ -13,7 +13,8 @@ pub struct Room {
     counts: Option<Counts>,
 }
 
-/// How many puts of this value, which are numbered by rising value and begin, begin before this moment.
+/// How many puts of this value, which are numbered by rising value and begin, begin before this
+/// moment.
 fn puts_before(begins: &[(usize, u32)], value: usize, moment: u32) -> usize {
     let smaller = begins.partition_point(|put| put.0 < value);
     begins[smaller..].partition_point(|put| *put < (value, moment))

@@ -1,10 +1,10 @@
 //! Values of a stack that pending pops take.
 //!
 //! All other values are ordered first. In that order each value that pending pops may take is put
-//! where the fewest values are in the stack, of the places that its put may have. There it
-//! cannot affect any call until the stack gets lower than that, or nothing is found: just before that
-//! it must be gone. The values are gone by the pending pops in the order of these moments, the pop that
-//! begins first at the first. No other choice of pops could do more for these places.
+//! where the fewest values are in the stack, of the places that its put may have. There it cannot
+//! affect any call until the stack gets lower than that, or nothing is found: just before that it
+//! must be gone. The values are gone by the pending pops in the order of these moments, the pop
+//! that begins first at the first. No other choice of pops could do more for these places.
 
 use super::giving::dues_of;
 use super::ordering::Ordering;

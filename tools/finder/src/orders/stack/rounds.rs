@@ -18,8 +18,9 @@ pub fn rounds_of(residences: &[Residence]) -> usize {
     (MOST_ORDERED / residences.len().max(1)).clamp(1, MOST_ROUNDS)
 }
 
-/// Changes the pops of equal values if values could not be ordered: so that fewer cross if that
-/// is told, and else so that more can be ordered. Whether any was changed.
+/// Changes the pops of equal values, if values could not be ordered: so that fewer cross if
+/// `crossing` asks for that, and otherwise so that more can be ordered. Returns whether any was
+/// changed.
 fn change(
     residences: &mut [Residence],
     stuck: &[Vec<Residence>],

@@ -1,7 +1,7 @@
 //! The steps that led to each state, from which an order is read.
 
-/// A step from one state to the next. States are identified by the steps that led to them, calls by their
-/// places.
+/// A step from one state to the next. States are identified by the steps that led to them, calls by
+/// their places.
 #[derive(Clone, Copy)]
 pub enum Step {
     Begin,

@@ -23,9 +23,12 @@ pub struct Needer {
 }
 
 /// By when a call has taken effect: its end, or the deadline of the call at the place `by`, which
-/// needs what this one set, and so on in a chain. That is so where the calls are over that set the
-/// same before, which they are by `since` for the whole chain. `begin` is when the first call of
-/// the chain begins.
+/// needs what this one set, and so on in a chain. `begin` is when the first call of the chain
+/// begins. The deadline holds only in a part that begins at `since` or later: by then all calls are
+/// over that began before and set the same value as a call of the chain.
+///
+/// A `:cas` from 1 to 2 that returns late, for example, has taken effect when a read of 2 returns,
+/// if no other call can have set 2 for this read.
 #[derive(Clone, Copy)]
 pub struct Deadline {
     pub at: u32,

@@ -26,8 +26,8 @@ fn puts_elsewhere(runs: &Runs, at: usize) -> usize {
     places.map(|place| runs.runs[place].put_count()).sum()
 }
 
-/// The run at this place. If it has no put it comes after the one before it, if that is short: it has
-/// the puts and removals of the value that came right before.
+/// The run at this place. If it has no put it comes after the one before it, if that is short: it
+/// has the puts and removals of the value that came right before.
 fn chain_with_puts(runs: &Runs, place: usize) -> Vec<usize> {
     let run = &runs.runs[place];
     let before = place.checked_sub(1).filter(|_| run.put_count() == 0 && run.since.is_some());
