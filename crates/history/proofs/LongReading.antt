@@ -1,7 +1,6 @@
 -- One map more of a history of any length: its events, and its fault. That is the first fault, since the maps before it
 -- have none, and a fault of the map is neither *too many maps* nor a failed allocation.
-use Rattle.std.proofs.Common.{◌≡◌, ◌+◌, inl, inr, List, [], ◌∷◌, ◌++◌, length, refl, subst}
-use Rattle.std.proofs.Common.{zero-add, arith}
+use Rattle.std.proofs.Common.{◌≡◌, ◌+◌, inl, inr, List, [], ◌∷◌, ◌++◌, length, refl, subst, zero-add, arith}
 use Rattle.std.proofs.lemmas.List.{length-append}
 use Rattle.edn_reader.specs.Datum.{Datum}
 use Rattle.edn.specs.FirstFaults.{IsFirstFaultBy}

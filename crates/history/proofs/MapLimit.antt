@@ -10,8 +10,7 @@ use Rattle.events.specs.declared.event.Event.{Event}
 use Rattle.history.specs.declared.fault.HistoryFaultKind.{HistoryFaultKind}
 use Rattle.history.specs.declared.fault.HistoryFaultKind.TheVariants.{NotAnOperation, TooMany, NoMemory}
 use Rattle.history.specs.Faults.{max_maps, HasGreatObject, IsMapFault, IsHistoryFormFault, HasNoHistoryFault}
-use Rattle.history.specs.Faults.{IsFaultlessAtAnyLength}
-use Rattle.history.specs.Faults.{history_fault_number}
+use Rattle.history.specs.Faults.{IsFaultlessAtAnyLength, history_fault_number}
 use Rattle.history.specs.Denotes.{Denotes, DenotesAtAnyLength}
 use Rattle.history.specs.Seen.{HasFirst, HasNoFault}
 

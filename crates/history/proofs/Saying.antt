@@ -4,8 +4,7 @@ use Rattle.std.proofs.Common.{◌≡◌, ℕ, ℤ, true, false, Option, Some, No
 use Rattle.std.proofs.Common.{ap, ◌∙◌}
 use Rattle.std.specs.Prelude.{option_map, option_and_then}
 use Rattle.edn_reader.specs.Truncation.{integer_in}
-use Rattle.edn_reader.specs.Datum.{boolean, integer, Datum, atom, vector, Items}
-use Rattle.edn_reader.specs.Datum.{no_items, item, Entries}
+use Rattle.edn_reader.specs.Datum.{boolean, integer, Datum, atom, vector, Items, no_items, item, Entries}
 use Rattle.edn_reader.specs.Token.{Token, close_vector, leaf, tokens_of, items_tokens}
 use Rattle.edn_reader.specs.Pieces.{token_buffer_tokens}
 use Rattle.edn_reader.specs.declared.Piece.{Piece}

@@ -20,8 +20,7 @@ use Rattle.refutation.specs.declared.reason.Reason.{Reason}
 use Rattle.refutation.specs.declared.refuting.ReasonAnswer.{ReasonAnswer}
 use Rattle.refutation.specs.declared.refuting.ReasonAnswer.TheVariants.{NoPart, OtherObject}
 use Rattle.refutation.specs.Refutations.{shows_impossible, IfPart, IfShownImpossible, IfNotShown, IsWhyNotShown}
-use Rattle.refutation.specs.Refutations.{IsNamedPart}
-use Rattle.refutation.specs.Refutations.{PartHasNoValidOrder, IsShownBy, IsReasonAnswerOn, IsReasonAnswer}
+use Rattle.refutation.specs.Refutations.{IsNamedPart, PartHasNoValidOrder, IsShownBy, IsReasonAnswerOn, IsReasonAnswer}
 
 pub none_among : (es : List Event) (objects : List ObjectCalls) → All (λ o. o.kind ≡ kind_of_object es o.object) objects
     → All (λ o. calls_of o.ops ≡ calls_on o.object (denoted es)) objects

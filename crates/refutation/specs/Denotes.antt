@@ -11,8 +11,7 @@ use Rattle.edn.specs.Fields.{same_bytes, value_at, natural_in, object_in}
 use Rattle.cuts.specs.declared.keeping.Values.{Values}
 use Rattle.cuts.specs.declared.keeping.Values.TheVariants.{All, Only}
 use Rattle.cuts.specs.declared.cutting.Cut.{Cut}
-use Rattle.cuts.specs.declared.cutting.Cut.TheVariants.{From, Until, Without, Keep, Cell}
-use Rattle.cuts.specs.declared.cutting.Cut.TheVariants.{Entry}
+use Rattle.cuts.specs.declared.cutting.Cut.TheVariants.{From, Until, Without, Keep, Cell, Entry}
 use Rattle.cuts.specs.declared.counting.Counted.{Counted}
 use Rattle.cuts.specs.declared.counting.Counted.TheVariants as counted
 use Rattle.search.specs.declared.trials.TryFirst.{TryFirst}

@@ -9,8 +9,7 @@ use Rattle.edn.specs.Fields.{max_object}
 use Rattle.cuts.specs.declared.keeping.Values.{Values}
 use Rattle.cuts.specs.declared.keeping.Values.TheVariants as values
 use Rattle.cuts.specs.declared.cutting.Cut.{Cut}
-use Rattle.cuts.specs.declared.cutting.Cut.TheVariants.{From, Until, Without, Keep, Cell}
-use Rattle.cuts.specs.declared.cutting.Cut.TheVariants.{Entry}
+use Rattle.cuts.specs.declared.cutting.Cut.TheVariants.{From, Until, Without, Keep, Cell, Entry}
 use Rattle.cuts.specs.declared.counting.Counted.{Counted}
 use Rattle.cuts.specs.declared.counting.Counted.TheVariants as counted
 use Rattle.search.specs.declared.trials.TryFirst.{TryFirst}

@@ -15,8 +15,7 @@ use Rattle.refutation.specs.declared.reason.Basis.TheVariants.{Search, Counting,
 use Rattle.refutation.specs.declared.reason.Reason.{Reason}
 use Rattle.refutation.specs.declared.refuting.WhyNotShown.{WhyNotShown}
 use Rattle.refutation.specs.declared.refuting.WhyNotShown.TheVariants.{Possible, NotExceeded}
-use Rattle.refutation.specs.declared.refuting.WhyNotShown.TheVariants.{OutOfSteps}
-use Rattle.refutation.specs.declared.refuting.WhyNotShown.TheVariants.{NoMemory}
+use Rattle.refutation.specs.declared.refuting.WhyNotShown.TheVariants.{OutOfSteps, NoMemory}
 use Rattle.refutation.specs.declared.refuting.ReasonAnswer.{ReasonAnswer}
 use Rattle.refutation.specs.declared.refuting.ReasonAnswer.TheVariants as refutation
 

@@ -12,8 +12,7 @@ use Rattle.edn_reader.specs.View.{pair_views}
 use Rattle.cuts.specs.declared.keeping.Values.{Values}
 use Rattle.cuts.specs.declared.keeping.Values.TheVariants.{All, Only}
 use Rattle.cuts.specs.declared.cutting.Cut.{Cut}
-use Rattle.cuts.specs.declared.cutting.Cut.TheVariants.{From, Until, Without, Keep, Cell}
-use Rattle.cuts.specs.declared.cutting.Cut.TheVariants.{Entry}
+use Rattle.cuts.specs.declared.cutting.Cut.TheVariants.{From, Until, Without, Keep, Cell, Entry}
 use Rattle.refutation.specs.declared.reason.Basis.{Basis}
 use Rattle.refutation.specs.declared.reason.Basis.TheVariants.{Search, Counting, Ahead}
 use Rattle.refutation.specs.declared.reason.Reason.{Reason}

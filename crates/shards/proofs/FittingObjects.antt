@@ -1,7 +1,6 @@
 -- The objects that are named in maps whose objects fit are told apart in each shard: each named object is that of a
 -- map, since an event is that of a map.
-use Rattle.std.proofs.Common.{◌≡◌, ℕ, ◌+◌, ◌/◌, ◌<◌, inl, inr, List, [], ◌∷◌, All, Option, Some, None}
-use Rattle.std.proofs.Common.{refl}
+use Rattle.std.proofs.Common.{◌≡◌, ℕ, ◌+◌, ◌/◌, ◌<◌, inl, inr, List, [], ◌∷◌, All, Option, Some, None, refl}
 use Rattle.model.specs.Lists.{In}
 use Rattle.model.proofs.Lists.{in_append, in_from_contains}
 use Rattle.std.proofs.lemmas.List.Elements.{All-head, All-map, All-tail}

@@ -9,8 +9,7 @@ use Rattle.shards.specs.declared.waiting.Waiting.{Waiting}
 use Rattle.shards.specs.Dividing.{Files}
 use Rattle.shards.specs.Folders.{AddsFiles, lines_for}
 use Rattle.shards.specs.ShardTexts.{SpelledMap}
-use Rattle.shards.specs.Taking.{AreMapsTaken, AreTakenAfter, Flushes, no_lines, with_more}
-use Rattle.shards.specs.Taking.{maps_in}
+use Rattle.shards.specs.Taking.{AreMapsTaken, AreTakenAfter, Flushes, no_lines, with_more, maps_in}
 use Rattle.shards.proofs.WaitingLines.{at, at_written, at_others, at_read}
 
 -- ---- files

@@ -12,8 +12,7 @@ use Rattle.model.specs.Orders.{Numbered, events}
 use Rattle.model.specs.Lists.{In}
 use Rattle.events.specs.declared.event.Action.{Action}
 use Rattle.events.specs.declared.event.Event.{Event}
-use Rattle.events.specs.Events.{next_event, is_fail, fails, denoted_by, denoted, kind_by, kind_of_object}
-use Rattle.events.specs.Events.{IsProper}
+use Rattle.events.specs.Events.{next_event, is_fail, fails, denoted_by, denoted, kind_by, kind_of_object, IsProper}
 use Rattle.events.proofs.ProcessRuns.{State, idle, state_by, MayDo, Runs, runs_from_start}
 use Rattle.shards.specs.Shards.{said, AreRenumbered, DenoteLinearizable}
 use Rattle.shards.proofs.Proper.{proper_of_kinds, proper_from}

@@ -29,8 +29,7 @@ use Rattle.shards.specs.Dividing.{table_text}
 use Rattle.history.specs.Faults.{IsFaultlessAtAnyLength}
 use Rattle.shards.specs.SplitFaults.{IsFoundAmong, NeedsMoreShards, most_maps}
 use Rattle.shards.specs.Taking.{AddsLine, AddsMap, AreMapsTaken, AreTakenOf, AreTakenWith, IsMapFoundAmong}
-use Rattle.shards.specs.Taking.{IsPieceFault}
-use Rattle.shards.specs.Taking.{forms_of, waiting_maps, waiting_places}
+use Rattle.shards.specs.Taking.{IsPieceFault, forms_of, waiting_maps, waiting_places}
 use Rattle.shards.specs.Tallies.{CountsOne}
 use Rattle.shards.proofs.BareMaps.{bare_spells}
 use Rattle.shards.proofs.LinesMore.{lines_push, table_push, filter_kept, filter_left, places_kept, places_left}

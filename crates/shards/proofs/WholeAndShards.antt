@@ -1,7 +1,6 @@
 -- A whole is linearizable exactly where each shard is: by locality and its converse, since an object has the same calls
 -- and the same kind in its shard as in the whole, and so the same valid orders, whatever its name is there.
-use Rattle.std.proofs.Common.{◌≡◌, ◌↔◌, ℕ, ◌==◌, Bool, true, List, [], ◌∷◌}
-use Rattle.std.proofs.Common.{refl, ap, sym, ◌∙◌, arith}
+use Rattle.std.proofs.Common.{◌≡◌, ◌↔◌, ℕ, ◌==◌, Bool, true, List, [], ◌∷◌, refl, ap, sym, ◌∙◌, arith}
 use Rattle.std.proofs.lemmas.Bool.{eq-eqb}
 use Rattle.std.proofs.lemmas.Bool.Decides.{nat_tests}
 use Rattle.model.specs.Orders.{calls_on}
@@ -16,8 +15,7 @@ use Rattle.shards.specs.Shards.{events_on, renamed, AreApart, AreShards, DenoteL
 use Rattle.shards.proofs.Naming.{named_on}
 use Rattle.shards.proofs.Proper.{proper_on}
 use Rattle.shards.proofs.RenamedObjects.{HaveOwnNames, OrderedAt, linearizable_by, ordered_same, orders_of}
-use Rattle.shards.proofs.RenamedObjects.{renamed_proper}
-use Rattle.shards.proofs.RenamedObjects.{renamed_linearizable, linearizable_renamed}
+use Rattle.shards.proofs.RenamedObjects.{renamed_proper, renamed_linearizable, linearizable_renamed}
 use Rattle.shards.proofs.Renumbered.{same_from, proper_renumbered, linearizable_same}
 
 -- an object has the same calls among the events on objects with it

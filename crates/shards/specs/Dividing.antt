@@ -1,8 +1,7 @@
 -- A history of any length that is divided into a number of shards: the text of each, and a table of
 -- the numbers that its maps have in the whole.
-use Rattle.std.specs.Prelude.{◌≡◌, ℕ, ◌+◌, ◌-◌, ◌*◌, ◌/◌, ◌%◌, ◌==◌, Bool, List, [], ◌∷◌, ◌++◌}
-use Rattle.std.specs.Prelude.{◌<◌, Some, decimal, map}
-use Rattle.std.specs.Prelude.{if◌then◌else◌, get_or}
+use Rattle.std.specs.Prelude.{◌≡◌, ℕ, ◌+◌, ◌-◌, ◌*◌, ◌/◌, ◌%◌, ◌==◌, Bool, List, [], ◌∷◌, ◌++◌, ◌<◌}
+use Rattle.std.specs.Prelude.{Some, decimal, map, if◌then◌else◌, get_or}
 use Rattle.edn_reader.specs.Datum.{Datum}
 use Rattle.events.specs.declared.event.Event.{Event}
 use Rattle.shards.specs.Forms.{is_on}

@@ -28,8 +28,7 @@ use Rattle.transcript.proofs.CallsInTurn.{no_return}
 use Rattle.transcript.specs.declared.line.Call.{Call}
 use Rattle.transcript.specs.declared.line.Line.{Line}
 use Rattle.transcript.specs.Lines.{call_after, event_of_journal, line_with, journal_lines_from, journal_lines, lines_in}
-use Rattle.transcript.specs.Lines.{AreLinesOf}
-use Rattle.transcript.specs.Lines.{events_in}
+use Rattle.transcript.specs.Lines.{AreLinesOf, events_in}
 
 abbrev number_in : Line → ℕ
 number_in l = l.event.number

@@ -29,8 +29,7 @@ use Rattle.history.specs.declared.fault.HistoryFaultKind.TheVariants.{Busy, Stra
 use Rattle.history.specs.declared.fault.HistoryFaultKind.TheVariants.{NoMemory}
 use Rattle.history.specs.Maps.{ClientMap, invoke, info, client_of, clients}
 use Rattle.history.specs.Faults.{last_map, HasBadValue, ClientFault, HasNoHistoryFault, IsFaultlessAtAnyLength}
-use Rattle.history.specs.Faults.{HasOngoing}
-use Rattle.history.specs.Faults.{IsProcessClosed}
+use Rattle.history.specs.Faults.{HasOngoing, IsProcessClosed}
 use Rattle.history.specs.Denotes.{action_of, event_of_map, event_of, events_of_forms}
 use Rattle.history.proofs.MapLimit.{IsSmall, faultless_within}
 use Rattle.history.proofs.OneMore.{fault_of}

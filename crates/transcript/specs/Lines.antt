@@ -2,15 +2,13 @@
 use Rattle.std.specs.Prelude.{◌≡◌, ℕ, ◌+◌, ◌<◌, ◌==◌, false, true, pos, List, [], ◌∷◌, ◌++◌}
 use Rattle.std.specs.Prelude.{Option, Some, None, AllPairs, filter, map, codes}
 use Rattle.edn_reader.specs.Datum.{Datum, nil, boolean, integer, keyword, atom, vector, dictionary}
-use Rattle.edn_reader.specs.Datum.{item}
-use Rattle.edn_reader.specs.Datum.{no_items, entry, no_entries}
+use Rattle.edn_reader.specs.Datum.{item, no_items, entry, no_entries}
 use Rattle.edn_reader.specs.Text as edn
 use Rattle.model.specs.declared.AnyOp.{AnyOp}
 use Rattle.seq_objects.specs.Functions.{name_of}
 use Rattle.seq_objects.specs.Values.{function_in, op_value, reply_value}
 use Rattle.seq_objects.specs.declared.value.Value.{Value}
-use Rattle.seq_objects.specs.declared.value.Value.TheVariants.{Nil, False, True, Int, Pair}
-use Rattle.seq_objects.specs.declared.value.Value.TheVariants.{Triple}
+use Rattle.seq_objects.specs.declared.value.Value.TheVariants.{Nil, False, True, Int, Pair, Triple}
 use Rattle.desk_model.specs.declared.JournalEvent.TheVariants.{Invoked, Returned}
 use Rattle.desk_model.specs.World.{AnyEvent}
 use Rattle.events.specs.declared.event.Action.{Action}

@@ -4,8 +4,7 @@ use Rattle.std.specs.Fmt.{signed_decimal}
 use Rattle.seq_objects.specs.Functions.{name_of}
 use Rattle.seq_objects.specs.Values.{function_in}
 use Rattle.seq_objects.specs.declared.value.Value.{Value}
-use Rattle.seq_objects.specs.declared.value.Value.TheVariants.{Nil, False, True, Int, Pair}
-use Rattle.seq_objects.specs.declared.value.Value.TheVariants.{Triple}
+use Rattle.seq_objects.specs.declared.value.Value.TheVariants.{Nil, False, True, Int, Pair, Triple}
 use Rattle.transcript.specs.declared.line.Line.{Line}
 use Rattle.transcript.specs.Lines.{type_of, map_value}
 
