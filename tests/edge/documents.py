@@ -345,17 +345,20 @@ def head_of(text):
     return " ".join(re.match(r"(?:-- .*\n)*", text)[0].replace("-- ", "").split("\n"))
 
 
+# What a head has that also says how: a second sentence, or the rest of one after a colon or the word by.
+HOW = re.compile(r"[.:] \S|, by ")
 # The heading of a section of a file of proofs.
 SECTION = re.compile(r"^ *-- ---- \S", re.M)
 
 
 def heads_of_proofs(program, report):
-    """Each file of proofs with 40 lines or more begins with a comment, which says what is proved and how: it is no mere title. Each with 200 lines or
-    more has at least two sections with headings."""
+    """Each file of proofs with 40 lines or more begins with a comment, which says what is proved and how: it has 60 characters or more, and two
+    sentences, or the how after a colon or the word by. Each with 200 lines or more has at least two sections with headings."""
     texts = {os.path.relpath(path, ROOT): read(path) for path in glob.glob(f"{ROOT}/crates/*/proofs/**/*.antt", recursive=True)}
     report.holds("heads_of_proofs: there are files", texts)
     long = {path: text for path, text in sorted(texts.items()) if text.count("\n") >= 40 and not path.endswith("/Lib.antt")}
-    report.equal("heads_of_proofs: files whose head is missing or a mere title", [], [path for path, text in long.items() if len(head_of(text)) < 60])
+    short = [path for path, text in long.items() if len(head_of(text)) < 60 or not HOW.search(head_of(text).strip())]
+    report.equal("heads_of_proofs: files whose head is missing, or does not say how", [], short)
     lacks = [path for path, text in long.items() if text.count("\n") >= 200 and len(SECTION.findall(text)) < 2]
     report.equal("heads_of_proofs: files of 200 lines or more without two headings", [], lacks)
 
