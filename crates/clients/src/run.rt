@@ -27,7 +27,7 @@ pub enum RunFault {
 }
 
 impl From<AllocError> for RunFault {
-    ghost use Rattle.clients.specs.declared.run.RunFault.TheVariants.{NoMemory, NoThread};
+    ghost use Rattle.clients.specs.declared.run.RunFault.TheVariants.{NoMemory};
 
     ghost from_gives = { λ _ e. e ≡ NoMemory };
 
@@ -37,6 +37,8 @@ impl From<AllocError> for RunFault {
 }
 
 impl<F: Drop> From<SpawnError<F>> for RunFault {
+    ghost use Rattle.clients.specs.declared.run.RunFault.TheVariants.{NoThread};
+
     ghost from_gives = { λ _ e. e ≡ NoThread };
 
     fn from(_refused: SpawnError<F>) -> RunFault {

@@ -71,8 +71,8 @@ pub struct In<D: Supply + Drop> {
 }
 
 impl<D: Supply + Drop> In<D> {
-    ghost use Rattle.edn.specs.Ins.{has_failed_in, failure_in, is_allocation_failure, supply_of};
-    ghost use Rattle.edn.specs.Ins.{IsFailedRead};
+    ghost use Rattle.edn.specs.Ins.{has_failed_in, failure_in, is_allocation_failure};
+    ghost use Rattle.edn.specs.Ins.{supply_of};
 
     pub fn new(supply: D) -> In<D>
         ensures usable { has_failed_in result ≡ false }
@@ -101,6 +101,8 @@ impl<D: Supply + Drop> In<D> {
 }
 
 impl<D: Supply + Drop> Source for In<D> {
+    ghost use Rattle.edn.specs.Ins.{has_failed_in, supply_of, IsFailedRead};
+
     ghost remaining = { λ s. D.contents (supply_of s) };
 
     ghost broken = { λ s. has_failed_in s };

@@ -41,7 +41,7 @@ pub enum FaultKind {
 }
 
 impl FaultKind {
-    ghost use Rattle.edn_reader.specs.Faults.{number_of, text_of_kind};
+    ghost use Rattle.edn_reader.specs.Faults.{number_of};
 
     /// The number after the letter E.
     pub fn number(self) -> u8
@@ -64,6 +64,8 @@ impl FaultKind {
 }
 
 impl fmt::Display for FaultKind {
+    ghost use Rattle.edn_reader.specs.Faults.{text_of_kind};
+
     ghost output = { λ k. Some (text_of_kind k) };
 
     fn fmt<W: fmt::Write>(&self, f: &mut fmt::Formatter<W>) -> fmt::Result {
@@ -80,6 +82,8 @@ pub struct EdnFault {
 }
 
 impl fmt::Display for EdnFault {
+    ghost use Rattle.edn_reader.specs.Faults.{text_of_kind};
+
     ghost output = { λ f. Some (text_of_kind f.kind ++ codes " at byte " ++ decimal f.place) };
 
     fn fmt<W: fmt::Write>(&self, f: &mut fmt::Formatter<W>) -> fmt::Result {
@@ -133,6 +137,8 @@ impl From<AllocError> for Cause {
 }
 
 impl<T: Drop> From<AllocFailed<T>> for Cause {
+    ghost use Rattle.edn_reader.specs.declared.fault.Cause.TheVariants.{NoMemory};
+
     ghost from_gives = { λ _ e. e ≡ NoMemory };
 
     fn from(_e: AllocFailed<T>) -> Cause {

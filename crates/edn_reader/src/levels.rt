@@ -90,9 +90,9 @@ fn set_of<'a>(alloc: Global, names: &[&'a str]) -> Result<HashSet<&'a str>, Allo
 }
 
 impl<'a> Keys<'a> {
-    ghost use Rattle.std.specs.Prelude.{Some, None, ◌++◌, ◌∷◌, ◌==◌, length};
+    ghost use Rattle.std.specs.Prelude.{Some, None, ◌++◌, ◌∷◌};
     ghost use Rattle.edn_reader.specs.Results.{Becomes};
-    ghost use Rattle.edn_reader.specs.Levels.{keys_shape, level_shape, levels_shapes, within};
+    ghost use Rattle.edn_reader.specs.Levels.{keys_shape};
 
     /// No keys yet. `room` is emptied, and its memory is used again.
     fn new(mut room: Vec<&'a str>) -> Keys<'a>
@@ -248,6 +248,10 @@ impl<'a> Keys<'a> {
 }
 
 impl<'a> Level<'a> {
+    ghost use Rattle.std.specs.Prelude.{Some};
+    ghost use Rattle.edn_reader.specs.Results.{Becomes};
+    ghost use Rattle.edn_reader.specs.Levels.{level_shape};
+
     /// Takes in a value that is no keyword.
     #[inline]
     fn put_value(&mut self) -> Result<(), Cause>
@@ -286,6 +290,9 @@ impl<'a> Level<'a> {
 }
 
 impl<'a> Levels<'a> {
+    ghost use Rattle.std.specs.Prelude.{Some, ◌==◌, length};
+    ghost use Rattle.edn_reader.specs.Results.{Becomes};
+    ghost use Rattle.edn_reader.specs.Levels.{level_shape, levels_shapes, within};
     ghost use Rattle.edn_reader.specs.Pieces.{piece_token};
 
     /// Nothing is open but the text.

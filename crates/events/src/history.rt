@@ -16,7 +16,7 @@ pub struct History {
 impl Model for History {
     ghost use Rattle.std.specs.Prelude.{List};
     ghost use Rattle.events.specs.declared.event.Event.{Event};
-    ghost use Rattle.events.specs.Events.{IsProper, denoted};
+    ghost use Rattle.events.specs.Events.{IsProper};
 
     ghost Value = { List Event };
 
@@ -26,6 +26,7 @@ impl Model for History {
 }
 
 impl History {
+    ghost use Rattle.events.specs.Events.{IsProper, denoted};
     ghost use Rattle.model.specs.Orders.{IsHistory};
 
     /// The history of these events.

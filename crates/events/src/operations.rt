@@ -24,7 +24,7 @@ fn is_same(left: AnyReply, right: AnyReply) -> bool
 
 impl End {
     ghost use Rattle.std.specs.Prelude.{is_some};
-    ghost use Rattle.events.specs.Operations.{return_of, Agrees, ReplyDiffers, ObjectCalls};
+    ghost use Rattle.events.specs.Operations.{return_of, Agrees, ReplyDiffers};
 
     /// Whether the operation returned.
     pub fn has_returned(&self) -> bool
@@ -63,7 +63,7 @@ pub struct ObjectHistory {
 }
 
 impl Model for ObjectHistory {
-    ghost use Rattle.events.specs.Operations.{IsObjectHistory};
+    ghost use Rattle.events.specs.Operations.{ObjectCalls, IsObjectHistory};
 
     ghost Value = { ObjectCalls };
 
@@ -74,6 +74,8 @@ impl Model for ObjectHistory {
 }
 
 impl ObjectHistory {
+    ghost use Rattle.events.specs.Operations.{IsObjectHistory};
+
     pub fn new(object: u32, kind: Kind, ops: Vec<Invocation>) -> ObjectHistory
         requires { IsObjectHistory (record { object = object; kind = kind; ops = ops.items }) }
         ensures { result ≡ record { object = object; kind = kind; ops = ops.items } }

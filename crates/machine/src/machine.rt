@@ -25,9 +25,9 @@ pub struct Machine<S: SeqObject> {
 }
 
 impl<S: SeqObject> Model for Machine<S> {
-    ghost use Rattle.std.specs.Prelude.{map, OnOk};
+    ghost use Rattle.std.specs.Prelude.{map};
     ghost use Rattle.recorder.specs.Records.{items_of_each};
-    ghost use Rattle.machine.specs.Machines.{State, IsMachine, state_of, HasRun, world_of};
+    ghost use Rattle.machine.specs.Machines.{State, IsMachine, state_of};
 
     ghost Value = { State };
 
@@ -41,6 +41,8 @@ impl<S: SeqObject> Model for Machine<S> {
 }
 
 impl<S: SeqObject> Machine<S> {
+    ghost use Rattle.std.specs.Prelude.{OnOk};
+    ghost use Rattle.machine.specs.Machines.{HasRun, world_of};
     ghost use Rattle.machine.specs.Runs.{IsImpossible};
     ghost use Rattle.machine.specs.Steps.{IsStepTaken, IsOutcome, IsDraw, IsPossible, step_in};
 

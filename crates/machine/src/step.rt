@@ -57,6 +57,9 @@ impl From<AllocError> for StepFault {
 }
 
 impl<T: Drop> From<AllocFailed<T>> for StepFault {
+    ghost use Rattle.std.specs.Prelude.{◌≡◌};
+    ghost use Rattle.machine.specs.declared.step.StepFault.TheVariants.{NoMemory};
+
     ghost from_gives = { λ _ e. e ≡ NoMemory };
 
     fn from(_refused: AllocFailed<T>) -> StepFault {

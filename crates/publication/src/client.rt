@@ -25,7 +25,7 @@ pub(crate) struct Places {
 }
 
 impl Model for Places {
-    ghost use Rattle.std.specs.Prelude.{◌≡◌, List, length, map};
+    ghost use Rattle.std.specs.Prelude.{◌≡◌, List, length};
     ghost use Rattle.publication_list.specs.Calls.{PlaceSeen};
     ghost use Rattle.desk_model.specs.Limits.{max_objects};
 
@@ -176,7 +176,8 @@ pub struct Client<S: SeqObject> {
 }
 
 impl<S: SeqObject> Model for Client<S> {
-    ghost use Rattle.publication.specs.Handles.{Known, IsClient, ArePlacesOf, Holding, IsPass};
+    ghost use Rattle.std.specs.Prelude.{map};
+    ghost use Rattle.publication.specs.Handles.{Known, IsClient, ArePlacesOf};
 
     ghost Value = { Known };
 
@@ -206,7 +207,8 @@ pub struct Pass<S: SeqObject> {
 }
 
 impl<S: SeqObject> Model for Pass<S> {
-    ghost use Rattle.publication.specs.Handles.{log_of, state_of, Handling, IsHand};
+    ghost use Rattle.std.specs.Prelude.{map};
+    ghost use Rattle.publication.specs.Handles.{Holding, IsPass, ArePlacesOf, log_of, state_of};
 
     ghost Value = { Holding };
 
@@ -241,6 +243,8 @@ pub struct Hand<S: SeqObject> {
 
 impl<S: SeqObject> Model for Hand<S> {
     ghost use Rattle.desk_model.specs.Images.{request_in};
+    ghost use Rattle.std.specs.Prelude.{map};
+    ghost use Rattle.publication.specs.Handles.{Handling, IsHand, ArePlacesOf, log_of, state_of};
 
     ghost Value = { Handling };
 

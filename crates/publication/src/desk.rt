@@ -115,8 +115,9 @@ pub enum Picked<S: SeqObject> {
 
 impl<S: SeqObject> Desk<S> {
     ghost use Rattle.publication.specs.Calls.{IsNotOfKind, MayPost, IsPosted, IsPostRefusal};
-    ghost use Rattle.publication.specs.Calls.{IsPollAnswer, IsPollMiss, IsWon, desk_after_win};
-    ghost use Rattle.publication.specs.Calls.{places_after_win, IfWon, IfHeld};
+    ghost use Rattle.publication.specs.Calls.{IsPollAnswer};
+    ghost use Rattle.publication.specs.Calls.{IsPollMiss, IsWon, desk_after_win, places_after_win};
+    ghost use Rattle.publication.specs.Calls.{IfWon, IfHeld};
 
     /// How many objects there are.
     pub fn objects(&self) -> u32

@@ -7,7 +7,7 @@ use seq_objects::SeqObject;
 pub(crate) struct LooksAtLock;
 
 impl<S: SeqObject> Play<Slot<S, S::Op, S::Reply>, DeskView> for LooksAtLock {
-    ghost use Rattle.desk_invariant.specs.Plays.{looks_at_lock, wins, releases, looks_at_row};
+    ghost use Rattle.desk_invariant.specs.Plays.{looks_at_lock};
 
     ghost then = { looks_at_lock S.content S.op_in S.reply_in };
 }
@@ -15,7 +15,7 @@ impl<S: SeqObject> Play<Slot<S, S::Op, S::Reply>, DeskView> for LooksAtLock {
 pub(crate) struct Wins;
 
 impl<S: SeqObject> Play<Slot<S, S::Op, S::Reply>, DeskView> for Wins {
-    ghost use Rattle.desk_invariant.specs.Plays.{picks, answers, puts_back, draws, posts};
+    ghost use Rattle.desk_invariant.specs.Plays.{wins};
 
     ghost then = { wins S.content S.op_in S.reply_in };
 }
@@ -23,7 +23,7 @@ impl<S: SeqObject> Play<Slot<S, S::Op, S::Reply>, DeskView> for Wins {
 pub(crate) struct Releases;
 
 impl<S: SeqObject> Play<Slot<S, S::Op, S::Reply>, DeskView> for Releases {
-    ghost use Rattle.desk_invariant.specs.Plays.{looks_for_answer, takes_answer, returns, begins};
+    ghost use Rattle.desk_invariant.specs.Plays.{releases};
 
     ghost then = { releases S.content S.op_in S.reply_in };
 }
@@ -31,7 +31,7 @@ impl<S: SeqObject> Play<Slot<S, S::Op, S::Reply>, DeskView> for Releases {
 pub(crate) struct LooksAtRow;
 
 impl<S: SeqObject> Play<Slot<S, S::Op, S::Reply>, DeskView> for LooksAtRow {
-    ghost use Rattle.desk_invariant.specs.Plays.{learns, adopts, ends, sees_end};
+    ghost use Rattle.desk_invariant.specs.Plays.{looks_at_row};
 
     ghost then = { looks_at_row S.content S.op_in S.reply_in };
 }
@@ -39,78 +39,104 @@ impl<S: SeqObject> Play<Slot<S, S::Op, S::Reply>, DeskView> for LooksAtRow {
 pub(crate) struct Picks;
 
 impl<S: SeqObject> Play<Slot<S, S::Op, S::Reply>, DeskView> for Picks {
+    ghost use Rattle.desk_invariant.specs.Plays.{picks};
+
     ghost then = { picks S.content S.op_in S.reply_in };
 }
 
 pub(crate) struct Answers;
 
 impl<S: SeqObject> Play<Slot<S, S::Op, S::Reply>, DeskView> for Answers {
+    ghost use Rattle.desk_invariant.specs.Plays.{answers};
+
     ghost then = { answers S.content S.op_in S.reply_in };
 }
 
 pub(crate) struct PutsBack;
 
 impl<S: SeqObject> Play<Slot<S, S::Op, S::Reply>, DeskView> for PutsBack {
+    ghost use Rattle.desk_invariant.specs.Plays.{puts_back};
+
     ghost then = { puts_back S.content S.op_in S.reply_in };
 }
 
 pub(crate) struct Draws;
 
 impl<S: SeqObject> Play<Slot<S, S::Op, S::Reply>, DeskView> for Draws {
+    ghost use Rattle.desk_invariant.specs.Plays.{draws};
+
     ghost then = { draws S.content S.op_in S.reply_in };
 }
 
 pub(crate) struct Posts;
 
 impl<S: SeqObject> Play<Slot<S, S::Op, S::Reply>, DeskView> for Posts {
+    ghost use Rattle.desk_invariant.specs.Plays.{posts};
+
     ghost then = { posts S.content S.op_in S.reply_in };
 }
 
 pub(crate) struct LooksForAnswer;
 
 impl<S: SeqObject> Play<Slot<S, S::Op, S::Reply>, DeskView> for LooksForAnswer {
+    ghost use Rattle.desk_invariant.specs.Plays.{looks_for_answer};
+
     ghost then = { looks_for_answer S.content S.op_in S.reply_in };
 }
 
 pub(crate) struct Takes;
 
 impl<S: SeqObject> Play<Slot<S, S::Op, S::Reply>, DeskView> for Takes {
+    ghost use Rattle.desk_invariant.specs.Plays.{takes_answer};
+
     ghost then = { takes_answer S.content S.op_in S.reply_in };
 }
 
 pub(crate) struct Returns;
 
 impl<S: SeqObject> Play<Slot<S, S::Op, S::Reply>, DeskView> for Returns {
+    ghost use Rattle.desk_invariant.specs.Plays.{returns};
+
     ghost then = { returns S.content S.op_in S.reply_in };
 }
 
 pub(crate) struct Begins;
 
 impl<S: SeqObject> Play<Slot<S, S::Op, S::Reply>, DeskView> for Begins {
+    ghost use Rattle.desk_invariant.specs.Plays.{begins};
+
     ghost then = { begins S.content S.op_in S.reply_in };
 }
 
 pub(crate) struct Learns;
 
 impl<S: SeqObject> Play<Slot<S, S::Op, S::Reply>, DeskView> for Learns {
+    ghost use Rattle.desk_invariant.specs.Plays.{learns};
+
     ghost then = { learns S.content S.op_in S.reply_in };
 }
 
 pub(crate) struct Adopts;
 
 impl<S: SeqObject> Play<Slot<S, S::Op, S::Reply>, DeskView> for Adopts {
+    ghost use Rattle.desk_invariant.specs.Plays.{adopts};
+
     ghost then = { adopts S.content S.op_in S.reply_in };
 }
 
 pub(crate) struct Ends;
 
 impl<S: SeqObject> Play<Slot<S, S::Op, S::Reply>, DeskView> for Ends {
+    ghost use Rattle.desk_invariant.specs.Plays.{ends};
+
     ghost then = { ends S.content S.op_in S.reply_in };
 }
 
 pub(crate) struct SeesEnd;
 
 impl<S: SeqObject> Play<Slot<S, S::Op, S::Reply>, DeskView> for SeesEnd {
+    ghost use Rattle.desk_invariant.specs.Plays.{sees_end};
+
     ghost then = { sees_end S.content S.op_in S.reply_in };
 }
 
@@ -118,7 +144,7 @@ impl<S: SeqObject> Play<Slot<S, S::Op, S::Reply>, DeskView> for SeesEnd {
 pub(crate) struct SendsEnd;
 
 impl Split<DeskView> for SendsEnd {
-    ghost use Rattle.desk_invariant.specs.Views.{end_message, after_notice, empty_message};
+    ghost use Rattle.desk_invariant.specs.Views.{end_message};
 
     ghost left = { λ v. v };
 
@@ -128,7 +154,7 @@ impl Split<DeskView> for SendsEnd {
 pub(crate) struct TakesNotice;
 
 impl Join<DeskView> for TakesNotice {
-    ghost use Rattle.desk_invariant.specs.Views.{after_making, new_client, seen_message};
+    ghost use Rattle.desk_invariant.specs.Views.{after_notice, empty_message};
 
     ghost both = { λ v t. after_notice t.left v };
 
@@ -139,7 +165,7 @@ impl Join<DeskView> for TakesNotice {
 pub(crate) struct Makes;
 
 impl Split<DeskView> for Makes {
-    ghost use Rattle.desk_invariant.specs.Views.{after_message};
+    ghost use Rattle.desk_invariant.specs.Views.{after_making, new_client};
 
     ghost left = { after_making };
 
@@ -150,6 +176,8 @@ impl Split<DeskView> for Makes {
 pub(crate) struct SendsSeen;
 
 impl Split<DeskView> for SendsSeen {
+    ghost use Rattle.desk_invariant.specs.Views.{seen_message};
+
     ghost left = { λ v. v };
 
     ghost right = { seen_message };
@@ -158,6 +186,8 @@ impl Split<DeskView> for SendsSeen {
 pub(crate) struct TakesMessage;
 
 impl Join<DeskView> for TakesMessage {
+    ghost use Rattle.desk_invariant.specs.Views.{after_message, empty_message};
+
     ghost both = { after_message };
 
     ghost spent = { empty_message };

@@ -6,7 +6,7 @@ use atomic_table::{Play, Split};
 pub(crate) struct Sees;
 
 impl Play<u64, ListView> for Sees {
-    ghost use Rattle.publication_list.specs.Plays.{sees, looks, wakes, links, enlists, meets};
+    ghost use Rattle.publication_list.specs.Plays.{sees};
 
     ghost then = { sees };
 }
@@ -14,7 +14,7 @@ impl Play<u64, ListView> for Sees {
 pub(crate) struct Looks;
 
 impl Play<u64, ListView> for Looks {
-    ghost use Rattle.publication_list.specs.Plays.{follows, unlinks, sleeps, after_making};
+    ghost use Rattle.publication_list.specs.Plays.{looks};
 
     ghost then = { looks };
 }
@@ -22,7 +22,7 @@ impl Play<u64, ListView> for Looks {
 pub(crate) struct Wakes;
 
 impl Play<u64, ListView> for Wakes {
-    ghost use Rattle.publication_list.specs.Plays.{new_place};
+    ghost use Rattle.publication_list.specs.Plays.{wakes};
 
     ghost then = { wakes };
 }
@@ -30,36 +30,48 @@ impl Play<u64, ListView> for Wakes {
 pub(crate) struct Links;
 
 impl Play<u64, ListView> for Links {
+    ghost use Rattle.publication_list.specs.Plays.{links};
+
     ghost then = { links };
 }
 
 pub(crate) struct Enlists;
 
 impl Play<u64, ListView> for Enlists {
+    ghost use Rattle.publication_list.specs.Plays.{enlists};
+
     ghost then = { enlists };
 }
 
 pub(crate) struct Meets;
 
 impl Play<u64, ListView> for Meets {
+    ghost use Rattle.publication_list.specs.Plays.{meets};
+
     ghost then = { meets };
 }
 
 pub(crate) struct Follows;
 
 impl Play<u64, ListView> for Follows {
+    ghost use Rattle.publication_list.specs.Plays.{follows};
+
     ghost then = { follows };
 }
 
 pub(crate) struct Unlinks;
 
 impl Play<u64, ListView> for Unlinks {
+    ghost use Rattle.publication_list.specs.Plays.{unlinks};
+
     ghost then = { unlinks };
 }
 
 pub(crate) struct Sleeps;
 
 impl Play<u64, ListView> for Sleeps {
+    ghost use Rattle.publication_list.specs.Plays.{sleeps};
+
     ghost then = { sleeps };
 }
 
@@ -67,6 +79,8 @@ impl Play<u64, ListView> for Sleeps {
 pub(crate) struct Makes;
 
 impl Split<ListView> for Makes {
+    ghost use Rattle.publication_list.specs.Plays.{after_making, new_place};
+
     ghost left = { after_making };
 
     ghost right = { new_place };

@@ -35,7 +35,8 @@ pub struct SharedPlace {
 
 impl Model for SharedPlace {
     ghost use Rattle.std.specs.Prelude.{◌≡◌};
-    ghost use Rattle.publication_list.specs.Calls.{PlaceSeen, WalkerSeen};
+    ghost use Rattle.std.specs.Arc.{arc_value};
+    ghost use Rattle.publication_list.specs.Calls.{PlaceSeen};
 
     ghost Value = { PlaceSeen };
 
@@ -61,6 +62,10 @@ pub struct SharedWalker {
 }
 
 impl Model for SharedWalker {
+    ghost use Rattle.std.specs.Prelude.{◌≡◌};
+    ghost use Rattle.std.specs.Arc.{arc_value};
+    ghost use Rattle.publication_list.specs.Calls.{WalkerSeen};
+
     ghost Value = { WalkerSeen };
 
     ghost view = { λ w. w.walker };

@@ -18,7 +18,7 @@ pub struct Record<S: SeqObject> {
 
 impl<S: SeqObject> Model for Record<S> {
     ghost use Rattle.std.specs.Prelude.{length};
-    ghost use Rattle.recorder.specs.Records.{Recorded, recorded, items_of_each};
+    ghost use Rattle.recorder.specs.Records.{Recorded, recorded};
     ghost use Rattle.recorder.specs.Histories.{IsRecordOf};
 
     ghost Value = { Recorded S.Op S.Reply };
@@ -30,6 +30,9 @@ impl<S: SeqObject> Model for Record<S> {
 }
 
 impl<S: SeqObject> Record<S> {
+    ghost use Rattle.recorder.specs.Records.{items_of_each, recorded};
+    ghost use Rattle.recorder.specs.Histories.{IsRecordOf};
+
     /// Makes a record of these journals and logs.
     pub fn new(
         journals: Vec<Vec<JournalEvent<S::Op, S::Reply>>>,

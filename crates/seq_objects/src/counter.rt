@@ -38,7 +38,7 @@ pub struct Counter {
 }
 
 impl Model for Counter {
-    ghost use Rattle.std.specs.Prelude.{ℤ, Some};
+    ghost use Rattle.std.specs.Prelude.{ℤ};
 
     ghost Value = { ℤ };
 
@@ -55,8 +55,10 @@ impl Counter {
 }
 
 impl SeqObject for Counter {
+    ghost use Rattle.std.specs.Prelude.{Some};
     ghost use Rattle.model.specs.Objects.{count};
     ghost use Rattle.model.specs.declared.AnyReply.TheVariants.{Value};
+    ghost use Rattle.seq_objects.specs.Operations.{counter_op};
 
     type Op = CounterOp;
 

@@ -62,6 +62,7 @@ impl Heap {
 impl SeqObject for Heap {
     ghost use Rattle.model.specs.Objects.{heap};
     ghost use Rattle.model.specs.declared.AnyReply.TheVariants.{Value};
+    ghost use Rattle.seq_objects.specs.Operations.{heap_op};
 
     type Op = HeapOp;
 

@@ -39,7 +39,7 @@ pub struct Lock {
 }
 
 impl Model for Lock {
-    ghost use Rattle.std.specs.Prelude.{ℤ, Option, None};
+    ghost use Rattle.std.specs.Prelude.{ℤ, Option};
 
     ghost Value = { Option ℤ };
 
@@ -56,8 +56,10 @@ impl Lock {
 }
 
 impl SeqObject for Lock {
+    ghost use Rattle.std.specs.Prelude.{None};
     ghost use Rattle.model.specs.Objects.{owner};
     ghost use Rattle.model.specs.declared.AnyReply.TheVariants.{Value};
+    ghost use Rattle.seq_objects.specs.Operations.{lock_op};
 
     type Op = LockOp;
 

@@ -35,7 +35,7 @@ pub enum MapReply {
 }
 
 impl MapOp {
-    ghost use Rattle.seq_objects.specs.Operations.{map_op, map_reply};
+    ghost use Rattle.seq_objects.specs.Operations.{map_op};
 
     /// The operation of all kinds as one of a map.
     pub(crate) fn from_any(op: &AnyOp) -> MapOp
@@ -90,6 +90,7 @@ impl MapObject {
 
 impl SeqObject for MapObject {
     ghost use Rattle.model.specs.Objects.{table};
+    ghost use Rattle.seq_objects.specs.Operations.{map_op, map_reply};
 
     type Op = MapOp;
 

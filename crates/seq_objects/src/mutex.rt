@@ -39,7 +39,7 @@ pub struct Mutex {
 }
 
 impl Model for Mutex {
-    ghost use Rattle.std.specs.Prelude.{Bool, None};
+    ghost use Rattle.std.specs.Prelude.{Bool};
 
     ghost Value = { Bool };
 
@@ -56,8 +56,10 @@ impl Mutex {
 }
 
 impl SeqObject for Mutex {
+    ghost use Rattle.std.specs.Prelude.{None};
     ghost use Rattle.model.specs.Objects.{mutex};
     ghost use Rattle.model.specs.declared.AnyReply.TheVariants.{Value};
+    ghost use Rattle.seq_objects.specs.Operations.{mutex_op};
 
     type Op = MutexOp;
 

@@ -61,6 +61,7 @@ impl Queue {
 impl SeqObject for Queue {
     ghost use Rattle.model.specs.Objects.{queue};
     ghost use Rattle.model.specs.declared.AnyReply.TheVariants.{Value};
+    ghost use Rattle.seq_objects.specs.Operations.{queue_op};
 
     type Op = QueueOp;
 

@@ -22,7 +22,7 @@ pub enum RegisterOp {
 }
 
 impl RegisterOp {
-    ghost use Rattle.seq_objects.specs.Operations.{register_op, register_reply};
+    ghost use Rattle.seq_objects.specs.Operations.{register_op};
 
     /// The operation of all kinds as one of a register.
     pub(crate) fn from_any(op: &AnyOp) -> RegisterOp
@@ -76,6 +76,7 @@ impl Register {
 
 impl SeqObject for Register {
     ghost use Rattle.model.specs.Objects.{register};
+    ghost use Rattle.seq_objects.specs.Operations.{register_op, register_reply};
 
     type Op = RegisterOp;
 

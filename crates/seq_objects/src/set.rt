@@ -70,6 +70,7 @@ impl Set {
 impl SeqObject for Set {
     ghost use Rattle.model.specs.Objects.{elements};
     ghost use Rattle.model.specs.declared.AnyReply.TheVariants.{Flag};
+    ghost use Rattle.seq_objects.specs.Operations.{set_op};
 
     type Op = SetOp;
 

@@ -61,6 +61,7 @@ impl Stack {
 impl SeqObject for Stack {
     ghost use Rattle.model.specs.Objects.{stack};
     ghost use Rattle.model.specs.declared.AnyReply.TheVariants.{Value};
+    ghost use Rattle.seq_objects.specs.Operations.{stack_op};
 
     type Op = StackOp;
 

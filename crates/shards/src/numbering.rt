@@ -31,6 +31,8 @@ impl From<AllocError> for TableFault {
 }
 
 impl<T: Drop> From<AllocFailed<T>> for TableFault {
+    ghost use Rattle.shards.specs.declared.numbering.TableFault.TheVariants.{NoMemory};
+
     ghost from_gives = { λ _ f. f ≡ NoMemory };
 
     fn from(_error: AllocFailed<T>) -> TableFault {
