@@ -23,7 +23,7 @@ sound_more ds d n h = record {
   later = h.later ++ d ∷ [];
   split = ap (λ (xs : List Datum). xs ++ d ∷ []) h.split ∙ append_assoc h.earlier (h.form ∷ h.later) (d ∷ []);
   stands_at = h.stands_at;
-  least = h.least;
+  faultless = h.faultless;
   none = h.none;
 }
 
@@ -64,8 +64,8 @@ found ds cs among d kind h fault = (
     split = refl;
     place = one_each ds cs h.denoted;
     stands = fault_here ds cs among d kind h fault n;
-    least = no_fault ds cs h.denoted;
-    first = λ k. only_fault ds d kind k (fault_here ds cs among d kind h fault n);
+    faultless = no_fault ds cs h.denoted;
+    least = λ k. only_fault ds d kind k (fault_here ds cs among d kind h fault n);
   },
   λ m. (
       let r = subst (IsFaultAmong among d) m fault in
@@ -75,7 +75,7 @@ found ds cs among d kind h fault = (
         later = [];
         split = refl;
         stands_at = one_each ds cs h.denoted;
-        least = no_fault ds cs h.denoted;
+        faultless = no_fault ds cs h.denoted;
         none = nothing_here ds cs among d r.0 h r.1 r.2;
       }
       ),

@@ -45,5 +45,5 @@ pub record IsCertSoundAt (ds : List Datum) (place : ℕ) : Type 0 where
   pub later : List Datum
   pub split : ds ≡ earlier ++ form ∷ later
   pub stands_at : length earlier ≡ place
-  pub least : HasNoCertFault earlier
+  pub faultless : HasNoCertFault earlier
   pub none : (kind : CertFaultKind) → IsCertFault earlier form kind → ⊥

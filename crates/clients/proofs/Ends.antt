@@ -1,4 +1,5 @@
--- A new desk is as a run begins, and after the last meeting `close` is Ok.
+-- A client of a new desk is as a run begins (`is_new`), and after the last meeting `close` is Ok (`have_told`): by what
+-- client 0 knows of each client that it has met.
 use Rattle.std.proofs.Common.{◌≡◌, ◌≢◌, ℕ, zero, suc, ◌+◌, ◌<◌, ◌≤◌, List, [], ◌∷◌, ◌++◌, length, map, take, get_or}
 use Rattle.std.proofs.Common.{All, refl, sym, ap, ◌∙◌, subst, arith}
 use Rattle.std.proofs.lemmas.List.Elements.{All-contains, All-push}

@@ -1,5 +1,5 @@
--- The try of a row, and a whole pass, change only what `Goes` says of a pass, field by field, and the client of the
--- pass keeps its calls (`KeepsCalls`).
+-- The try of a row, and a whole pass, change only what `Goes` says of a pass, and the client of the pass keeps its
+-- calls (`KeepsCalls`): field by field.
 use Rattle.std.proofs.Common.{◌≡◌, ◌≢◌, ℕ, ◌<◌, ◌≤◌, Bool, true, false, ◌||◌, ◌&&◌, List, [], ◌++◌, length, get_or}
 use Rattle.std.proofs.Common.{set, eq-eqb, refl, sym, ap, ◌∙◌, subst, inl, inr, ⊎_elim}
 use mathlib.Core.Logic.{dite}

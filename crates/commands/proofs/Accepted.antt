@@ -1,4 +1,5 @@
--- The output for a sound record is a yes, except where an allocation fails.
+-- The output for a sound record is a yes, except if an allocation fails: its verdict is none of the others, by cases on
+-- the verdict and on the status.
 use Rattle.std.proofs.Common.{arith, ◌≡◌, ◌≢◌, ◌∙◌, ℕ, List, [], ◌++◌, true, inl, inr, refl, sym, ap, append_assoc}
 use Rattle.model.specs.declared.Kind.{Kind}
 use Rattle.desk_model.specs.World.{AnyEntry, AnyEvent}

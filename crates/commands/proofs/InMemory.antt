@@ -1,4 +1,5 @@
--- A text in memory is read whole, or it is too long to be judged.
+-- A text in memory is read whole, or it is too long to be judged. So a verdict on the bytes that were read is one on
+-- the text (`holds`), by cases on the verdict.
 use Rattle.std.proofs.Common.{◌≡◌, ◌∙◌, ◌<◌, ◌≤◌, ◌+◌, ◌⊎◌, ◌++◌, ℕ, List, length, Option, Some, None, ap, sym, subst}
 use Rattle.std.proofs.Common.{inl, inr, arith}
 use Rattle.std.proofs.lemmas.Bool.{cases_lt}

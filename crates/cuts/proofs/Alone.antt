@@ -1,4 +1,5 @@
--- The operations that did not fail are a part with the same calls, since a failed operation is no call.
+-- The operations that did not fail are a part with the same calls (`alone_calls`): by induction, since a failed
+-- operation is no call.
 use Rattle.std.proofs.Common.{arith, ◌≡◌, Bool, not, cond, List, [], ◌∷◌, Some, filter, refl, subst}
 use Rattle.std.specs.List.{cons_option}
 use Rattle.model.specs.Orders.{HasNoValidOrder}

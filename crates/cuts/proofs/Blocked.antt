@@ -1,5 +1,5 @@
--- The counts of what was ahead of a removal, over the operations of an object, are the counts over its calls, so the
--- law of `Ahead` holds of them.
+-- The counts of what was ahead of a removal, over the operations of an object, are the counts over its calls: by
+-- induction over the operations. So the law of `Ahead` holds of them.
 use Rattle.std.proofs.Common.{rules, MatchBool, ◌≡◌, ℕ, ℤ, ◌<◌, ◌≤◌, ◌==◌, nat_lt, Bool, true, false}
 use Rattle.std.proofs.Common.{not, ◌&&◌, ◌||◌, cond, List, [], ◌∷◌, Option, Some, None, All}
 use Rattle.std.proofs.Common.{AllPairs, count_by, refl, ap, sym, ◌∙◌, subst, arith}

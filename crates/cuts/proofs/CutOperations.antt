@@ -1,5 +1,5 @@
 -- If each of an object's operations is replaced or left out by itself, the result is an object's history, and its calls
--- come from the old calls one by one.
+-- come from the old calls one by one. By induction over the operations, with three laws of `filter_map`.
 use Rattle.std.proofs.Common.{◌≡◌, ◌≢◌, ℕ, ◌<◌, Bool, false, cond, List, [], ◌∷◌, Option, Some, None, map}
 use Rattle.std.proofs.Common.{filter, All, AllPairs, refl, ap, sym, ◌∙◌, subst, arith}
 use Rattle.std.specs.List.{filter_map, cons_option}

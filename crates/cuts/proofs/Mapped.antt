@@ -1,4 +1,5 @@
--- What becomes of each call of an order can be done in turn, if each step of the whole gives a step of the part.
+-- What becomes of each call of an order can be done in turn, if each step of the whole gives a step of the part
+-- (`picked`). By induction along the order; so the part has a valid order (`mapped_valid`).
 use Rattle.std.proofs.Common.{◌≡◌, ◌≢◌, ◌⊎◌, inl, inr, ℤ, pos, Bool, true, false, List, [], ◌∷◌, Option, Some, None}
 use Rattle.std.proofs.Common.{IfSome, IsSome, is_some, map, Contains, refl, ap, sym, ◌∙◌}
 use Rattle.std.specs.List.{filter_map, cons_option}

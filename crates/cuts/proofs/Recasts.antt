@@ -1,5 +1,5 @@
 -- Calls that become calls of other operations, with the same numbers, have a valid order if they had one, and if each
--- step of the old order gives a step of the new one.
+-- step of the old order gives a step of the new one. By cases on whether a call returned.
 use Rattle.std.proofs.Common.{◌≡◌, ◌≢◌, ◌⊎◌, inl, inr, ℕ, Bool, Option, Some, None, IfSome, refl, ap, sym, ◌∙◌, subst}
 use Rattle.std.proofs.Common.{arith}
 use Rattle.std.specs.Prelude.{option_map}

@@ -1,4 +1,5 @@
--- A part of the calls that an order has can be done in turn, if each call of the whole gives a step of the part.
+-- A part of the calls that an order has can be done in turn, if each call of the whole gives a step of the part
+-- (`choose`). By induction along the order, which picks the calls that the part keeps.
 use Rattle.std.proofs.Common.{◌≡◌, ◌⊎◌, inl, inr, ℕ, Bool, true, false, cond, List, [], ◌∷◌, Some, IfSome, IsSome}
 use Rattle.std.proofs.Common.{is_some, ap, sym, ◌∙◌}
 use Rattle.model.specs.declared.AnyOp.{AnyOp}

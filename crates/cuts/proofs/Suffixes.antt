@@ -1,5 +1,5 @@
--- If it is known what an object contains after some call, the rest of a valid order is a valid order of the suffix
--- that begins there.
+-- If it is known what an object contains after some call, the rest of a valid order is a valid order of the suffix that
+-- begins there. The order is split at that call (`replies_after`), and each fact is shown of the front and of the rest.
 use Rattle.std.proofs.lemmas.Bool.Decides.{nat_tests}
 use Rattle.std.proofs.Common.{◌≡◌, ◌≢◌, ◌⊎◌, inl, inr, ℕ, ℤ, pos, ◌<◌, Bool, true, false, List, [], ◌∷◌, ◌++◌, Option}
 use Rattle.std.proofs.Common.{Some, None, IfSome, IsSome, is_some, map, All, Contains, refl, ap, sym, ◌∙◌, subst, arith}

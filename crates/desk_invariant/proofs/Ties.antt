@@ -1,4 +1,5 @@
--- Words and slots stay tied to the world where one word and the slot that it guards change with it.
+-- Words and slots stay tied to the world if one word and the slot that it guards change with it: a lemma for each kind
+-- of word, by cases on whether a word is the changed one.
 use Rattle.std.proofs.Common.{◌≡◌, ◌≢◌, ℕ, ◌+◌, ◌<◌, Bool, true, false, List, map, length, get_or, set, Option, None}
 use Rattle.std.proofs.Common.{sym, ap, subst, ◌∙◌, arith, length-set, get_or-set_other, get_or-set_same}
 use mathlib.Core.Option as maybe

@@ -1,4 +1,5 @@
--- Nothing is in the log of an object that there is not, or in the journal of a client that has not come.
+-- The log of an object that does not exist is empty, and so is the journal of a client that has not come: the calls of
+-- a client are on existing objects (`asked_among`), so they log nothing beyond.
 use Rattle.std.proofs.Common.{◌≡◌, ◌≢◌, ℕ, ◌<◌, ◌≤◌, List, [], ◌∷◌, ◌++◌, Option, Some, None, All, length, cond, eq-eqb}
 use Rattle.std.proofs.Common.{refl, sym, ap, subst, ◌∙◌, arith}
 use Rattle.std.proofs.lemmas.List.Elements.{All-head, All-tail, All-contains, Contains-push}

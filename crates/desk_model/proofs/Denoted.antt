@@ -1,4 +1,4 @@
--- The journal of a client denotes its events, and the operations among them.
+-- The journal of a client denotes its events, and the operations among them: by induction over its calls.
 use Rattle.std.proofs.Common.{◌≡◌, ℕ, ◌<◌, ◌==◌, inl, inr, List, [], ◌∷◌, map, Option, Some, None, refl, ap, ◌∙◌, arith}
 use Rattle.std.proofs.lemmas.Bool.{eq-eqb, and_from}
 use Rattle.model.specs.Histories.{Inv, Res, process_of, IsSequential}

@@ -1,4 +1,5 @@
--- The entries of a client in a log that grows, and the replay of such a log.
+-- The entries of a client in a log that grows, and the replay of such a log: by induction along the log, one entry at a
+-- time.
 use Rattle.std.proofs.Common.{arith, ◌≡◌, ◌≢◌, ℕ, cond, eq-eqb, ne_eqb, List, [], ◌∷◌, ◌++◌, map, refl, sym, ap, subst}
 use Rattle.std.proofs.Common.{◌∙◌, append_assoc, append-nil}
 use Rattle.model.specs.declared.AnyOp.{AnyOp}

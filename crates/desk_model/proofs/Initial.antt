@@ -1,4 +1,4 @@
--- The initial world is sound, and stays so when a client comes.
+-- The initial world is sound, and stays sound when a client comes: each field of `Sound` is shown by itself.
 use Rattle.std.proofs.Common.{◌≡◌, ℕ, ◌<◌, List, refl, sym, ap, arith}
 use Rattle.std.proofs.lemmas.List.Elements.{All-nil}
 use Rattle.model.specs.declared.Kind.{Kind}

@@ -1,4 +1,5 @@
--- Each log of a sound world is a valid order of the calls on its object, and so its record is sound.
+-- Each log of a sound world is a valid order of the calls on its object, and so its record is sound: each entry comes
+-- from a call (`sources`), and the tickets say that no call comes after one that it precedes.
 use Rattle.std.proofs.Common.{◌≡◌, ◌≢◌, ℕ, ◌<◌, ◌==◌, inl, List, [], ◌∷◌, ◌++◌, filter, Some, IsSome, Contains}
 use Rattle.std.proofs.Common.{eqb-true, eq-eqb, refl, ap, sym, ◌∙◌, subst, append_assoc, arith}
 use Rattle.model.specs.declared.Kind.{Kind}

@@ -15,6 +15,6 @@ first_more ds d at kind h = record {
   split = ap (λ (xs : List Datum). xs ++ d ∷ []) h.split ∙ append_assoc h.earlier (h.form ∷ h.later) (d ∷ []);
   place = h.place;
   stands = h.stands;
+  faultless = h.faultless;
   least = h.least;
-  first = h.first;
 }

@@ -19,5 +19,5 @@ pub record IsFirstFaultBy {Kind : Type 0} (IsFault : List Datum → Datum → Ki
   pub split : ds ≡ earlier ++ form ∷ later
   pub place : length earlier ≡ at
   pub stands : IsFault earlier form kind
-  pub least : AreFaultless IsFault earlier
-  pub first : (other : Kind) → IsFault earlier form other → number_of kind ≤ number_of other
+  pub faultless : AreFaultless IsFault earlier
+  pub least : (other : Kind) → IsFault earlier form other → number_of kind ≤ number_of other

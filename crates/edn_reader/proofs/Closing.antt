@@ -1,4 +1,5 @@
--- Each level that is open can be closed, so what was read are the first tokens of some forms.
+-- Each level that is open can be closed, so what was read are the first tokens of some forms: by induction over the
+-- levels, the innermost first.
 use Rattle.std.proofs.Common.{◌≡◌, ℕ, ◌-◌, ◌≤◌, false, Some, List, [], ◌∷◌, ◌++◌, length, refl, sym, ap, subst, ◌∙◌}
 use Rattle.std.proofs.Common.{append_assoc, arith}
 use Rattle.std.proofs.lemmas.List.{append-nil}

@@ -1,4 +1,5 @@
--- Forms at the front of a text, one more after them, and what is sound after them.
+-- Forms at the front of a text, and one more after them (`along_more`): what is sound after a front is sound in the
+-- text, since the front and the rest are spelled one after the other.
 use Rattle.std.proofs.Common.{◌≡◌, ◌≢◌, ℕ, ◌+◌, Bool, true, false, cond, Some, None, List, [], ◌∷◌, ◌++◌}
 use Rattle.std.proofs.Common.{length, sym, ap, subst, ◌∙◌, append_assoc, arith}
 use Rattle.std.specs.Str.{IsUtf8}

@@ -1,4 +1,5 @@
--- Elements at the front of a text, from the tokens that it begins with.
+-- If a text begins with the tokens of an element, the element is at the front of the text (`front_of`): the tokens make
+-- one form, and what is left is shorter.
 use Rattle.std.proofs.Common.{◌≡◌, ℕ, ◌<◌, ◌≤◌, Option, Some, None, List, [], ◌∷◌, ◌++◌, length, refl, ap, arith}
 use Rattle.std.specs.Prelude.{option_and_then}
 use Rattle.std.specs.Str.{IsUtf8}

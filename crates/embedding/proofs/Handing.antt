@@ -1,4 +1,5 @@
--- The part of the lines that the caller gets, and what the number that the call returns then shows.
+-- The caller gets a part of the lines, and the number that the call returns shows what its status shows of all lines
+-- (`shows`): the number of an allocation failure shows nothing, and another one is that of the output.
 use Rattle.std.proofs.Common.{◌≡◌, ◌≢◌, ◌∙◌, ◌⊎◌, ℕ, List, codes, inl, inr, refl, ap, sym}
 use Rattle.report.specs.declared.verdict.Verdict.{Verdict}
 use Rattle.report.specs.declared.verdict.Verdict.TheVariants as verdict

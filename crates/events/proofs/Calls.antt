@@ -1,4 +1,5 @@
--- The operations of an object among proper events are its calls in what these denote.
+-- The operations of an object among proper events are its calls in what these denote: by induction along the events,
+-- with the state of each process.
 use Rattle.std.proofs.Common.{◌≡◌, ℕ, ◌==◌, ◌&&◌, Bool, true, false, cond, List, [], ◌∷◌, ◌++◌, map, filter, Option}
 use Rattle.std.proofs.Common.{Some, None, refl, ap, sym, ◌∙◌, subst}
 use Rattle.std.specs.List.{cons_option}

@@ -47,7 +47,6 @@ first_of_all reader ds d k h f =
       split = refl;
       place = h.count;
       stands = f.stands;
-      least =
-          h.faultless;
-      first = f.first;
+      faultless = h.faultless;
+      least = f.first;
     }

@@ -119,8 +119,8 @@ first_fault seen fs i f es k l is h first = record {
   split = reads fs i l ∙ ap (λ x. views (take i fs) ++ view x ∷ views (drop (suc i) fs)) (sym is);
   place = h.count;
   stands = first.stands;
-  least = h.faultless;
-  first = first.first;
+  faultless = h.faultless;
+  least = first.first;
 }
   where
     reads : (gs : List Form) (j : ℕ) → j < length gs

@@ -69,8 +69,8 @@ found seen number ds d es k h first none = (
         split = refl;
         place = h.count;
         stands = f.stands;
-        least = h.faultless;
-        first = f.first;
+        faultless = h.faultless;
+        least = f.first;
       }),
   λ m. (
       let long = length-append ds (d ∷ []) in

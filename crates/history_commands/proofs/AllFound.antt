@@ -1,4 +1,5 @@
--- Where a certificate is found for each object, and the text that is made of the certificates.
+-- A status of yes means that a certificate is found for each object (`yes_of`, `each_found`), and the text is that of
+-- the certificates (`found_text`). By induction over the answers.
 use Rattle.std.proofs.Common.{arith, ◌≡◌, ◌∙◌, ◌&&◌, Bool, true, ℕ, List, [], ◌∷◌, ◌++◌, All, Option, Some, IsSome}
 use Rattle.std.proofs.Common.{refl, ap, sym, subst, inl, inr}
 use Rattle.std.specs.List.{list_all, cons_option, filter_map}

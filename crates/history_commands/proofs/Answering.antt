@@ -1,4 +1,5 @@
--- The answers of a search, and the text that is made of them, show what each object's answer shows.
+-- The answers of a search, and the text that is made of them, show what each object's answer shows: by induction over
+-- the answers, and by cases on each outcome.
 use Rattle.std.proofs.Common.{◌≡◌, ◌∙◌, ◌<◌, ◌||◌, ℕ, suc, true, List, [], ◌∷◌, map, All, Any, AllPairs, Contains}
 use Rattle.std.proofs.Common.{Option, Some, refl, sym, arith}
 use Rattle.std.specs.Prelude.{◌↔◌}

@@ -1,5 +1,5 @@
--- A merge shows of the texts of the shards what it shows of the shards with the numbers of the whole, since numbers do
--- not matter; and lines that are put in order, and joined, keep those of each object.
+-- A merge shows of the texts of the shards what it shows of the shards with the numbers of the whole: numbers do not
+-- matter. Lines that are put in order, and joined, keep those of each object.
 use Rattle.std.proofs.Common.{arith, ◌≡◌, ◌∙◌, ◌||◌, ℕ, true, false, Bool, cond, List, [], ◌∷◌, ◌++◌, inl, inr, refl}
 use Rattle.std.proofs.Common.{ap, sym, subst, map, Any, IsSome, append_assoc}
 use Rattle.std.specs.List.{AllZip, flat_map, list_all, list_any}

@@ -1,4 +1,5 @@
--- Texts denote one history at most, and certificates that say one thing at most.
+-- Texts denote one history at most (`one_history`), and certificates of one meaning at most (`one_meaning`): a text
+-- spells one list of forms. Certificates that say the same are valid alike (`same_valid`).
 use Rattle.std.proofs.Common.{◌≡◌, ◌∙◌, ℕ, List, [], ◌∷◌, Some, Option, inl, inr, refl, ap, sym, subst, map}
 use Rattle.edn_reader.specs.Datum.{Datum}
 use Rattle.edn_reader.specs.Spells.{Spells}

@@ -1,5 +1,5 @@
 -- A verdict on certificates holds of the texts that denote them and their history; and if a text could not be read, the
--- verdict says so.
+-- verdict says so. By cases on the verdict and on the failure.
 use Rattle.std.proofs.Common.{◌≡◌, List, ℕ, map, inl, inr, ap, sym, subst}
 use Rattle.edn_reader.specs.Sound.{IsShort}
 use Rattle.std.specs.Prelude.{Result, Ok, Err}

@@ -1,4 +1,5 @@
--- Each operation of the history that events denote is on an object that they name.
+-- Each operation of the history that events denote is on an object that they name (`call_named`): by induction along
+-- the events. So, with valid certificates, the calls of each named object have a valid order (`orders`).
 use Rattle.std.proofs.Common.{◌≡◌, Bool, true, false, List, [], ◌∷◌, ◌++◌, All, inl, inr, refl}
 use Rattle.std.proofs.Common.{ap, sym, Result, Ok, Err, OnOk}
 use Rattle.model.specs.Orders.{ProcessCall, calls_in}

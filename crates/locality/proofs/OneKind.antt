@@ -1,5 +1,6 @@
--- An order of one kind's calls is valid for the kind's own specification exactly where it is valid in the contents of
--- all kinds, since their steps agree; and so the laws of locality at the kinds.
+-- An order of one kind's calls is valid for the kind's own specification exactly if it is valid in the contents of all
+-- kinds: by induction along the order, since their steps agree (`step_among`). So the laws of locality hold at the
+-- kinds.
 use Rattle.std.proofs.Common.{◌≡◌, ◌↔◌, ℕ, ℤ, Bool, true, false, List, [], ◌∷◌, Option, Some, None, if◌then◌else◌, All}
 use Rattle.std.proofs.Common.{refl, ap, sym, ◌∙◌}
 use Rattle.std.proofs.lemmas.Option.{same_Some}

@@ -1,4 +1,5 @@
--- A history goes on with responses into a well-formed one exactly where they answer pending invocations of their own.
+-- A history goes on with responses into a well-formed one exactly if they answer pending invocations of their own: by
+-- the sequence of each process, which goes on with one response at most.
 use Rattle.std.proofs.Common.{◌≡◌, ◌≢◌, ◌↔◌, ℕ, ◌==◌, Bool, true, false, not, cond, inl, inr, List, [], ◌∷◌, ◌++◌}
 use Rattle.std.proofs.Common.{filter, All, refl, ap, sym, ◌∙◌}
 use Rattle.std.specs.List.{list_any}

@@ -1,5 +1,5 @@
 -- When all clients but one have ended, and that one holds nothing, each slot of a desk has its object, or what its
--- client left.
+-- client left. By the rule of the desk, slot by slot.
 use Rattle.std.proofs.Common.{◌≡◌, ◌≢◌, ℕ, ◌+◌, ◌<◌, ◌≤◌, true, List, [], map, length, get_or}
 use Rattle.std.proofs.Common.{Option, Some, None, Contains, All, refl, sym, ap, subst, ◌∙◌, ⊎_elim, arith}
 use mathlib.Core.Logic.{dite}

@@ -1,4 +1,5 @@
--- Finding the event with a number among events whose numbers rise.
+-- A search by halves finds the event with a number among events whose numbers rise (`found_here`), or there is none
+-- (`none_here`): the comparison with the number rises along the events.
 use Rattle.std.proofs.Common.{◌≡◌, ℕ, ◌<◌, ◌≤◌, ◌⊎◌, inl, inr, Bool, true, false, List, [], ◌∷◌, length, Some, None}
 use Rattle.std.proofs.Common.{AllPairs, get_or, refl, ap, sym, ◌∙◌, cond, zero, suc, subst, arith}
 use Rattle.std.specs.Prelude.{find, nat_eq}

@@ -1,4 +1,5 @@
--- A list of events in which each process does only what it may, and each object is used by one kind, is proper.
+-- A list of events in which each process does only what it may, and each object is used by one kind, is proper: by
+-- induction along the events, from the state of each process.
 use Rattle.std.proofs.Common.{◌≡◌, ℕ, ◌<◌, ◌==◌, Bool, true, false, cond, List, [], ◌∷◌, ◌++◌, filter, Option, Some}
 use Rattle.std.proofs.Common.{None, refl, ap, sym, ◌∙◌, subst, append_assoc}
 use Rattle.std.proofs.lemmas.List.{append-nil}

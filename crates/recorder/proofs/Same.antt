@@ -1,4 +1,5 @@
--- Lists in which numbers rise are the same where they have the same elements.
+-- Two lists in which numbers rise are the same if they have the same elements (`same_rising`): by induction, since the
+-- first elements are the least.
 use Rattle.std.proofs.Common.{◌≡◌, ℕ, ◌<◌, ◌==◌, inl, inr, List, [], ◌∷◌, filter, refl, ap, sym, ◌∙◌, subst, arith}
 use Rattle.std.proofs.lemmas.Bool.{eq-eqb}
 use Rattle.model.specs.Lists.{In}

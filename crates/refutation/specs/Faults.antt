@@ -28,4 +28,4 @@ pub record AreReasonsSoundBefore (ds : List Datum) (place : ℕ) : Type 0 where
   pub later : List Datum
   pub split : ds ≡ earlier ++ form ∷ later
   pub place_is : length earlier ≡ place
-  pub least : AreFaultless IsReasonFault earlier
+  pub faultless : AreFaultless IsReasonFault earlier

@@ -1,4 +1,5 @@
--- The objects that are counted are those that some invocation names, each once.
+-- The objects that are counted are those that some invocation names, each once: by induction over the uses, which add a
+-- new object to those seen.
 use Rattle.std.proofs.Common.{◌≡◌, ◌≢◌, ℕ, zero, suc, ◌<◌, ◌==◌, Bool, true, false, cond, ◌⊎◌, inl, inr, List, [], ◌∷◌}
 use Rattle.std.proofs.Common.{◌++◌, length, get_or, map, fold, AllPairs, Contains, refl, ap, sym, ◌∙◌, subst, arith}
 use Rattle.std.specs.Prelude.{nat_eq, ◌||◌, ◌↔◌}

@@ -1,5 +1,5 @@
--- The operations that did not fail are the calls of the history, as many and in the same order (`calls-filter`); so
--- how many of them returned is counted alike for both, in any order (`count-owed`).
+-- The operations that did not fail are the calls of the history, as many and in the same order (`calls-filter`). So how
+-- many of them returned is counted alike for both, in any order (`count-owed`).
 use Rattle.std.proofs.Common.{◌≡◌, ℕ, suc, zero, ◌+◌, ◌<◌, ◌≤◌, ◌≢◌, ◌&&◌, Bool, true, false, cond, List, [], ◌∷◌, Some}
 use Rattle.std.proofs.Common.{IsSome, is_some, length, map, filter, count_by, take, get_or, add-one, inl, All, Any}
 use Rattle.std.proofs.Common.{refl, ap, sym, ◌∙◌, subst, arith}

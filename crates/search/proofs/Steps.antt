@@ -22,6 +22,8 @@ use Rattle.search.proofs.Stack.{IsLeastBelow, least_more, least_of_all, dead_now
 use Rattle.search.proofs.Stack.{walk_left, bound_more, continued}
 use Rattle.search.proofs.Owed.{none_owed}
 
+-- ---- levels and places
+
 -- the levels with one more, the last one first
 pub pushed : {X : Type 0} (olds : List X) {news : List X} {x : X}
     → news ≡ olds ++ x ∷ [] → reverse news ≡ x ∷ reverse olds
@@ -155,6 +157,8 @@ module _ {kind : Kind} {items : List Invocation} {floors return_floors : List �
       counts = w.counts;
       owed = w.owed;
     }
+
+-- ---- the end, and dead ends
 
 -- nothing is owed: the levels are an order
 pub over_now : (n : ℕ) (call : ℕ → Call) (start : Content) (levels : List Level) (bs : List Content)

@@ -1,5 +1,5 @@
 -- A machine made from a schedule's header has as many empty objects as the header has kinds (`count_is`), each of its
--- own kind (`empty_more`), and takes the steps of the schedule in turn.
+-- own kind (`empty_more`). It takes the steps of the schedule in turn (`is_played`).
 use Rattle.std.proofs.Common.{◌≡◌, ℕ, ◌+◌, ◌<◌, false, List, [], ◌∷◌, ◌++◌, length, map, All, ap, sym, ◌∙◌, subst}
 use Rattle.std.proofs.Common.{arith}
 use Rattle.std.proofs.lemmas.List.{map-append, length-map}

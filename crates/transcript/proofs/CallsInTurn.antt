@@ -1,4 +1,5 @@
--- In a record's journals calls and returns come in turn, and the operations on an object are of one kind.
+-- In a record's journals calls and returns come in turn (`turns_in`), and the operations on an object are of one kind
+-- (`one_kind`): the events of a record are proper, so each process does only what it may.
 use Rattle.std.proofs.Common.{arith, ◌≡◌, ℕ, ◌==◌, inl, inr, List, [], ◌∷◌, ◌++◌, filter, refl, ap, sym, ◌∙◌, subst}
 use Rattle.std.proofs.Common.{append_assoc}
 use Rattle.std.proofs.lemmas.Bool.{eq-eqb}

@@ -1,4 +1,5 @@
--- The events of journals denote the history of the journals.
+-- The events of journals denote the history of the journals: by induction along each journal (`denotes_events`), which
+-- denotes one history at most (`denotes_once`).
 use Rattle.std.proofs.Common.{arith, ◌≡◌, ℕ, ◌==◌, Bool, true, false, cond, List, [], ◌∷◌, ◌++◌, filter, Some, refl, ap}
 use Rattle.std.proofs.Common.{sym, ◌∙◌, subst}
 use Rattle.std.proofs.lemmas.List.Elements.{filter-append}

@@ -1,4 +1,5 @@
--- The forms of lines are a history's maps, and none of them is faulty.
+-- The forms of lines are a history's maps, and none of them is faulty: each key is read back as what was written
+-- (`client_is`), and a line that follows says its action (`action_is`).
 use Rattle.std.proofs.Common.{◌≡◌, ℕ, ◌≤◌, cond, Option, Some, None, refl, ap, arith}
 use Rattle.std.proofs.lemmas.Bool.{le-leb}
 use Rattle.model.specs.declared.AnyOp.{AnyOp}

@@ -1,4 +1,5 @@
--- The objects that journals name are those that their events name.
+-- The objects that journals name are those that their events name: each invocation of a journal is an event
+-- (`event_of`), and each event is of the journal of its process (`own_event`).
 use Rattle.std.proofs.Common.{◌≡◌, ℕ, ◌==◌, inl, inr, List, [], ◌∷◌, Contains, refl, sym, subst}
 use Rattle.std.proofs.lemmas.Bool.{eq-eqb}
 use Rattle.model.specs.declared.AnyOp.{AnyOp}

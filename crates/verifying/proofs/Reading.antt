@@ -55,8 +55,8 @@ first_fault fs i f rs kind lt is h fault =
       split = split_at fs i f lt is;
       place = length-map (take i fs) view ∙ length-take-le i fs (omega arith);
       stands = stands;
-      least = no_fault (views (take i fs)) rs h;
-      first = λ k. only_fault (views (take i fs)) (view f) kind k stands;
+      faultless = no_fault (views (take i fs)) rs h;
+      least = λ k. only_fault (views (take i fs)) (view f) kind k stands;
     }
 
 pub not_denoted : (ds : List Datum) (e : ClaimFault) → IsFirstFault ds e → (rs : List Claim) → Denotes ds rs → ⊥
@@ -70,7 +70,7 @@ sound_before fs i f rs lt is h = record {
   later = views (drop (i + 1) fs);
   split = split_at fs i f lt is;
   place_is = length-map (take i fs) view ∙ length-take-le i fs (omega arith);
-  least = no_fault (views (take i fs)) rs h;
+  faultless = no_fault (views (take i fs)) rs h;
 }
 
 pub one_more_read : (fs : List Form) (i : ℕ) (f : Form) (rs : List Claim) (r : Claim) → i < length fs

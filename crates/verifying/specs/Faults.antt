@@ -31,4 +31,4 @@ pub record AreClaimsSoundBefore (ds : List Datum) (place : ℕ) : Type 0 where
   pub later : List Datum
   pub split : ds ≡ earlier ++ form ∷ later
   pub place_is : length earlier ≡ place
-  pub least : AreFaultless IsClaimFault earlier
+  pub faultless : AreFaultless IsClaimFault earlier

@@ -1,4 +1,4 @@
--- Each exit is a law of `Turns`, at the token that comes next.
+-- `try_read` reads the tokens of one element. Each exit is a law of `Turns`, at the token that comes next.
 use Rattle.std.proofs.Common.{◌<◌, length, ap, arith}
 use Rattle.std.proofs.lemmas.Result.{err_from_is_err_and}
 use Rattle.edn_reader.proofs.BufferTurns.{first_turn, none_first, sound_first, nothing_more, whole, whole_open}
