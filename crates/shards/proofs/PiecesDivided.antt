@@ -195,7 +195,8 @@ pub adds_shards : {count : ℕ} {d e last : Divider} {p : Pieces} {text : List �
     → told.counts.items ≡ map (λ w. w.count) last.waiting.items
     → ((counts : ℕ → ℕ) → IsTally last.tally counts → AreLarge counts told.large.items)
     → length last.waiting.items ≡ last.shards → AddsShards count told text first files_after
-adds_shards {count} {last = last} {p = p} {text = text} {written = written} {first = first} {files = files} {files_after = files_after}
+adds_shards {count} {last = last} {p = p} {text = text} {written = written} {first = first} {files = files}
+    {files_after = files_after}
     h t f adds none counted large long =
     let maps : List SpelledMap = h.maps ++ t.more in
     let spelled : Spells (forms_of maps) text =

@@ -1,8 +1,7 @@
 -- `split_by_pieces`: the shards are those of the whole history, or the fault is one of it. The text so far is
 -- divided or waits in the pieces (`more_so_far`); at the end of the source it is the whole text.
 use Rattle.std.proofs.Common.{sym, ◌∙◌}
-use Rattle.std.proofs.lemmas.Result.{IfOk-weaker, err_from_is_err_and}
-use Rattle.shards.proofs.OnOk.{if_err_weaker}
+use Rattle.std.proofs.lemmas.Result.{IfErr-weaker, IfOk-weaker, err_from_is_err_and}
 use Rattle.shards.proofs.PiecesDivided.{flushed_so_far, more_so_far, split_fault_of}
 use Rattle.shards.proofs.split.split_by_pieces.Goals as goal
 
@@ -24,7 +23,7 @@ returns-then-is_ended-clause-malformed g c =
     let left_after = g.F.Source.remaining c.read.new.source in
     let read = c.in_ok-read.ensures.read in
     let s = more_so_far read c.loop.invariant.so_far in
-    if_err_weaker c.divide_last.result
+    IfErr-weaker c.divide_last.result _ _
     (λ e f. split_fault_of c.args.shards e left left_after s.text s.consumed
     (f c.args.shards s.text s.written left_after s.under_way
     (read.ended (sym c.is_ended.ensures ∙ c.if-is_ended.true))))
