@@ -47,27 +47,6 @@ count_same ws i w v l is same s = elim (cases_eq s i) [
   | inr ne ↦ at_others (λ x. x.count) 0 ws i v s ne
 ]
 
-taken_flushed : (count : ℕ) (old new : Divider) (maps : List SpelledMap) (written : Files)
-    (files files_after : Option Files) (i : ℕ) (w v : Waiting) → i < length old.waiting.items
-    → w ≡ get_or old.waiting.items i w → new.waiting.items ≡ set old.waiting.items i v → new.shards ≡ old.shards
-    → new.reader ≡ old.reader → new.tally ≡ old.tally → (f : Flushes i w v files files_after)
-    → AreMapsTaken count old maps written
-    → AreMapsTaken count new maps (with_more written (lines_for i f.maps f.places))
-taken_flushed count old new maps written files files_after i w v l is set_is shards reader tally f h =
-    let ws : List Waiting = old.waiting.items in
-    record {
-      shards = shards ∙ h.shards;
-      read = rw reader h.read;
-      each = h.each;
-      fit = h.fit;
-      tally = rw tally h.tally;
-      texts = λ s. rw set_is
-          (lines_same (λ x. x.maps.items) ws i w v f.maps l is f.of_maps (written.texts s) s ∙ h.texts s);
-      tables = λ s. rw set_is
-          (lines_same (λ x. x.places.items) ws i w v f.places l is f.of_places (written.tables s) s ∙ h.tables s);
-      counts = λ s k. rw set_is (count_same ws i w v l is f.count s ∙ h.counts s k);
-    }
-
 -- the same lines were written
 written_same : (count : ℕ) (d : Divider) (maps : List SpelledMap) (a b : Files) → ((s : ℕ) → b.texts s ≡ a.texts s)
     → ((s : ℕ) → b.tables s ≡ a.tables s) → AreMapsTaken count d maps a → AreMapsTaken count d maps b
@@ -83,25 +62,42 @@ written_same count d maps a b texts tables t = record {
 }
 
 -- one shard more, after others
-pub flushed_more : (count : ℕ) (old new : Divider) (maps : List SpelledMap) (written : Files)
-    (first files files_after : Option Files) (i : ℕ) (w v : Waiting) → i < length old.waiting.items
-    → w ≡ get_or old.waiting.items i w → new.waiting.items ≡ set old.waiting.items i v → new.shards ≡ old.shards
-    → new.reader ≡ old.reader → new.tally ≡ old.tally → Flushes i w v files files_after
-    → AreTakenAfter count old maps written first files
-    → AreTakenAfter count new maps written first files_after
-flushed_more count old new maps written first files files_after i w v l is set_is shards reader tally f h = record {
-  more = with_more h.more own;
-  adds = adds_both first files files_after h.more own h.adds f.adds;
-  taken = written_same count new maps (with_more (with_more written h.more) own)
-      (with_more written (with_more h.more own))
-      (λ s. sym (append_assoc (written.texts s) (h.more.texts s) (own.texts s)))
-      (λ s. sym (append_assoc (written.tables s) (h.more.tables s) (own.tables s)))
-      (taken_flushed count old new maps (with_more written h.more) files files_after i w v l is set_is shards reader
-      tally f h.taken);
-}
-  where
-    own : Files
-    own = lines_for i f.maps f.places
+module _ (count : ℕ) (old new : Divider) (maps : List SpelledMap) {files files_after : Option Files} {i : ℕ}
+    {w v : Waiting} (l : i < length old.waiting.items) (is : w ≡ get_or old.waiting.items i w)
+    (set_is : new.waiting.items ≡ set old.waiting.items i v) (shards : new.shards ≡ old.shards)
+    (reader : new.reader ≡ old.reader) (tally : new.tally ≡ old.tally) (f : Flushes i w v files files_after) where
+  abbrev own : Files
+  own = lines_for i f.maps f.places
+
+  abbrev ws : List Waiting
+  ws = old.waiting.items
+
+  taken_flushed : (written : Files) → AreMapsTaken count old maps written
+      → AreMapsTaken count new maps (with_more written own)
+  taken_flushed written h = record {
+    shards = shards ∙ h.shards;
+    read = rw reader h.read;
+    each = h.each;
+    fit = h.fit;
+    tally = rw tally h.tally;
+    texts = λ s. rw set_is
+        (lines_same (λ x. x.maps.items) ws i w v f.maps l is f.of_maps (written.texts s) s ∙ h.texts s);
+    tables = λ s. rw set_is
+        (lines_same (λ x. x.places.items) ws i w v f.places l is f.of_places (written.tables s) s ∙ h.tables s);
+    counts = λ s k. rw set_is (count_same ws i w v l is f.count s ∙ h.counts s k);
+  }
+
+  pub flushed_more : (written : Files) (first : Option Files) → AreTakenAfter count old maps written first files
+      → AreTakenAfter count new maps written first files_after
+  flushed_more written first h = record {
+    more = with_more h.more own;
+    adds = adds_both first files files_after h.more own h.adds f.adds;
+    taken = written_same count new maps (with_more (with_more written h.more) own)
+        (with_more written (with_more h.more own))
+        (λ s. sym (append_assoc (written.texts s) (h.more.texts s) (own.texts s)))
+        (λ s. sym (append_assoc (written.tables s) (h.more.tables s) (own.tables s)))
+        (taken_flushed (with_more written h.more) h.taken);
+  }
 
 pub none_flushed : (count : ℕ) (d : Divider) (maps : List SpelledMap) (written : Files) (files : Option Files)
     → AreMapsTaken count d maps written → AreTakenAfter count d maps written files files

@@ -9,7 +9,3 @@ pub of_errors : {T E : Type 0} {P Q R : E → Type 0} (r : Result T E) → ((e :
     → IfErr r Q → IfErr r R
 of_errors (Ok x) f p q = tt
 of_errors (Err e) f p q = f e p q
-
-pub if_err_weaker : {T E : Type 0} {P Q : E → Type 0} (r : Result T E) → ((e : E) → P e → Q e) → IfErr r P → IfErr r Q
-if_err_weaker (Ok x) f p = tt
-if_err_weaker (Err e) f p = f e p

@@ -44,10 +44,10 @@ lines_more front piece ds es before spells fs after h =
     rw (append_assoc ds es fs, append_assoc front (piece ++ 10 ∷ []) after, append_assoc piece (10 ∷ []) after)
     (before (es ++ fs) (piece ++ 10 ∷ after) (joined_spell es fs piece after spells h))
 
-pub passes_piece : (count : ℕ) (d e : Divider) (p q : Pieces) (text piece : List ℕ) (written : Files)
+pub passes_piece : {count : ℕ} {d e : Divider} {p q : Pieces} {text piece : List ℕ} {written : Files}
     (h : AreUnderWay count d p text written) → AreTakenOf piece count e h.maps written → PassesPiece p q piece
     → AreUnderWay count e q text written
-passes_piece count d e p q text piece written h t pass =
+passes_piece {q = q} {piece = piece} h t pass =
     let line : List ℕ = piece ++ 10 ∷ [] in
     record {
       front = h.front ++ line;
@@ -61,10 +61,10 @@ passes_piece count d e p q text piece written h t pass =
     }
 
 -- more of the text was read
-reads_on : (count : ℕ) (d : Divider) (p q : Pieces) (text : List ℕ) (written : Files)
-    (left left_after : Option (List ℕ)) (r : ReadsOn p q left left_after) → AreUnderWay count d p text written
+reads_on : {count : ℕ} {d : Divider} {p q : Pieces} {text : List ℕ} {written : Files}
+    {left left_after : Option (List ℕ)} (r : ReadsOn p q left left_after) → AreUnderWay count d p text written
     → AreUnderWay count d q (text ++ r.more) written
-reads_on count d p q text written left left_after r h = record {
+reads_on {p = p} r h = record {
   front = h.front;
   maps = h.maps;
   parts = ap (λ xs. xs ++ r.more) h.parts ∙ rw r.text (append_assoc h.front p.text.items r.more);
@@ -82,26 +82,26 @@ pub record IsDividedSoFar (count : ℕ) (d : Divider) (p : Pieces) (left left_af
   pub under_way : AreUnderWay count d p text written
   pub adds : AddsFiles files files_after written
 
-pub more_so_far : (count : ℕ) (d : Divider) (p q : Pieces) (left now left_after : Option (List ℕ))
-    (files files_after : Option Files) → ReadsOn p q now left_after
+pub more_so_far : {count : ℕ} {d : Divider} {p q : Pieces} {left now left_after : Option (List ℕ)}
+    {files files_after : Option Files} → ReadsOn p q now left_after
     → IsDividedSoFar count d p left now files files_after
     → IsDividedSoFar count d q left left_after files files_after
-more_so_far count d p q left now left_after files files_after r h = record {
+more_so_far {left = left} {now = now} {left_after = left_after} r h = record {
   text = h.text ++ r.more;
   consumed = one_more_consumed left now left_after h.text r.more h.consumed r.consumed;
   written = h.written;
-  under_way = reads_on count d p q h.text h.written now left_after r h.under_way;
+  under_way = reads_on r h.under_way;
   adds = h.adds;
 }
 
 -- what waited was written
-pub flushed_so_far : (count : ℕ) (d e : Divider) (p q : Pieces) (left left_after : Option (List ℕ))
-    (files now files_after : Option Files)
+pub flushed_so_far : {count : ℕ} {d e f : Divider} {p q : Pieces} {left left_after : Option (List ℕ)}
+    {files now files_after : Option Files}
     → ((text : List ℕ) (written : Files) → AreUnderWay count d p text written → AreUnderWay count e q text written)
-    → (f : Divider) → ((maps : List SpelledMap) (written : Files) → AreMapsTaken count e maps written
+    → ((maps : List SpelledMap) (written : Files) → AreMapsTaken count e maps written
     → AreTakenAfter count f maps written now files_after)
     → IsDividedSoFar count d p left left_after files now → IsDividedSoFar count f q left left_after files files_after
-flushed_so_far count d e p q left left_after files now files_after divided f flushed h =
+flushed_so_far {files = files} {now = now} {files_after = files_after} divided flushed h =
     let u = divided h.text h.written h.under_way in
     let t = flushed u.maps h.written u.taken in
     record {
@@ -187,15 +187,17 @@ split_fault_of count f left left_after text h k = grind arith
 
 -- ---- the end
 
-pub adds_shards : (count : ℕ) (d e : Divider) (p : Pieces) (text : List ℕ) (written : Files)
-    (first files files_after : Option Files) (told : Division) (h : AreUnderWay count d p text written)
-    (t : AreTakenOf p.text.items count e h.maps written) (last : Divider)
+pub adds_shards : {count : ℕ} {d e last : Divider} {p : Pieces} {text : List ℕ} {written : Files}
+    {first files files_after : Option Files} {told : Division} (h : AreUnderWay count d p text written)
+    (t : AreTakenOf p.text.items count e h.maps written)
     (f : AreTakenAfter count last (h.maps ++ t.more) written files files_after)
     → AddsFiles first files written → NoneWait last.waiting.items
     → told.counts.items ≡ map (λ w. w.count) last.waiting.items
     → ((counts : ℕ → ℕ) → IsTally last.tally counts → AreLarge counts told.large.items)
     → length last.waiting.items ≡ last.shards → AddsShards count told text first files_after
-adds_shards count d e p text written first files files_after told h t last f adds none counted large long =
+adds_shards {count} {last = last} {p = p} {text = text} {written = written} {first = first} {files = files}
+    {files_after = files_after}
+    h t f adds none counted large long =
     let maps : List SpelledMap = h.maps ++ t.more in
     let spelled : Spells (forms_of maps) text =
     rw (h.parts, forms_both h.maps t.more) (h.lines (forms_of t.more) p.text.items t.spells) in

@@ -120,24 +120,13 @@ unseen has p s x a es q may runs = grind (arith, closed_does_nothing p idle es)
 
 runs_on : (has : ℕ → Bool) (p : ℕ) (s : State) (es : List Event) → Runs p s es → Runs p (seen has s) (events_on has es)
 runs_on has p s [] runs = tt
-runs_on has p s (e ∷ es) runs = go (has e.object) refl (λ t. runs_on has p t es)
-  where
-    go : (b : Bool) → has e.object ≡ b → ((t : State) → Runs p t es → Runs p (seen has t) (events_on has es))
-        → Runs p (seen has s) (cond b (e ∷ events_on has es) (events_on has es))
-    go true here later = (
-      λ q. (
-        may_seen has s e.object e.action here (runs.0 q).0,
-        subst (λ t. Runs p t (events_on has es)) (seen_by has e.object e.action here)
-            (later (state_by e.object e.action) (runs.0 q).1),
-      ),
-      λ q. later s (runs.1 q),
-    )
-    go false elsewhere later = own (e.process == p) refl
-      where
-        own : (c : Bool) → (e.process == p) ≡ c → Runs p (seen has s) (events_on has es)
-        own true q = unseen has p s e.object e.action (events_on has es) elsewhere (runs.0 q).0
-            (later (state_by e.object e.action) (runs.0 q).1)
-        own false q = later s (runs.1 q)
+runs_on has p s (e ∷ es) runs =
+    let x = e.object in
+    let a = e.action in
+    let rest = events_on has es in
+    let now = runs_on has p (state_by x a) es in
+    let later = runs_on has p s es in
+    grind (arith, now, later, may_seen has s x a, seen_by has x a, unseen has p s x a rest)
 
 -- the events on some of the objects are proper
 pub proper_on : (has : ℕ → Bool) (es : List Event) → IsProper es → IsProper (events_on has es)

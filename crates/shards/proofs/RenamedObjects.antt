@@ -107,13 +107,12 @@ may_by_name name s x a h = grind arith
 runs_renamed : (name : ℕ → ℕ) (p : ℕ) (s : State) (es : List Event) → Runs p s es
     → Runs p (state_named name s) (renamed name es)
 runs_renamed name p s [] runs = tt
-runs_renamed name p s (e ∷ es) runs = (
-  λ q. (
-    may_by_name name s e.object e.action (runs.0 q).0,
-    rw (state_by_name name e.object e.action) at (runs_renamed name p (state_by e.object e.action) es (runs.0 q).1),
-  ),
-  λ q. runs_renamed name p s es (runs.1 q),
-)
+runs_renamed name p s (e ∷ es) runs =
+    let x = e.object in
+    let a = e.action in
+    let now = runs_renamed name p (state_by x a) es in
+    let later = runs_renamed name p s es in
+    grind (arith, now, later, may_by_name name s x a, state_by_name name x a)
 
 -- no two objects that the events name get the same name
 abbrev pub HaveOwnNames : (ℕ → ℕ) → List Event → Type 0

@@ -1,7 +1,8 @@
 -- Numbers do not matter to what events denote: the same events with other numbers are proper where their numbers rise,
 -- and denote the same history without its numbers. Each lemma goes along both lists, an event at a time.
-use Rattle.std.proofs.Common.{arith, ◌≡◌, ℕ, ◌==◌, Bool, true, false, cond, inl, inr, List, [], ◌∷◌, ◌++◌, map, Some}
+use Rattle.std.proofs.Common.{arith, ◌≡◌, ℕ, ◌==◌, Bool, true, false, cond, inl, inr, List, [], ◌∷◌, ◌++◌, map}
 use Rattle.std.proofs.Common.{refl, ap, sym, ◌∙◌, subst}
+use Rattle.std.specs.List.{AllZip}
 use Rattle.std.proofs.lemmas.List.{map-append}
 use Rattle.model.specs.declared.Kind.{Kind}
 use Rattle.model.specs.Objects.{specification}
@@ -12,17 +13,14 @@ use Rattle.model.specs.Orders.{Numbered, events}
 use Rattle.model.specs.Lists.{In}
 use Rattle.events.specs.declared.event.Action.{Action}
 use Rattle.events.specs.declared.event.Event.{Event}
-use Rattle.events.specs.Events.{next_event, is_fail, fails, denoted_by, denoted, kind_by, kind_of_object, IsProper}
+use Rattle.events.specs.Events.{next_event, fails, denoted_by, denoted, kind_by, kind_of_object, IsProper}
 use Rattle.events.proofs.ProcessRuns.{State, idle, state_by, MayDo, Runs, runs_from_start}
 use Rattle.shards.specs.Shards.{said, AreRenumbered, DenoteLinearizable}
 use Rattle.shards.proofs.Proper.{proper_of_kinds, proper_from}
 
 -- the same events, one by one
 abbrev pub AreSame : List Event → List Event → Type 0
-AreSame [] [] = Unit {0}
-AreSame [] (f ∷ fs) = ⊥
-AreSame (e ∷ es) [] = ⊥
-AreSame (e ∷ es) (f ∷ fs) = (said e ≡ said f) × AreSame es fs
+AreSame es fs = AllZip (λ e f. said e ≡ said f) es fs
 
 -- events that say the same, one by one, are the same apart from their numbers
 pub same_from : (es fs : List Event) → map said es ≡ map said fs → AreSame es fs
@@ -74,13 +72,10 @@ kinds_same x es fs same = absurd same
 fails_same : (p : ℕ) (es fs : List Event) → AreSame es fs → fails (next_event p es) ≡ fails (next_event p fs)
 fails_same p [] [] same = refl
 fails_same p (e ∷ es) (f ∷ fs) same =
-    go (e.process == p) (fails_same p es fs same.1)
-    ∙ ap (λ t. fails (cond (t.0 == p) (Some f) (next_event p fs))) same.0
-  where
-    go : (b : Bool) → fails (next_event p es) ≡ fails (next_event p fs)
-        → fails (cond b (Some e) (next_event p es)) ≡ fails (cond b (Some f) (next_event p fs))
-    go true later = ap (λ t. is_fail t.2) same.0
-    go false later = later
+    let rest = fails_same p es fs same.1 in
+    let process = ap (λ t. t.0) same.0 in
+    let action = ap (λ t. t.2) same.0 in
+    grind arith
 fails_same p es fs same = absurd same
 
 unnumbered : (n m p x : ℕ) (a : Action) (failed : Bool)
@@ -95,19 +90,12 @@ first_of_history e es = map-append (λ (m : Numbered). m.event)
 
 history_same : (es fs : List Event) → AreSame es fs → events (denoted es) ≡ events (denoted fs)
 history_same [] [] same = refl
-history_same [] (f ∷ fs) same = absurd same
-history_same (e ∷ es) [] same = absurd same
 history_same (e ∷ es) (f ∷ fs) same =
     let others : List model.Event = events (denoted fs) in
-    first_of_history e es
-    ∙ (ap (λ later. events (denoted_by e.number e.process e.object e.action (fails (next_event e.process es))) ++ later)
-    (history_same es fs same.1)
-    ∙ (ap (λ b. events (denoted_by e.number e.process e.object e.action b) ++ others)
-    (fails_same e.process es fs same.1)
-    ∙ (ap (λ t. events (denoted_by e.number t.0 t.1 t.2 (fails (next_event t.0 fs))) ++ others) same.0
-    ∙ (ap (λ first. first ++ others)
-    (unnumbered e.number f.number f.process f.object f.action (fails (next_event f.process fs)))
-    ∙ sym (first_of_history f fs)))))
+    rw (first_of_history e es, first_of_history f fs, history_same es fs same.1, fails_same e.process es fs same.1)
+    (ap (λ t. events (denoted_by e.number t.0 t.1 t.2 (fails (next_event t.0 fs))) ++ others) same.0
+    ∙ rw (unnumbered e.number f.number f.process f.object f.action (fails (next_event f.process fs))))
+history_same es fs same = absurd same
 
 -- where each object has the same kind, the same histories are linearizable
 with_kinds : (kinds others : ℕ → Kind) (h : List model.Event) → ((x : ℕ) → kinds x ≡ others x) → IsLinearizable kinds h

@@ -193,22 +193,6 @@ at_all (m ∷ ms) [] i z x h l = absurd h
 at_all (m ∷ ms) (d ∷ ds) zero z x h l = h.0
 at_all (m ∷ ms) (d ∷ ds) (suc i) z x h l = at_all ms ds i z x h.1 (omega arith)
 
--- the next map of a piece
-pub record IsNextMap (ms : List MapText) (ds : List Datum) (i : ℕ) (m : MapText) : Type 0 where
-  pub form : Datum
-  pub is : IsMapText m form
-  pub more : take (i + 1) ds ≡ take i ds ++ form ∷ []
-
-next_map : (ms : List MapText) (ds : List Datum) (i : ℕ) (z : MapText) → AreMapTexts ms ds → i < length ms
-    → IsNextMap ms ds i (get_or ms i z)
-next_map ms ds i z h l =
-    let long : i < length ds = omega (arith, l, length_all ms ds h) in
-    record {
-      form = get_or ds i (atom nil);
-      is = at_all ms ds i z (atom nil) h l;
-      more = take_more ds i (atom nil) long;
-    }
-
 -- Of the maps of a piece, which are of these forms, this number was taken.
 pub record AreTakenUpTo (i : ℕ) (ds : List Datum) (count : ℕ) (d : Divider) (maps : List SpelledMap)
     (written : Files) : Type 0 where
@@ -223,23 +207,6 @@ none_taken ds count d maps written h = record {
   are = refl;
   taken = rw (append-nil maps) h;
 }
-
--- one more was taken
-pub map_taken : (count : ℕ) (mid new : Divider) (maps : List SpelledMap) (written : Files) (ms : List MapText)
-    (ds : List Datum) (i : ℕ) (z : MapText) (text : List ℕ) → AreMapTexts ms ds → i < length ms
-    → text ≡ skip (get_or ms i z).text.now
-    → ((more : List SpelledMap) (d : Datum) → Says (get_or ms i z).said d → Spells (d ∷ []) text
-    → AreMapsTaken count mid more written → AreTakenWith d count new more written)
-    → AreTakenUpTo i ds count mid maps written → AreTakenUpTo (i + 1) ds count new maps written
-map_taken count mid new maps written ms ds i z text h l bare take_one t =
-    let n = next_map ms ds i z h l in
-    let spells : Spells (n.form ∷ []) text = rw bare (bare_spells n.form (get_or ms i z).text.now n.is.spelled) in
-    let one = take_one (maps ++ t.more) n.form n.is.says spells t.taken in
-    record {
-      more = t.more ++ one.0 ∷ [];
-      are = rw (forms_push t.more one.0, one.1, t.are, n.more);
-      taken = rw (← append_assoc maps t.more (one.0 ∷ [])) one.2;
-    }
 
 -- all maps of the piece were taken
 pub all_taken : (count : ℕ) (d : Divider) (maps : List SpelledMap) (written : Files) (piece : List ℕ)
@@ -269,8 +236,8 @@ found_more ds es f h = (
     split = ap (λ xs. xs ++ es) g.split ∙ append_assoc g.earlier (g.form ∷ g.later) es;
     place = g.place;
     stands = g.stands;
+    faultless = g.faultless;
     least = g.least;
-    first = g.first;
   },
   λ many. let g = h.1 many in
       let within : most_maps ≤ length ds = omega (arith, g.1) in
@@ -309,43 +276,66 @@ unfit_last count ds d c faultless client unfit fit = record {
   first = fit;
 }
 
--- what is found at the next map is found among all maps of the piece
-found_in_all : (maps more : List SpelledMap) (ms : List MapText) (ds : List Datum) (i : ℕ) (z : MapText)
-    (Found : List Datum → Type 0) → ((xs es : List Datum) → Found xs → Found (xs ++ es)) → AreMapTexts ms ds
-    → i < length ms → forms_of more ≡ take i ds
-    → ((d : Datum) → Says (get_or ms i z).said d → Found (forms_of (maps ++ more) ++ d ∷ []))
-    → Found (forms_of maps ++ ds)
-found_in_all maps more ms ds i z Found longer h l are found =
-    let n = next_map ms ds i z h l in
-    let rest : List Datum = drop (i + 1) ds in
-    let all : (forms_of (maps ++ more) ++ n.form ∷ []) ++ rest ≡ forms_of maps ++ ds =
-    rw (
-      map-append (λ (x : SpelledMap). x.form) maps more,
-      are,
-      append_assoc (forms_of maps) (take i ds) (n.form ∷ []),
-      ← n.more,
-      append_assoc (forms_of maps) (take (i + 1) ds) rest,
-      take-append-drop (i + 1) ds,
-    ) in
-    rw all at (longer (forms_of (maps ++ more) ++ n.form ∷ []) rest (found n.form n.is.says))
+-- ---- the next map of a piece
 
-pub piece_fault : (count : ℕ) (d : Divider) (maps : List SpelledMap) (written : Files) (piece : List ℕ)
-    (ms : List MapText) (ds : List Datum) (i : ℕ) (z : MapText) (f : PieceFault) → AreMapTexts ms ds → Spells ds piece
-    → i < length ms → AreTakenUpTo i ds count d maps written
-    → ((more : List SpelledMap) (e : Datum) → Says (get_or ms i z).said e → AreMapsTaken count d more written
-    → IsMapFoundAmong count (forms_of more ++ e ∷ []) f)
-    → IsPieceFault count (forms_of maps) piece f
-piece_fault count d maps written piece ms ds i z (Malformed (Text e)) h spells l t found =
-    let n = next_map ms ds i z h l in absurd (found (maps ++ t.more) n.form n.is.says t.taken)
-piece_fault count d maps written piece ms ds i z (Malformed (Maps f)) h spells l t found = λ few. (
-  ds,
-  spells,
-  found_in_all maps t.more ms ds i z (λ xs. IsFoundAmong xs f) (λ xs es. found_more xs es f) h l t.are
-      (λ e says. found (maps ++ t.more) e says t.taken few),
-)
-piece_fault count d maps written piece ms ds i z (FewShards x) h spells l t found = (
-  ds,
-  spells,
-  found_in_all maps t.more ms ds i z (λ xs. NeedsMoreShards count xs x) (λ xs es. unfit_more count xs es x) h l t.are
-      (λ e says. found (maps ++ t.more) e says t.taken),
-)
+module _ (ms : List MapText) (ds : List Datum) (i : ℕ) (z : MapText) (h : AreMapTexts ms ds) (l : i < length ms) where
+  abbrev form : Datum
+  form = get_or ds i (atom nil)
+
+  is_text : IsMapText (get_or ms i z) form
+  is_text = at_all ms ds i z (atom nil) h l
+
+  one_form : take (i + 1) ds ≡ take i ds ++ form ∷ []
+  one_form = let long = length_all ms ds h in take_more ds i (atom nil) (omega arith)
+
+  -- it was taken too
+  pub map_taken : (count : ℕ) (mid new : Divider) (maps : List SpelledMap) (written : Files) (text : List ℕ)
+      → text ≡ skip (get_or ms i z).text.now
+      → ((more : List SpelledMap) (d : Datum) → Says (get_or ms i z).said d → Spells (d ∷ []) text
+      → AreMapsTaken count mid more written → AreTakenWith d count new more written)
+      → AreTakenUpTo i ds count mid maps written → AreTakenUpTo (i + 1) ds count new maps written
+  map_taken count mid new maps written text bare take_one t =
+      let spells : Spells (form ∷ []) text = rw bare (bare_spells form (get_or ms i z).text.now is_text.spelled) in
+      let one = take_one (maps ++ t.more) form is_text.says spells t.taken in
+      record {
+        more = t.more ++ one.0 ∷ [];
+        are = rw (forms_push t.more one.0, one.1, t.are, one_form);
+        taken = rw (← append_assoc maps t.more (one.0 ∷ [])) one.2;
+      }
+
+  -- what is found at it is found among all maps of the piece
+  found_in_all : (maps more : List SpelledMap) (Found : List Datum → Type 0)
+      → ((xs es : List Datum) → Found xs → Found (xs ++ es)) → forms_of more ≡ take i ds
+      → Found (forms_of (maps ++ more) ++ form ∷ []) → Found (forms_of maps ++ ds)
+  found_in_all maps more Found longer are found =
+      let rest : List Datum = drop (i + 1) ds in
+      let all : (forms_of (maps ++ more) ++ form ∷ []) ++ rest ≡ forms_of maps ++ ds =
+      rw (
+        map-append (λ (x : SpelledMap). x.form) maps more,
+        are,
+        append_assoc (forms_of maps) (take i ds) (form ∷ []),
+        ← one_form,
+        append_assoc (forms_of maps) (take (i + 1) ds) rest,
+        take-append-drop (i + 1) ds,
+      ) in
+      rw all at (longer (forms_of (maps ++ more) ++ form ∷ []) rest found)
+
+  pub piece_fault : (count : ℕ) (d : Divider) (maps : List SpelledMap) (written : Files) (piece : List ℕ)
+      (f : PieceFault) → Spells ds piece → AreTakenUpTo i ds count d maps written
+      → ((more : List SpelledMap) (e : Datum) → Says (get_or ms i z).said e → AreMapsTaken count d more written
+      → IsMapFoundAmong count (forms_of more ++ e ∷ []) f)
+      → IsPieceFault count (forms_of maps) piece f
+  piece_fault count d maps written piece (Malformed (Text e)) spells t found =
+      absurd (found (maps ++ t.more) form is_text.says t.taken)
+  piece_fault count d maps written piece (Malformed (Maps f)) spells t found = λ few. (
+    ds,
+    spells,
+    found_in_all maps t.more (λ xs. IsFoundAmong xs f) (λ xs es. found_more xs es f) t.are
+        (found (maps ++ t.more) form is_text.says t.taken few),
+  )
+  piece_fault count d maps written piece (FewShards x) spells t found = (
+    ds,
+    spells,
+    found_in_all maps t.more (λ xs. NeedsMoreShards count xs x) (λ xs es. unfit_more count xs es x) t.are
+        (found (maps ++ t.more) form is_text.says t.taken),
+  )

@@ -61,38 +61,38 @@ whole_linearizable has es proper own each = linearizable_by es proper (λ e i.
 
 -- ---- shards
 
--- the objects of one shard have names of their own
-own_names : (shard_of name : ℕ → ℕ) (es : List Event) → AreApart shard_of name es → (s : ℕ)
-    → HaveOwnNames name (events_on (λ x. shard_of x == s) es)
-own_names shard_of name es apart s x y m n =
-    let there = named_on shard_of s x es m in
-    let here = named_on shard_of s y es n in
-    apart x y there.0 here.0 (there.1 ∙ sym here.1)
+module _ (shard_of name : ℕ → ℕ) (es : List Event) (shards : ℕ → List Event) (proper : IsProper es)
+    (apart : AreApart shard_of name es) (are : AreShards shard_of name es shards) where
+  abbrev part : ℕ → List Event
+  part s = events_on (λ x. shard_of x == s) es
 
-pub proper_shards : (shard_of name : ℕ → ℕ) (es : List Event) (shards : ℕ → List Event) → IsProper es
-    → AreApart shard_of name es → AreShards shard_of name es shards → (s : ℕ) → IsProper (shards s)
-proper_shards shard_of name es shards proper apart are s =
-    let part = events_on (λ x. shard_of x == s) es in
-    proper_renumbered (renamed name part) (shards s)
-    (renamed_proper name part (proper_on (λ x. shard_of x == s) es proper) (own_names shard_of name es apart s)) (are s)
+  part_proper : (s : ℕ) → IsProper (part s)
+  part_proper s = proper_on (λ x. shard_of x == s) es proper
 
--- a history is linearizable exactly if the history of each shard is
-pub decided_by_shards : (shard_of name : ℕ → ℕ) (es : List Event) (shards : ℕ → List Event) → IsProper es
-    → AreApart shard_of name es → AreShards shard_of name es shards
-    → (DenoteLinearizable es ↔ ((s : ℕ) → DenoteLinearizable (shards s)))
-decided_by_shards shard_of name es shards proper apart are = (
-  λ l s.
-      let has = λ (x : ℕ). shard_of x == s in
-      let part = events_on has es in
-      linearizable_same (renamed name part) (shards s) (same_from (renamed name part) (shards s) (sym (are s).same))
-      (renamed_linearizable name part (proper_on has es proper) (own_names shard_of name es apart s)
-      (part_linearizable has es proper l)),
-  λ each. whole_linearizable (λ x y. shard_of y == shard_of x) es proper (λ x. eq-eqb (shard_of x) (shard_of x) refl)
-      (λ x.
-      let s = shard_of x in
-      let has = λ (y : ℕ). shard_of y == s in
-      let part = events_on has es in
-      linearizable_renamed name part (proper_on has es proper) (own_names shard_of name es apart s)
-      (linearizable_same (shards s) (renamed name part) (same_from (shards s) (renamed name part) (are s).same)
-      (each s))),
-)
+  -- the objects of one shard have names of their own
+  own_names : (s : ℕ) → HaveOwnNames name (part s)
+  own_names s x y m n =
+      let there = named_on shard_of s x es m in
+      let here = named_on shard_of s y es n in
+      apart x y there.0 here.0 (there.1 ∙ sym here.1)
+
+  pub proper_shards : (s : ℕ) → IsProper (shards s)
+  proper_shards s = proper_renumbered (renamed name (part s)) (shards s)
+      (renamed_proper name (part s) (part_proper s) (own_names s)) (are s)
+
+  -- a history is linearizable exactly if the history of each shard is
+  pub decided_by_shards : DenoteLinearizable es ↔ ((s : ℕ) → DenoteLinearizable (shards s))
+  decided_by_shards = (
+    λ l s.
+        let own = renamed name (part s) in
+        linearizable_same own (shards s) (same_from own (shards s) (sym (are s).same))
+        (renamed_linearizable name (part s) (part_proper s) (own_names s)
+        (part_linearizable (λ x. shard_of x == s) es proper l)),
+    λ each. whole_linearizable (λ x y. shard_of y == shard_of x) es proper
+        (λ x. eq-eqb (shard_of x) (shard_of x) refl)
+        (λ x.
+        let s = shard_of x in
+        let own = renamed name (part s) in
+        linearizable_renamed name (part s) (part_proper s) (own_names s)
+        (linearizable_same (shards s) own (same_from (shards s) own (are s).same) (each s))),
+  )

@@ -20,17 +20,14 @@ loop-byte-preserved c ns short is =
     let so_far = l.invariant ns short is in
     elim c.if-byte-eq10.branch [
       | then-byte-eq10+in_ok-push w ↦
-          subst (λ v. IsReadTo ns v.items c.if-byte-eq10.number rest) (sym w.numbers-is)
-          (subst (λ n. IsReadTo ns w.push.new.self.items n rest) (sym w.number-is)
-          (line_at table ns l.numbers.items w.push.new.self.items l.number i short c.loop-byte-test.true
-          w.if-byte-eq10.true w.in_ok-push.ensures.items so_far))
+          rw (w.numbers-is, w.number-is) (line_at table ns l.numbers.items w.push.new.self.items l.number i short
+          c.loop-byte-test.true w.if-byte-eq10.true w.in_ok-push.ensures.items so_far)
       | else-byte-eq10+in-Some w ↦
           let r = digit_at table ns l.numbers.items l.number i short c.loop-byte-test.true w.if-byte-eq10.false
           so_far in
-          subst (λ v. IsReadTo ns v.items c.if-byte-eq10.number rest) (sym w.numbers-is)
-          (subst (λ n. IsReadTo ns l.numbers.items n rest) (sym w.number-is)
+          rw (w.numbers-is, w.number-is)
           (subst (λ n. IsReadTo ns l.numbers.items n rest) (sym (same_Some _ _ (w.in-Some.ensures r.digit r.short)))
-          r.read))
+          r.read)
     ]
 
 pub returns-in_default-clause-misfit : goal.returns-in_default-clause-misfit

@@ -1,6 +1,6 @@
 -- `renumber`: each event has the number in its place of the list, and these rise. A number that is not there or
 -- does not rise means a misfit; the least one that may come is one past the last.
-use Rattle.std.proofs.Common.{◌+◌, ◌<◌, [], ◌∷◌, ◌++◌, get_or, length, ap, sym, ◌∙◌, subst}
+use Rattle.std.proofs.Common.{◌+◌, ◌<◌, [], ◌∷◌, ◌++◌, get_or, length, ap, ◌∙◌}
 use Rattle.std.proofs.lemmas.List.Elements.{All-more}
 use Rattle.events.specs.declared.event.Event.{Event}
 use Rattle.events.proofs.Gathering.{placeholder_event}
@@ -25,8 +25,7 @@ loop-event-preserved c =
           ∙ ap (λ n. l.renumbered.items ++ record (get_or es i d) { number = n } ∷ []) c.in-Some.ensures.own);
       placed = All-more (λ x. x.number < length ns) es i d c.loop-event-test.true l.invariant.placed
           c.in-Some.ensures.placed;
-      rise = subst (λ n. RiseBelow (n + 1) c.push.new.self.items) (sym next)
-          (subst (RiseBelow (c.in-Some.number + 1)) (sym c.in_ok-push.ensures.items) rise);
+      rise = rw (next, c.in_ok-push.ensures.items) rise;
       due = due_more ns es i (c.from-least.result + 1) d (ap (λ n. n + 1) (next ∙ c.in-Some.ensures.own));
     }
 

@@ -1,9 +1,8 @@
 -- `with_table`: the events have the numbers of the table, which fits the history. There is one number for each
 -- event, and the events made of them rise in number (`fits`), so they are a history too (`proper_renumbered`).
-use Rattle.std.proofs.Common.{◌≡◌, length, ap, sym, ◌∙◌, subst, arith}
+use Rattle.std.proofs.Common.{◌≡◌, length, ap, ◌∙◌, arith}
 use Rattle.shards.specs.Dividing.{table_text, with_numbers}
-use Rattle.shards.specs.Shards.{AreRenumbered}
-use Rattle.shards.specs.Tables.{AreShort, FitsTable}
+use Rattle.shards.specs.Tables.{FitsTable}
 use Rattle.shards.proofs.Numbers.{fits}
 use Rattle.shards.proofs.Renumbered.{proper_renumbered}
 use Rattle.shards.proofs.numbering.with_table.Goals as goal
@@ -13,9 +12,7 @@ use Rattle.shards.proofs.numbering.with_table.Goals.{In_ok-renumber}
 numbered : (c : In_ok-renumber)
     → c.in_ok-renumber.field-0.items ≡ with_numbers c.in_ok-numbers.numbers.items c.args.history
 numbered c =
-    c.in_ok-renumber.ensures.numbered
-    ∙ (ap (λ ns. with_numbers ns c.events-events.result.now) c.deref.ensures.value
-    ∙ ap (with_numbers c.in_ok-numbers.numbers.items) c.events-events.ensures.events)
+    c.in_ok-renumber.ensures.numbered ∙ rw (c.deref.ensures.value, c.events-events.ensures.events)
 
 -- and these fit
 fitting : (c : In_ok-renumber) → FitsTable c.in_ok-numbers.numbers.items c.args.table.now c.args.history
@@ -30,16 +27,14 @@ fitting c =
     let read = c.len.ensures in
     let same = c.if-len-events.false in
     omega (arith, long, ok, read, same) in
-    subst (λ xs. FitsTable xs c.args.table.now c.args.history) value
-    (subst (FitsTable ns c.args.table.now) c.events-events.ensures.events
-    (fits ns c.args.table.now es c.in_ok-renumber.field-0.items
-    (ap table_text value ∙ c.in_ok-numbers.ensures.written) (subst AreShort (sym value) c.in_ok-numbers.ensures.short)
-    one_each made.numbered made.placed made.rising))
+    rw (value, c.events-events.ensures.events) at (fits ns c.args.table.now es c.in_ok-renumber.field-0.items
+    (ap table_text value ∙ c.in_ok-numbers.ensures.written) (rw value c.in_ok-numbers.ensures.short)
+    one_each made.numbered made.placed made.rising)
 
 pub new-requires : goal.new-requires
 new-requires c = proper_renumbered c.args.history c.in_ok-renumber.field-0.items
     c.events-events.ensures.proper
-    (subst (AreRenumbered c.args.history) (sym (numbered c)) (fitting c).renumbered)
+    (rw (numbered c) (fitting c).renumbered)
 
 pub returns-clause-numbered : goal.returns-clause-numbered
 returns-clause-numbered c =

@@ -16,7 +16,5 @@ returns-clause-divided g c = λ count text written files h adds.
     let of = rw c.text.ensures at (c.in-Ok.ensures.taken count h.maps written h.taken) in
     let last = c.flush.new.self in
     let long : length last.waiting.items ≡ last.shards = omega (arith, last.each, last.waiting.ok.0) in
-    adds_shards count c.args.divider.now c.take.new.self p text written files (g.D.Folder.files c.args.folder.now)
-    (g.D.Folder.files c.flush.new.folder) c.in_ok-division.field-0 h of last
-    (c.in-Ok-flush.ensures.taken count (h.maps ++ of.more) written of.taken) adds (c.in-Ok-flush.ensures.none_wait refl)
-    c.in_ok-division.ensures.counts c.in_ok-division.ensures.large long
+    adds_shards h of (c.in-Ok-flush.ensures.taken count (h.maps ++ of.more) written of.taken) adds
+    (c.in-Ok-flush.ensures.none_wait refl) c.in_ok-division.ensures.counts c.in_ok-division.ensures.large long

@@ -25,10 +25,8 @@ pub returns-in-Ok-clause-divided : goal.returns-in-Ok-clause-divided
 returns-in-Ok-clause-divided c =
     on_ok_weaker c.pass.result
     (λ pass count text written h.
-    let piece = take c.in-Some.length c.args.pieces.now.text.items in
     let of = rw c.text.ensures at (c.in-Ok.ensures.taken count h.maps written h.taken) in
-    passes_piece count c.args.divider.now c.take.new.self c.args.pieces.now c.pass.new.self text piece written h of
-    pass)
+    passes_piece h of pass)
     c.pass.ensures.passes
 
 pub returns-else-ends_inside_form-clause-fault : goal.returns-else-ends_inside_form-clause-fault

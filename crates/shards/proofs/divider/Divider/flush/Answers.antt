@@ -24,9 +24,8 @@ loop-shard-preserved g c =
     omega (arith, l.self.each, l.self.waiting.ok.0, l.invariant.shards, c.loop-shard-test.true) in
     let done = c.in_ok-flush.ensures in
     record {
-      taken = λ count maps written h. flushed_more count l.self _ maps written (g.D.Folder.files c.args.folder.now)
-          (g.D.Folder.files l.folder) (g.D.Folder.files c.flush.new.folder) l.shard c.index_mut.result.now v within
-          c.index_mut.ensures.value refl refl refl refl done.flushes (l.invariant.taken count maps written h);
+      taken = λ count maps written h. flushed_more count l.self _ maps within c.index_mut.ensures.value refl refl refl
+          refl done.flushes written (g.D.Folder.files c.args.folder.now) (l.invariant.taken count maps written h);
       usable = done.usable;
       shards = l.invariant.shards;
       maps = λ q. none_more (λ w. w.maps.items) [] ws l.shard v within (done.none_wait q).0 (l.invariant.maps q);

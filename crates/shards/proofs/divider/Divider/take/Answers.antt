@@ -13,8 +13,8 @@ pub loop-map-preserved : goal.loop-map-preserved
 loop-map-preserved c = λ count maps written ds h taken.
     let l = c.loop-map in
     let items = c.deref-map-items.result.now in
-    map_taken count l.self c.take_map.new.self maps written items ds l.map-index _ c.skip.result.now h
-    c.loop-map-test.true c.skip.ensures (λ more d. c.in-Ok-take_map.ensures.taken count more written d)
+    map_taken items ds l.map-index _ h c.loop-map-test.true count l.self c.take_map.new.self maps written
+    c.skip.result.now c.skip.ensures (λ more d. c.in-Ok-take_map.ensures.taken count more written d)
     (l.invariant count maps written ds h taken)
 
 pub returns-in-Err-take_map-clause-fault : goal.returns-in-Err-take_map-clause-fault
@@ -23,8 +23,8 @@ returns-in-Err-take_map-clause-fault c = λ count maps written taken.
     let items = c.deref-map-items.result.now in
     let of = c.in-Ok.ensures.maps in
     let h = subst (λ (ms : List MapText). AreMapTexts ms of.0) (sym c.deref-map-items.ensures.value) of.2 in
-    piece_fault count l.self maps written c.args.piece.now items of.0 l.map-index _ c.in-Err-take_map.fault h of.1
-    c.loop-map-test.true (l.invariant count maps written of.0 h taken)
+    piece_fault items of.0 l.map-index _ h c.loop-map-test.true count l.self maps written c.args.piece.now
+    c.in-Err-take_map.fault of.1 (l.invariant count maps written of.0 h taken)
     (λ more e. c.in-Err-take_map.ensures.fault count more written e)
 
 pub returns-clause-taken : goal.returns-clause-taken

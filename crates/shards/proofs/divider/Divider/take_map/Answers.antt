@@ -1,15 +1,10 @@
 -- `take_map`: one map more is taken in, or the fault is found among the maps with this one as the last. The map has
 -- an event exactly where it is of a client (`event_is`, `no_client`); any other goes to no shard.
 use Rattle.std.proofs.lemmas.Bool.{cases_lt}
-use Rattle.std.proofs.Common.{◌≡◌, ◌≤◌, ◌/◌, inl, inr, ◌++◌, ◌∷◌, ◌∙◌, [], Option, arith, refl, sym, subst}
-use Rattle.std.proofs.Common.{option_to_list, rules}
+use Rattle.std.proofs.Common.{◌≤◌, ◌/◌, inl, inr, ◌++◌, ◌∷◌, ◌∙◌, [], arith, refl, sym, rules}
 use Rattle.std.proofs.lemmas.List.{length-append}
-use Rattle.events.specs.declared.event.Event.{Event}
-use Rattle.history.specs.declared.client_map.OperationMap.{OperationMap}
-use Rattle.history.specs.declared.long_reader.LongReader.{LongReader}
-use Rattle.history.specs.Denotes.{events_of_forms}
 use Rattle.history.specs.LongReading.{AreReadAtAnyLength}
-use Rattle.history.specs.Views.{Says, client_map}
+use Rattle.history.specs.Views.{client_map}
 use Rattle.shards.specs.Taking.{forms_of}
 use Rattle.shards.proofs.EventsOfMaps.{event_is, no_client, says_client}
 use Rattle.shards.specs.Dividing.{FitsAmong, most_names}
@@ -22,12 +17,10 @@ returns-in-Ok-clause-taken c = λ count maps written d says spells h.
     let ds = forms_of maps in
     let some = c.in-Ok-Some in
     let own = event_is ds d some.event
-    (subst (λ (o : Option Event). events_of_forms 0 (ds ++ d ∷ []) ≡ events_of_forms 0 ds ++ option_to_list o)
-    some.field-0-is
-    (some.ensures.event ds d says h.read)) in
-    let read = subst (λ (r : LongReader). AreReadAtAnyLength r (ds ++ d ∷ [])) (sym c.in-Ok.ensures.reader)
-    (some.ensures.read ds d says h.read) in
-    let client = subst (λ (s : OperationMap). Says s d) c.in-OfClient.is says in
+    (rw some.field-0-is at (some.ensures.event ds d says h.read)) in
+    let read : AreReadAtAnyLength c.put.new.self.reader (ds ++ d ∷ []) =
+    rw c.in-Ok.ensures.reader (some.ensures.read ds d says h.read) in
+    let client = rw c.in-OfClient.is at says in
     taken_map count c.args.self.now c.put.new.self maps written d (client_map c.in-OfClient.map client.0)
     some.event.number h read client.1 (search rules) own.number c.in-Ok.ensures.shards c.in-Ok.ensures.tally
     (c.in-Ok.ensures.adds d client spells)
@@ -38,16 +31,14 @@ returns-in-Ok-None-clause-taken c = λ count maps written d says spells h.
     let none = c.in-Ok-None in
     let read = none.ensures.read ds d says h.read in
     let no = no_client ds d read.faultless
-    (subst (λ (o : Option Event). events_of_forms 0 (ds ++ d ∷ []) ≡ events_of_forms 0 ds ++ option_to_list o)
-    none.field-0-is
-    (none.ensures.event ds d says h.read)) in
+    (rw none.field-0-is at (none.ensures.event ds d says h.read)) in
     taken_unseen count c.args.self.now _ maps written d h read no refl refl refl
 
 pub returns-then-not-fits-clause-fault : goal.returns-then-not-fits-clause-fault
 returns-then-not-fits-clause-fault c = λ count maps written d says h.
     let ds = forms_of maps in
     let map = c.in-OfClient.map in
-    let client = subst (λ (s : OperationMap). Says s d) c.in-OfClient.is says in
+    let client = rw c.in-OfClient.is at says in
     let read = c.in-Ok-Some.ensures.read ds d says h.read in
     let past = c.if-not-fits.ensures in
     let shards = c.args.self.now.shards in
@@ -55,7 +46,7 @@ returns-then-not-fits-clause-fault c = λ count maps written d says h.
       | inl fits ↦ let no = past.1 fits in absurd (cc no)
       | inr unfit ↦ unfit
     ] in
-    let unfit : count ≤ map.object / most_names = subst (λ n. n ≤ map.object / most_names) h.shards own in
+    let unfit = rw h.shards at own in
     unfit_last count ds d (client_map map client.0) read.faultless client.1 unfit
     (All-map (FitsAmong count) (λ m. m.form) maps h.fit)
 
@@ -66,8 +57,7 @@ returns-in_default c = record {
       let ds = forms_of maps in
       let some = c.in-Ok-Some in
       let own = event_is ds d some.event
-      (subst (λ (o : Option Event). events_of_forms 0 (ds ++ d ∷ []) ≡ events_of_forms 0 ds ++ option_to_list o)
-      some.field-0-is (some.ensures.event ds d says h.read)) in
+      (rw some.field-0-is at (some.ensures.event ds d says h.read)) in
       absurd (says_client c.args.said d own.map says own.client c.in_default.not-OfClient);
   fault = tt;
   of_map = tt;
