@@ -6,6 +6,7 @@ mod checking;
 mod folders;
 mod line_fault;
 mod program;
+mod reporting;
 mod running;
 mod simulating;
 mod sources;

@@ -5,7 +5,7 @@ ghost use Rattle.commands.specs.Runs.{IsReported, journals_of, logs_of};
 ghost use Rattle.commands.specs.Simulated as spec;
 ghost use Rattle.commands.specs.Simulated.{IsSimulation};
 
-use crate::running::record_output;
+use crate::reporting::record_output;
 use history_commands::{Output, Status, line_with_place, text_with_number};
 use simulation::{Played, SimulationFault, simulate};
 use std::alloc::{AllocError, Global};

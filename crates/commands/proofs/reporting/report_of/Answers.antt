@@ -2,7 +2,7 @@ use Rattle.std.proofs.Common.{rules, subst, sym}
 use Rattle.transcript.specs.Accounts.{AreCertificatesOf}
 use Rattle.commands.specs.Runs.{journals_of, logs_of}
 use Rattle.commands.proofs.Reports.{says_of}
-use Rattle.commands.proofs.running.report_of.Goals as goal
+use Rattle.commands.proofs.reporting.report_of.Goals as goal
 
 pub returns : goal.returns
 returns c =

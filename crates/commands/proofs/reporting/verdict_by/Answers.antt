@@ -1,5 +1,5 @@
 use Rattle.judging.proofs.Verdicts.{judges_by, yes_unless_memory}
-use Rattle.commands.proofs.running.verdict_by.Goals as goal
+use Rattle.commands.proofs.reporting.verdict_by.Goals as goal
 
 pub returns : goal.returns
 returns c =

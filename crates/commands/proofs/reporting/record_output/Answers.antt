@@ -1,5 +1,5 @@
 use Rattle.std.proofs.lemmas.Result.{IfOk-weaker}
-use Rattle.commands.proofs.running.record_output.Goals as goal
+use Rattle.commands.proofs.reporting.record_output.Goals as goal
 
 pub returns : goal.returns
 returns c =
