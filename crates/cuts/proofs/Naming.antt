@@ -10,7 +10,7 @@ use Rattle.events.specs.Operations.{ObjectCalls, calls_of}
 use Rattle.model.proofs.Lists.{Pairs}
 use Rattle.cuts.specs.declared.cutting.Cut.{Cut}
 use Rattle.cuts.specs.declared.cutting.Cut.TheVariants.{From, Without}
-use Rattle.cuts.specs.Absent.{IsWithoutAbsent}
+use Rattle.cuts.specs.Absent.{IsWithout}
 use Rattle.cuts.specs.Cuts.{IsSuffix, Names, NamesPart, kind_cut, part_kind}
 use Rattle.cuts.proofs.Later.{one_suffix}
 
@@ -29,12 +29,12 @@ from_one cut number calls (Err x) e rising h = tt
 -- the part leaves out the calls on an absent value, and the cut names the other calls
 pub without_named : (cut : Cut) (v w : ℤ) (before : ℕ) (calls : List Call)
     (cut_out : Result (Option ObjectCalls) AllocError) → cut ≡ Without v before → w ≡ v
-    → IfOk cut_out (λ o. IfSome o (λ p. IsWithoutAbsent w before calls (calls_of p.ops)))
+    → IfOk cut_out (λ o. IfSome o (λ p. IsWithout w before calls (calls_of p.ops)))
     → IfOk cut_out (λ o. IfSome o (λ p. Names cut calls (calls_of p.ops)))
 without_named cut v w before calls (Ok None) e f h = tt
 without_named cut v w before calls (Ok (Some p)) e f h =
     subst (λ (z : Cut). Names z calls (calls_of p.ops)) (sym e)
-    (subst (λ (z : ℤ). IsWithoutAbsent z before calls (calls_of p.ops)) f h)
+    (subst (λ (z : ℤ). IsWithout z before calls (calls_of p.ops)) f h)
 without_named cut v w before calls (Err x) e f h = tt
 
 -- the cuts name the same part of the whole as those of them that are left name of what the others cut

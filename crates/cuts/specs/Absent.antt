@@ -29,6 +29,5 @@ calls_without v number calls =
 
 -- The value definitely was absent before this number, and the part is the calls without those that
 -- had put it in or taken it out by then.
-abbrev pub IsWithoutAbsent : ℤ → ℕ → List Call → List Call → Type 0
-IsWithoutAbsent v number calls part = IsAbsent v number calls
-    × (part ≡ calls_without v number calls)
+abbrev pub IsWithout : ℤ → ℕ → List Call → List Call → Type 0
+IsWithout v number calls part = IsAbsent v number calls × (part ≡ calls_without v number calls)

@@ -9,7 +9,7 @@ use Rattle.model.specs.Orders.{Call, HasNoValidOrder}
 use Rattle.events.specs.declared.operations.End.TheVariants.{Failed}
 use Rattle.events.specs.declared.operations.Invocation.{Invocation}
 use Rattle.events.specs.Operations.{ObjectCalls, calls_of}
-use Rattle.cuts.specs.Absent.{IsWithoutAbsent}
+use Rattle.cuts.specs.Absent.{IsWithout}
 use Rattle.cuts.specs.Cells.{cell_calls, entry_calls}
 use Rattle.cuts.specs.Kinds.{kind_of_part}
 use Rattle.cuts.specs.declared.kinds.Place.TheVariants.{OfKey}
@@ -61,7 +61,7 @@ pub record IsSuffix (from : ℕ) (calls part : List Call) : Type 0 where
 abbrev pub Names : Cut → List Call → List Call → Type 0
 Names (From number) calls part = IsSuffix number calls part
 Names (Until number) calls part = part ≡ calls_before number calls
-Names (Without value before) calls part = IsWithoutAbsent value before calls part
+Names (Without value before) calls part = IsWithout value before calls part
 Names (Keep values numbers) calls part =
     IsClosedPart values numbers calls × (part ≡ kept_calls (keeps_number numbers) calls)
 Names (Cell values other numbers) calls part =

@@ -3,7 +3,7 @@
 
 ghost use Rattle.std.specs.Prelude.{◌≡◌, true, IfOk, IfSome, None, count_by, filter, not};
 ghost use Rattle.events.specs.Operations.{calls_of};
-ghost use Rattle.cuts.specs.Absent.{IsAbsent, IsWithoutAbsent};
+ghost use Rattle.cuts.specs.Absent.{IsAbsent, IsWithout};
 ghost use Rattle.cuts.specs.Cuts.{IsPart};
 ghost use Rattle.cuts.specs.CutOperations.{stays, op_is_put_before, op_is_taken_before};
 
@@ -103,7 +103,7 @@ pub(crate) fn part_without(
     ensures part { IfOk result (λ o. IfSome o (λ p. IsPart history.now p)) }
     ensures kind { IfOk result (λ o. IfSome o (λ p. p.kind ≡ history.now.kind)) }
     ensures calls { IfOk result (λ o. IfSome o (λ p.
-        IsWithoutAbsent value before (calls_of history.now.ops) (calls_of p.ops))) }
+        IsWithout value before (calls_of history.now.ops) (calls_of p.ops))) }
     // `None` is given only if the value may have been in the object.
     ensures refused { IfOk result (λ o. o ≡ None
         → IsAbsent value before (calls_of history.now.ops) → ⊥) }
