@@ -32,6 +32,12 @@ one_denoted : (text : List ℕ) (es : List Event) (ds : List Datum) → TextDeno
     → es ≡ events_of_forms 0 ds
 one_denoted text es ds d spelled = rw (← one_reading_of d.forms ds text d.spelled spelled) d.denoted.events
 
+-- a text denotes the events of forms without a fault that it spells
+denotes : (text : List ℕ) (ds : List Datum) → Spells ds text → IsFaultlessAtAnyLength ds
+    → TextDenotes text (events_of_forms 0 ds)
+denotes text ds spelled faultless =
+    record { forms = ds; spelled = spelled; denoted = record { faultless = faultless; events = refl } }
+
 module _ {shard_of name : ℕ → ℕ} {whole : List ℕ} {shards : ℕ → List ℕ}
     (h : IsSplit shard_of name whole shards) where
   abbrev own_forms : ℕ → List Datum
@@ -47,21 +53,13 @@ module _ {shard_of name : ℕ → ℕ} {whole : List ℕ} {shards : ℕ → List
   own_spelled s = rw (h.texts s) (shard_spells name (objects_of shard_of s) h.maps h.each)
 
   own_denoted : (s : ℕ) → TextDenotes (shards s) (own_events s)
-  own_denoted s = record {
-    forms = own_forms s;
-    spelled = own_spelled s;
-    denoted = record { faultless = faultless_in s; events = refl };
-  }
+  own_denoted s = denotes (shards s) (own_forms s) (own_spelled s) (faultless_in s)
 
   abbrev whole_events : List Event
   whole_events = events_of_forms 0 (forms_of h)
 
   whole_denoted : TextDenotes whole whole_events
-  whole_denoted = record {
-    forms = forms_of h;
-    spelled = h.spelled;
-    denoted = record { faultless = h.faultless; events = refl };
-  }
+  whole_denoted = denotes whole (forms_of h) h.spelled h.faultless
 
   are_shards : AreShards shard_of name whole_events own_events
   are_shards s = record {
@@ -128,11 +126,7 @@ at_length text l = record {
 nothing_linearizable : IsLinearizableAtAnyLength []
 nothing_linearizable = record {
   events = [];
-  denoted = record {
-    forms = [];
-    spelled = nothing_spelled;
-    denoted = record { faultless = nothing_faulty IsMapFault; events = refl };
-  };
+  denoted = denotes [] [] nothing_spelled (nothing_faulty IsMapFault);
   linearizable = nothing-linearizable;
 }
 

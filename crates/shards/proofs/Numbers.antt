@@ -1,7 +1,7 @@
 -- Events that get the numbers of a list are renumbered: they say what they said, and their numbers rise, or the list
 -- does not fit. A table is written line by line. By steps of loops, an event or a number at a time.
 use Rattle.std.proofs.Common.{◌≡◌, ℕ, ◌+◌, ◌<◌, ◌≤◌, List, [], ◌∷◌, ◌++◌, length, get_or, map, take}
-use Rattle.std.proofs.Common.{All, AllPairs, refl, ap, arith}
+use Rattle.std.proofs.Common.{All, AllPairs, refl, arith}
 use Rattle.std.proofs.lemmas.List.{get_or-map, length-map, map_more}
 use Rattle.std.proofs.lemmas.List.Elements.{All-push, All-weaker}
 use Rattle.std.proofs.lemmas.List.Quantifiers.{all_pairs_push}
@@ -58,12 +58,7 @@ numbers_rise : (ns : List ℕ) (es : List Event) (i j : ℕ) (d e : Event) → i
 numbers_rise ns es i j d e less within rising =
     let f = numbered_by ns in
     let long = length-map es f in
-    let two = rising i j d less (omega arith) in
-    let first : (get_or (with_numbers ns es) i d).number ≡ number_of ns es i d =
-    ap (λ (x : Event). x.number) (get_or-map f es i d d (omega arith)) in
-    let second : (get_or (with_numbers ns es) j d).number ≡ number_of ns es j e =
-    ap (λ (x : Event). x.number) (get_or-map f es j e d within) in
-    omega (arith, two, first, second)
+    rw (get_or-map f es i d d (omega arith), get_or-map f es j e d within) at (rising i j d less (omega arith))
 
 -- where the numbers of all events rise, none is below the next
 pub no_misfit : (ns : List ℕ) (es : List Event) (i next : ℕ) (d : Event) → i < length es → IsDue ns es i next

@@ -91,11 +91,6 @@ digit_of ns numbers number byte tail (n ∷ later) short all apart (d ∷ ds, le
       read = record { later = n ∷ later; all = all; rest = (ds, others, parts.1, value_is) };
     }
 
-read_digit : (ns numbers : List ℕ) (number byte : ℕ) (tail : List ℕ) → AreShort ns → (byte ≡ 10 → ⊥)
-    → IsReadTo ns numbers number (byte ∷ tail) → ReadsDigit ns numbers number byte tail
-read_digit ns numbers number byte tail short apart h =
-    digit_of ns numbers number byte tail h.later short h.all apart h.rest
-
 nothing_later : (number : ℕ) (later : List ℕ) → IsLeft number later [] → later ≡ []
 nothing_later number [] h = refl
 nothing_later number (n ∷ later) ([], left, digits, value) = absurd cc
@@ -112,8 +107,9 @@ line_at table ns numbers more number i short less feed is h =
 pub digit_at : (table ns numbers : List ℕ) (number i : ℕ) → AreShort ns → i < length table
     → (get_or table i 0 ≡ 10 → ⊥) → IsReadTo ns numbers number (drop i table)
     → ReadsDigit ns numbers number (get_or table i 0) (drop (i + 1) table)
-digit_at table ns numbers number i short less apart h = read_digit ns numbers number (get_or table i 0)
-    (drop (i + 1) table) short apart (rw (drop_more table i 0 less) at h)
+digit_at table ns numbers number i short less apart h =
+    let r = rw (drop_more table i 0 less) at h in
+    digit_of ns numbers number (get_or table i 0) (drop (i + 1) table) r.later short r.all apart r.rest
 
 pub read_all : (table ns numbers : List ℕ) (number i : ℕ) → length table ≤ i
     → IsReadTo ns numbers number (drop i table) → numbers ≡ ns

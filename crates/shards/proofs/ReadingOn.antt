@@ -16,11 +16,11 @@ pub no_more : (left : Option (List ℕ)) (text : List ℕ) → IsMore left left 
 no_more left text = record { more = []; consumed = nothing_consumed left; grown = sym (append-nil text) }
 
 -- what is stored in the buffer are the bytes that were put there
-pub some_more : (left now left_after : Option (List ℕ)) (text mid text_after buf behind stored : List ℕ) (given len : ℕ)
-    → IsMore left now text mid → length buf ≡ len → stored ≡ take len (buf ++ behind)
-    → GivesBytes now left_after buf given → text_after ≡ mid ++ take given stored
+pub some_more : {left now left_after : Option (List ℕ)} {text mid buf : List ℕ} {given : ℕ}
+    (text_after behind stored : List ℕ) (len : ℕ) → IsMore left now text mid → length buf ≡ len
+    → stored ≡ take len (buf ++ behind) → GivesBytes now left_after buf given → text_after ≡ mid ++ take given stored
     → IsMore left left_after text text_after
-some_more left now left_after text mid text_after buf behind stored given len h long at gave joined =
+some_more {left} {now} {left_after} {text} {mid} {buf} {given} text_after behind stored len h long at gave joined =
     let same : stored ≡ buf = rw (at, ← long) (take-append_seam buf behind) in
     record {
       more = h.more ++ take given buf;
@@ -29,9 +29,9 @@ some_more left now left_after text mid text_after buf behind stored given len h 
     }
 
 -- the source came to its end
-pub came_to_end : (left now left_after : Option (List ℕ)) (text mid buf : List ℕ) (given : ℕ)
-    → IsMore left now text mid → GivesBytes now left_after buf given → given ≡ 0 → IsMore left left_after text mid
-came_to_end left now left_after text mid buf given h gave none = record {
+pub came_to_end : {left now left_after : Option (List ℕ)} {text mid buf : List ℕ} {given : ℕ} → IsMore left now text mid
+    → GivesBytes now left_after buf given → given ≡ 0 → IsMore left left_after text mid
+came_to_end {left} {now} {left_after} h gave none = record {
   more = h.more;
   consumed = rw (append-nil h.more) at
       (one_more_consumed left now left_after h.more [] h.consumed (rw none at gave.consumed));

@@ -1,5 +1,4 @@
-use Rattle.std.proofs.Common.{◌≡◌, length, sym, subst, arith}
-use Rattle.history.specs.MapTexts.{AreMapsOf}
+use Rattle.std.proofs.Common.{◌≡◌, length, arith}
 use Rattle.shards.proofs.RenamedTexts.{spells_one}
 use Rattle.shards.proofs.renaming.spells_map.Goals as goal
 
@@ -10,5 +9,5 @@ returns-in-OfClient c = λ q.
     let below = c.in-len1.len_below in
     let one : length ms ≡ 1 = omega (arith, least, below) in
     spells_one ms _ c.args.text.now c.in-OfClient.said c.args.map.now
-    (subst (AreMapsOf c.args.text.now) (sym c.as_slice.ensures.value) c.in-Ok.ensures.maps) one c.in-OfClient.is
+    (rw c.as_slice.ensures.value c.in-Ok.ensures.maps) one c.in-OfClient.is
     (c.are_same.ensures q)

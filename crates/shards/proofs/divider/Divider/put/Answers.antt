@@ -1,8 +1,6 @@
-use Rattle.std.proofs.Common.{refl, subst}
+use Rattle.std.proofs.Common.{refl}
 use Rattle.std.proofs.lemmas.Result.{on_ok_weaker}
 use Rattle.history.specs.Views.{client_map}
-use Rattle.shards.specs.Dividing.{shard_among}
-use Rattle.shards.specs.Taking.{AddsLine}
 use Rattle.shards.proofs.TakingMaps.{says_by}
 use Rattle.shards.proofs.divider.Divider.put.Goals as goal
 
@@ -19,9 +17,7 @@ returns-clause-adds c =
       says = says_by c.name_of-name.result x f own.0 (client_map c.args.map.now client.0) client.1 refl
           c.name_of-name.ensures own.1;
       spells = own.2;
-      adds = subst
-          (λ t. AddsLine (shard_among d.shards x) t c.args.place d.waiting.items c.put_text-2.new.self.waiting.items)
-          c.deref.ensures.value adds;
+      adds = rw c.deref.ensures.value at adds;
     })
     c.put_text-2.ensures.adds
 

@@ -1,7 +1,6 @@
 -- `take_map`: one map more is taken in, or the fault is found among the maps with this one as the last. The map has
 -- an event exactly where it is of a client (`event_is`, `no_client`); any other goes to no shard.
-use Rattle.std.proofs.lemmas.Bool.{cases_lt}
-use Rattle.std.proofs.Common.{◌≤◌, ◌/◌, inl, inr, ◌++◌, ◌∷◌, ◌∙◌, [], arith, refl, sym, rules}
+use Rattle.std.proofs.Common.{◌≤◌, ◌/◌, ◌++◌, ◌∷◌, ◌∙◌, [], arith, refl, sym, rules}
 use Rattle.std.proofs.lemmas.List.{length-append}
 use Rattle.history.specs.LongReading.{AreReadAtAnyLength}
 use Rattle.history.specs.Views.{client_map}
@@ -42,10 +41,7 @@ returns-then-not-fits-clause-fault c = λ count maps written d says h.
     let read = c.in-Ok-Some.ensures.read ds d says h.read in
     let past = c.if-not-fits.ensures in
     let shards = c.args.self.now.shards in
-    let own : shards ≤ map.object / most_names = elim (cases_lt (map.object / most_names) shards) [
-      | inl fits ↦ let no = past.1 fits in absurd (cc no)
-      | inr unfit ↦ unfit
-    ] in
+    let own : shards ≤ map.object / most_names = grind (arith, past) in
     let unfit = rw h.shards at own in
     unfit_last count ds d (client_map map client.0) read.faultless client.1 unfit
     (All-map (FitsAmong count) (λ m. m.form) maps h.fit)

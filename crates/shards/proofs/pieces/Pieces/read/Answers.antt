@@ -20,9 +20,7 @@ returns-then-given-eq0-clause-read g c =
     let gave = c.in-Ok.ensures.gives in
     let none = c.if-given-eq0.true in
     let long = c.get.auto.buf ∙ c.deref_mut.ensures.len in
-    let read = came_to_end (g.F.Source.remaining c.args.source.now) (g.F.Source.remaining l.source)
-    (g.F.Source.remaining c.get.new.self) c.args.self.now.text.items l.self.text.items c.get.new.buf c.in-Ok.given
-    l.invariant.more gave none in
+    let read = came_to_end l.invariant.more gave none in
     record {
       more = read.more;
       consumed = read.consumed;
@@ -35,11 +33,8 @@ pub loop-self-preserved : goal.loop-self-preserved
 loop-self-preserved g c =
     let l = c.loop-self in
     record {
-      more = some_more (g.F.Source.remaining c.args.source.now) (g.F.Source.remaining l.source)
-          (g.F.Source.remaining c.get.new.self) c.args.self.now.text.items l.self.text.items
-          c.extend_from_slice.new.self.items c.get.new.buf (drop (length c.get.new.buf) l.buffer.items)
-          c.deref.result.now c.in-Ok.given l.buffer.len l.invariant.more
-          (c.get.auto.buf ∙ c.deref_mut.ensures.len) c.deref.ensures.value
+      more = some_more c.extend_from_slice.new.self.items (drop (length c.get.new.buf) l.buffer.items) c.deref.result.now
+          l.buffer.len l.invariant.more (c.get.auto.buf ∙ c.deref_mut.ensures.len) c.deref.ensures.value
           c.in-Ok.ensures.gives c.in_ok-extend_from_slice.ensures.items;
       start = l.invariant.start;
       wanted = l.invariant.wanted;
