@@ -20,9 +20,9 @@ form_at-requires c =
     c.in-Ok-true.field-0-test c.in-Ok-true.ensures.reads in
     record {
       form = e.element;
-      remains = [];
-      own = element_in (text_left old) (text_left new) e.element c.place-place.ensures.utf8 e.front;
-      are = c.pieces.ensures ∙ e.own ∙ ap (λ (b : Bool). tokens_of (kept_of b e.element)) c.requires
+      rest = [];
+      in_profile = element_in (text_left old) (text_left new) e.element c.place-place.ensures.utf8 e.front;
+      tokens_are = c.pieces.ensures ∙ e.own ∙ ap (λ (b : Bool). tokens_of (kept_of b e.element)) c.requires
           ∙ sym (append-nil (tokens_of e.element));
     }
 
