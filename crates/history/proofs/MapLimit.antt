@@ -45,11 +45,7 @@ not_memory ds d k h q = let g : IsMapFault ds d NoMemory = subst (IsMapFault ds 
 
 -- an object past the greatest that a text names is the first fault of its form
 pub great_first : (ds : List Datum) (d : Datum) → HasGreatObject d → HasFirst IsHistoryFormFault ds d NotAnOperation
-great_first ds d great = record { stands = inr great; first = λ j f. least j }
-  where
-    least : (j : HistoryFaultKind) → 1 ≤ history_fault_number j
-    least NotAnOperation = omega arith
-    least kind = omega arith
+great_first ds d great = record { stands = inr great; first = λ j f. grind arith }
 
 -- the first fault of a form at any length is its first fault in one text, if its object is small
 pub first_within : (ds : List Datum) (d : Datum) (k : HistoryFaultKind) → IsSmall d → HasFirst IsMapFault ds d k
@@ -59,7 +55,7 @@ first_within ds d k small h = record {
   first = λ j f. elim (fault_or_limit ds d j small f) [
     | inl g ↦ h.first j g
     | inr t ↦ let l = before_limit ds d k h.stands in
-        subst (λ (x : HistoryFaultKind). history_fault_number k ≤ history_fault_number x) (sym t.0) (omega arith)
+        rw t.0 (omega arith)
   ];
 }
 
@@ -78,8 +74,7 @@ too_many_first ds d small none many = record {
   stands = many;
   first = λ j f. elim (fault_or_limit ds d j small f) [
     | inl g ↦ absurd (none j g)
-    | inr t ↦ subst (λ (x : HistoryFaultKind). history_fault_number TooMany ≤ history_fault_number x) (sym t.0)
-        (omega arith)
+    | inr t ↦ rw t.0 (omega arith)
   ];
 }
 

@@ -26,14 +26,12 @@ token_alone open_map text after own rest h q = (123 ∷ own, h ∙ ap (λ (x : L
 token_alone close_map text after own rest h q = (125 ∷ own, h ∙ ap (λ (x : List ℕ). 125 ∷ x) q, refl)
 token_alone (leaf d) text after own rest (inl (a, word, is, w, e, p)) q = (
   word ++ own,
-  p ∙ (ap (λ (x : List ℕ). word ++ x) q ∙ sym (append_assoc word own rest)),
-  inl
-      (a, word, is, w, ends_alone own rest (subst EndsToken q e), refl),
+  rw (q, ← append_assoc word own rest) at p,
+  inl (a, word, is, w, ends_alone own rest (rw q at e), refl),
 )
 token_alone (leaf d) text after own rest (inr (s, quoted, is, k, p)) q = (
   34 ∷ (quoted ++ 34 ∷ own),
-  p ∙ (ap (λ (x : List ℕ). 34 ∷ (quoted ++ 34 ∷ x)) q ∙ ap (λ (x : List ℕ). 34 ∷ x)
-      (sym (append_assoc quoted (34 ∷ own) rest))),
+  p ∙ rw (q, append_assoc quoted (34 ∷ own) rest),
   inr (s, quoted, is, k, refl),
 )
 

@@ -6,12 +6,12 @@ use Rattle.std.specs.Prelude.{Result, Ok, Err, is_ok, Contains, if◌then◌else
 use Rattle.std.specs.Option.{option_or}
 use Rattle.std.specs.Result.{result_ok}
 use Rattle.std.proofs.lemmas.Bool.{cases_eq}
-use Rattle.std.proofs.lemmas.List.{append-nil, length-append, map-append}
-use Rattle.std.proofs.lemmas.List.Elements.{All-append}
+use Rattle.std.proofs.lemmas.List.{append-nil, length-append, map_push}
+use Rattle.std.proofs.lemmas.List.Elements.{All-push, Contains-append_left, Contains-push}
 use Rattle.std.proofs.lemmas.Option.{same_Some}
 use Rattle.number_map.specs.Lookup.{value_of}
 use Rattle.model.specs.declared.Kind.{Kind}
-use Rattle.model.proofs.Lists.{all_from_in, all_at, contains_from_in, in_from_contains, in_left, in_right}
+use Rattle.model.proofs.Lists.{all_from_in, all_at, in_left, in_right}
 use Rattle.edn_fields.specs.Fields.{max_object}
 use Rattle.edn_reader.specs.Datum.{Datum}
 use Rattle.edn_reader.proofs.FormsInARow.{Along}
@@ -153,13 +153,11 @@ firsts_more old new was now m h listed p = elim (cases_eq p m.process) [
 ]
   where
     ends : now ≡ was ++ m ∷ [] → map (λ x. x.process) now ≡ map (λ x. x.process) was ++ m.process ∷ []
-    ends q = ap (map (λ x. x.process)) q ∙ map-append (λ x. x.process) was (m ∷ [])
+    ends q = rw q (map_push (λ x. x.process) was m)
 
     own : (o : Option Process) → IsFirstOrAllowed o was now m → IsListed o (map (λ x. x.process) was) m.process
         → Contains (map (λ x. x.process) now) m.process
-    own None c l = rw (ends c)
-        (contains_from_in (map (λ x. x.process) was ++ m.process ∷ []) m.process
-        (in_right m.process (map (λ x. x.process) was) (m.process ∷ []) (inl refl)))
+    own None c l = rw (ends c) (Contains-push (map (λ x. x.process) was) m.process)
     own (Some v) c l = elim l [
       | inl q ↦ absurd (cc q)
       | inr k ↦ rw c.0 k
@@ -168,15 +166,12 @@ firsts_more old new was now m h listed p = elim (cases_eq p m.process) [
     other : (o : Option Process) → IsFirstOrAllowed o was now m → IsListed (old p) (map (λ x. x.process) was) p
         → IsListed (old p) (map (λ x. x.process) now) p
     other None c (inl q) = inl q
-    other None c (inr k) = inr (rw (ends c)
-        (contains_from_in (map (λ x. x.process) was ++ m.process ∷ []) p
-        (in_left p (map (λ x. x.process) was) (m.process ∷ []) (in_from_contains (map (λ x. x.process) was) p k))))
+    other None c (inr k) = inr (rw (ends c) (Contains-append_left (map (λ x. x.process) was) (m.process ∷ []) p k))
     other (Some v) c l = rw c.0 l
 
 -- no form so far is on a great object, nor is one more
 small_more : (ds : List Datum) (d : Datum) → All IsSmall ds → IsSmall d → All IsSmall (ds ++ d ∷ [])
-small_more ds d h own = All-append IsSmall ds (d ∷ []) h (all_from_in IsSmall (d ∷ [])
-    (λ x j. elim j [ inl e ↦ rw e own | inr k ↦ absurd k ]))
+small_more ds d h own = All-push IsSmall ds d h own
 
 small_client : (d : Datum) (m : ClientMap) → client_of d ≡ Some m → m.object ≤ max_object → IsSmall d
 small_client d m is few great =

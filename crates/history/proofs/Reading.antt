@@ -29,11 +29,7 @@ split_push : (ds : List Datum) (d : Datum) (earlier later : List Datum) (e : Dat
     → ds ++ d ∷ [] ≡ earlier ++ e ∷ later → ((earlier ≡ ds) × (e ≡ d))
     ⊎ ((rest : List Datum) × (ds ≡ earlier ++ e ∷ rest))
 split_push [] d [] later e q = inl (refl, let s : d ≡ e = cc in sym s)
-split_push [] d (x ∷ earlier) later e q = absurd (no_tail earlier (let s : [] ≡ earlier ++ e ∷ later = cc in s))
-  where
-    no_tail : (xs : List Datum) → [] ≡ xs ++ e ∷ later → ⊥
-    no_tail [] s = cc s
-    no_tail (y ∷ ys) s = cc s
+split_push [] d (x ∷ earlier) later e q = absurd (omega (arith, simp length-append at (ap length q)))
 split_push (y ∷ ds) d [] later e q = inr (ds, let s : y ≡ e = cc in ap (λ z. z ∷ ds) s)
 split_push (y ∷ ds) d (x ∷ earlier) later e q =
     let head : y ≡ x = cc in
@@ -55,11 +51,7 @@ faultless_push IsFault ds d h none earlier later e k q f = elim (split_push ds d
 -- no forms have no fault
 pub nothing_faulty : (IsFault : List Datum → Datum → HistoryFaultKind → Type 0)
     → AreFaultless IsFault []
-nothing_faulty IsFault earlier later d k e f = no_split earlier e
-  where
-    no_split : (earlier : List Datum) → [] ≡ earlier ++ d ∷ later → ⊥
-    no_split [] e = cc
-    no_split xs e = cc
+nothing_faulty IsFault earlier later d k e f = omega (arith, simp length-append at (ap length e))
 
 -- ---- what is read
 

@@ -1,17 +1,17 @@
 -- One more piece that fits after the joined ones is joined to them (`joined_more`): what it was first to say of a
 -- process or an object is taken over once for each (`taken_more`). By cases on whether the key was met.
-use Rattle.std.proofs.Common.{◌≡◌, ℕ, ◌+◌, ◌<◌, ◌≤◌, ◌⊎◌, inl, inr, false}
-use Rattle.std.proofs.Common.{List, [], ◌∷◌, ◌++◌, map, length, take, get_or}
+use Rattle.std.proofs.Common.{◌≡◌, ℕ, ◌+◌, ◌≤◌, ◌⊎◌, inl, inr, false}
+use Rattle.std.proofs.Common.{List, ◌∷◌, ◌++◌, map, length}
 use Rattle.std.proofs.Common.{Option, Some, None, All, refl, ap, sym, ◌∙◌}
 use Rattle.std.proofs.Common.{arith}
 use Rattle.std.specs.Option.{option_or, is_some}
 use Rattle.std.proofs.lemmas.Bool.{cases_eq}
-use Rattle.std.proofs.lemmas.List.{length-append, take_more, take_all}
+use Rattle.std.proofs.lemmas.List.{length-append}
 use Rattle.std.proofs.lemmas.List.Elements.{All-append}
 use Rattle.number_map.specs.Lookup.{value_of}
 use Rattle.model.specs.declared.Kind.{Kind}
 use Rattle.model.specs.Lists.{In}
-use Rattle.model.proofs.Lists.{in_from_contains, all_at, all_from_in}
+use Rattle.model.proofs.Lists.{in_from_contains, all_at}
 use Rattle.edn_reader.specs.Datum.{Datum}
 use Rattle.events.specs.Operations.{IsListed}
 use Rattle.history.specs.declared.seen.Process.{Process}
@@ -112,21 +112,8 @@ joined_more old new read ds es h p allowed one few processes kinds events maps =
       count = omega (arith, length-append ds es, counted, own, maps);
     }
 
--- ---- along a list
-
--- what holds of the first i elements and of the next holds of the first i + 1
-pub all_more : {X : Type 0} (P : X → Type 0) (xs : List X) (i : ℕ) (d : X) → i < length xs → All P (take i xs)
-    → P (get_or xs i d) → All P (take (i + 1) xs)
-all_more P xs i d l h p = rw (take_more xs i d l) (All-append P (take i xs) (get_or xs i d ∷ []) h
-    (all_from_in P (get_or xs i d ∷ []) (λ x j. elim j [ inl e ↦ rw e p | inr k ↦ absurd k ])))
-
--- what holds of as many elements as there are holds of all
-pub all_done : {X : Type 0} (P : X → Type 0) (xs : List X) (i : ℕ) → length xs ≤ i → All P (take i xs) → All P xs
-all_done P xs i l h = rw (take_all i xs l) at h
-
 was_none : {X : Type 0} (o : Option X) → false ≡ is_some o → o ≡ None
-was_none None q = refl
-was_none (Some x) q = absurd (cc q)
+was_none o q = grind arith
 
 -- a process may do what its first map in the piece says, if no fault was found
 pub allowed_at : (processes : ℕ → Option Process) (m : FirstMap) (kept : Option Process)

@@ -10,7 +10,7 @@ use Rattle.edn_reader.specs.Datum.{Atom, nil, boolean, integer, keyword, Datum, 
 use Rattle.edn_reader.specs.Datum.{item, Entries, no_entries, entry, DatumFits, EntriesFit}
 use Rattle.edn_reader.specs.Token.{Token, close_vector, open_map, close_map, leaf, tokens_of, entries_tokens}
 use Rattle.edn_reader.specs.Reading.{first, got}
-use Rattle.edn_reader.specs.Spells.{EndsToken}
+use Rattle.edn_reader.specs.Spells.{EndsToken, IsWord}
 use Rattle.edn_reader.specs.Sound.{BeginWith}
 use Rattle.edn_reader.proofs.Fronts.{both_begin, front_of}
 use Rattle.edn_reader.proofs.UsualFronts.{here, spaced, word_here, first_here, after_one, field, form_field}
@@ -22,7 +22,7 @@ use Rattle.seq_objects.specs.Functions.{name_of}
 use Rattle.edn_fields.specs.Fields.{same_bytes, value_at}
 use Rattle.edn_fields.proofs.Finding.{same_bytes_is}
 use Rattle.history.specs.Maps as spec
-use Rattle.history.specs.Maps.{type_named, short_in, object_at, client_with}
+use Rattle.history.specs.Maps.{type_named, short_in, object_at, client_with, plain_value}
 use Rattle.history.specs.Views.{map_type, client_map}
 use Rattle.history.specs.UsualForms.{ReadsUsual, type_name, ReadsValue, LackEach, operation_keys, keys_to_object}
 use Rattle.history.specs.UsualForms.{keys_to_index, IsNoneOf, ReadsLast}
@@ -53,30 +53,20 @@ function_here f text rest e q =
 
 -- ---- values
 
--- nil is read where its bytes are
+-- a word without a colon is read as its value where its bytes are
+word_value : (a : Atom) (v : Value) (word text rest : List ℕ) → plain_value (atom a) ≡ Some v
+    → DatumFits 15 (atom a) → IsWord a word → EndsToken rest → text ≡ word ++ rest → ReadsValue text v rest
+word_value a v word text rest plain fits is e q =
+    record { form = atom a; plain = plain; fits = fits; begins = word_here a word text rest is e q }
+
 pub nil_here : (text rest : List ℕ) → EndsToken rest → text ≡ codes "nil" ++ rest → ReadsValue text Nil rest
-nil_here text rest e q =
-    record { form = atom nil; plain = refl; fits = tt; begins = word_here nil (codes "nil") text rest refl e q }
+nil_here text rest e q = word_value nil Nil (codes "nil") text rest refl tt refl e q
 
--- false is read where its bytes are
 pub false_here : (text rest : List ℕ) → EndsToken rest → text ≡ codes "false" ++ rest → ReadsValue text False rest
-false_here text rest e q =
-    record {
-      form = atom (boolean false);
-      plain = refl;
-      fits = tt;
-      begins = word_here (boolean false) (codes "false") text rest refl e q;
-    }
+false_here text rest e q = word_value (boolean false) False (codes "false") text rest refl tt refl e q
 
--- true is read where its bytes are
 pub true_here : (text rest : List ℕ) → EndsToken rest → text ≡ codes "true" ++ rest → ReadsValue text True rest
-true_here text rest e q =
-    record {
-      form = atom (boolean true);
-      plain = refl;
-      fits = tt;
-      begins = word_here (boolean true) (codes "true") text rest refl e q;
-    }
+true_here text rest e q = word_value (boolean true) True (codes "true") text rest refl tt refl e q
 
 -- an integer is read as a value
 pub integer_here : (z : ℤ) (text rest : List ℕ) → BeginWith (leaf (atom (integer z)) ∷ []) text rest
@@ -216,6 +206,16 @@ fewer_keys k ks text x rest r =
 type_is : (t : MapType) → type_named (type_name t) ≡ Some (map_type t)
 type_is t = grind arith
 
+-- a pair of any form before others
+form_pair : (k : List ℕ) (d : Datum) (es : Entries) (text mid after rest : List ℕ) → is_name k ≡ true
+    → text ≡ 44 ∷ 32 ∷ 58 ∷ (k ++ 32 ∷ mid) → BeginWith (tokens_of d) mid after
+    → BeginWith (entries_tokens es ++ close_map ∷ []) after rest
+    → BeginWith (entries_tokens (entry k d es) ++ close_map ∷ []) text rest
+form_pair k d es text mid after rest n q b c =
+    let ts : List Token = entries_tokens es ++ close_map ∷ [] in
+    rw (append_assoc (tokens_of d) (entries_tokens es) (close_map ∷ []))
+    (form_field d k ts text mid rest n q (both_begin (tokens_of d) ts mid after rest b c))
+
 abbrev form_with : ℕ → MapType → Function → Datum → Entries → Datum
 form_with n t f d es =
     dictionary (entry (codes "process") (atom (integer (pos n))) (entry (codes "type") (atom (keyword (type_name t)))
@@ -247,48 +247,28 @@ pub usual_is : (n : ℕ) (t : MapType) (f : Function) (x : ℕ) (v : Value)
 unfolding is_name
 usual_is n t f x v text own from_n after_n from_t after_t from_f after_f from_v after_v rest u feed qn bn qt bt qf bf
     qv value last =
-    let last_tokens : List Token = entries_tokens last.pairs ++ close_map ∷ [] in
-    let ts_v : List Token = tokens_of value.form ++ last_tokens in
-    let v1 : BeginWith ts_v from_v rest =
-    both_begin (tokens_of value.form) last_tokens from_v after_v rest value.begins last.begins in
-    let v2 : BeginWith (leaf (atom (keyword (codes "value"))) ∷ ts_v) after_f rest =
-    form_field value.form (codes "value") last_tokens after_f from_v rest refl qv v1 in
-    let ts_f : List Token = leaf (atom (keyword (codes "value"))) ∷ ts_v in
-    let f1 : BeginWith (leaf (atom (keyword (name_of f))) ∷ ts_f) from_f rest =
-    both_begin (leaf (atom (keyword (name_of f))) ∷ []) ts_f from_f after_f rest bf v2 in
-    let f2 = field (codes "f") (leaf (atom (keyword (name_of f)))) ts_f after_t from_f rest refl qf f1 in
-    let ts_t : List Token = leaf (atom (keyword (codes "f"))) ∷ leaf (atom (keyword (name_of f))) ∷ ts_f in
-    let t1 : BeginWith (leaf (atom (keyword (type_name t))) ∷ ts_t) from_t rest =
-    both_begin (leaf (atom (keyword (type_name t))) ∷ []) ts_t from_t after_t rest bt f2 in
-    let t2 = field (codes "type") (leaf (atom (keyword (type_name t)))) ts_t after_n from_t rest refl qt t1 in
-    let ts_n : List Token = leaf (atom (keyword (codes "type"))) ∷ leaf (atom (keyword (type_name t))) ∷ ts_t in
-    let n1 : BeginWith (leaf (atom (integer (pos n))) ∷ ts_n) from_n rest =
-    both_begin (leaf (atom (integer (pos n))) ∷ []) ts_n from_n after_n rest bn t2 in
-    let n2 = first_field (codes "process") (leaf (atom (integer (pos n)))) ts_n own from_n rest refl qn n1 in
+    let d : Datum = value.form in
+    let es_v : Entries = entry (codes "value") d last.pairs in
+    let v1 = form_pair (codes "value") d last.pairs after_f from_v after_v rest refl qv value.begins last.begins in
+    let es_f : Entries = entry (codes "f") (atom (keyword (name_of f))) es_v in
+    let f1 = form_pair (codes "f") (atom (keyword (name_of f))) es_v after_t from_f after_f rest refl qf bf v1 in
+    let es_t : Entries = entry (codes "type") (atom (keyword (type_name t))) es_f in
+    let t1 = form_pair (codes "type") (atom (keyword (type_name t))) es_f after_n from_t after_t rest refl qt bt f1 in
+    let ts : List Token = entries_tokens es_t ++ close_map ∷ [] in
+    let n1 = first_field (codes "process") (leaf (atom (integer (pos n)))) ts own from_n rest refl qn
+    (both_begin (leaf (atom (integer (pos n))) ∷ []) ts from_n after_n rest bn t1) in
     let all = after_one 10 open_map
-    (leaf (atom (keyword (codes "process"))) ∷ leaf (atom (integer (pos n))) ∷ ts_n) text own rest refl feed n2 in
-    let begins : BeginWith (tokens_of (form_with n t f value.form last.pairs)) text rest =
-    rw (append_assoc (tokens_of value.form) (entries_tokens last.pairs) (close_map ∷ [])) all in
-    let front = front_of text rest (form_with n t f value.form last.pairs) u
-    (fits_with n t f value.form last.pairs value.fits last.lack last.fits) begins in
+    (leaf (atom (keyword (codes "process"))) ∷ leaf (atom (integer (pos n))) ∷ ts) text own rest refl feed n1 in
+    let front = front_of text rest (form_with n t f d last.pairs) u
+    (fits_with n t f d last.pairs value.fits last.lack last.fits) all in
     record {
-      form = form_with n t f value.form last.pairs;
+      form = form_with n t f d last.pairs;
       front = front.0;
       utf8 = front.1;
-      says = (value.form, client_is n t f x v value.form last.pairs last.object_is, value.plain);
+      says = (d, client_is n t f x v d last.pairs last.object_is, value.plain);
     }
 
 -- ---- the same with the index and the time first
-
--- a pair of any form before others
-form_pair : (k : List ℕ) (d : Datum) (es : Entries) (text mid after rest : List ℕ) → is_name k ≡ true
-    → text ≡ 44 ∷ 32 ∷ 58 ∷ (k ++ 32 ∷ mid) → BeginWith (tokens_of d) mid after
-    → BeginWith (entries_tokens es ++ close_map ∷ []) after rest
-    → BeginWith (entries_tokens (entry k d es) ++ close_map ∷ []) text rest
-form_pair k d es text mid after rest n q b c =
-    let ts : List Token = entries_tokens es ++ close_map ∷ [] in
-    rw (append_assoc (tokens_of d) (entries_tokens es) (close_map ∷ []))
-    (form_field d k ts text mid rest n q (both_begin (tokens_of d) ts mid after rest b c))
 
 abbrev indexed_with : ℤ → ℤ → ℕ → MapType → Function → Datum → Entries
 indexed_with i j n t f d =
