@@ -127,10 +127,7 @@ continues_more old new ds d c w f a h is known action process object before s k 
     (kept_after k kinds) (kept_after k (value_of new.seen.kinds))
     so_far.1 so_far.0 is known action allowed
     (no_other_after (kinds c.object) (k c.object) (kind_of_function f) object.checked kind_fits)
-    (ap (λ (o : Option Process). option_or o (s c.process)) process.own)
-    (λ p ne. ap (λ (o : Option Process). option_or o (s p)) (process.others p ne))
-    (ap (λ (o : Option Kind). option_or o (k c.object)) object.own)
-    (λ x ne. ap (λ (o : Option Kind). option_or o (k x)) (object.others x ne)) in
+    (rw process.own) (λ p ne. rw (process.others p ne)) (rw object.own) (λ x ne. rw (object.others x ne)) in
     let same = append_assoc before ds (d ∷ []) in (rw same at more.0, rw same at more.1)
 
 -- ---- one map more
@@ -279,8 +276,7 @@ no_maps read seen count events =
         rw (append-nil before)
             (seen_same s (kept_after s (value_of read.seen.processes)) k
             (kept_after k (value_of read.seen.kinds)) before kept
-            (λ p. ap (λ (o : Option Process). option_or o (s p)) (processes p))
-            (λ x. ap (λ (o : Option Kind). option_or o (k x)) (kinds x))),
+            (λ p. rw (processes p)) (λ x. rw (kinds x))),
       );
     }
 

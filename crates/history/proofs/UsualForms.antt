@@ -13,7 +13,7 @@ use Rattle.edn_reader.specs.Reading.{first, got}
 use Rattle.edn_reader.specs.Spells.{EndsToken, IsWord}
 use Rattle.edn_reader.specs.Sound.{BeginWith}
 use Rattle.edn_reader.proofs.Fronts.{both_begin, front_of}
-use Rattle.edn_reader.proofs.UsualFronts.{here, spaced, word_here, first_here, after_one, field, form_field}
+use Rattle.edn_reader.proofs.UsualFronts.{here, spaced, word_here, first_here, after_one, form_field}
 use Rattle.edn_reader.proofs.UsualFronts.{first_field}
 use Rattle.seq_objects.specs.declared.function.Function.{Function}
 use Rattle.seq_objects.specs.declared.value.Value.{Value}
@@ -79,14 +79,12 @@ pub pair_here : (y z : ℤ) (inside after_y from_z after_z rest : List ℕ)
     → BeginWith (leaf (atom (integer z)) ∷ []) from_z after_z → after_z ≡ codes "]" ++ rest
     → ReadsValue (91 ∷ inside) (Pair y z) rest
 pair_here y z inside after_y from_z after_z rest b q c r =
-    let close : BeginWith (close_vector ∷ []) after_z rest = here after_z rest close_vector r in
-    let second : BeginWith (leaf (atom (integer z)) ∷ close_vector ∷ []) from_z rest =
-    both_begin (leaf (atom (integer z)) ∷ []) (close_vector ∷ []) from_z after_z rest c close in
+    let second = both_begin (leaf (atom (integer z)) ∷ []) (close_vector ∷ []) from_z after_z rest c
+    (here after_z rest close_vector r) in
     let behind : BeginWith (leaf (atom (integer z)) ∷ close_vector ∷ []) after_y rest =
     rw q (spaced 32 (leaf (atom (integer z))) (close_vector ∷ []) from_z rest refl second) in
-    let all : BeginWith (leaf (atom (integer y)) ∷ leaf (atom (integer z)) ∷ close_vector ∷ []) inside rest =
-    both_begin (leaf (atom (integer y)) ∷ [])
-    (leaf (atom (integer z)) ∷ close_vector ∷ []) inside after_y rest b behind in
+    let all = both_begin (leaf (atom (integer y)) ∷ []) (leaf (atom (integer z)) ∷ close_vector ∷ []) inside after_y rest
+    b behind in
     record {
       form = vector (item (atom (integer y)) (item (atom (integer z)) no_items));
       plain = refl;
@@ -118,13 +116,15 @@ lack_more : (k : List ℕ) (d : Datum) (ks : List (List ℕ)) (es : Entries) →
 lack_more k d [] es o l = tt
 lack_more k d (j ∷ ks) es o l = ((apart j k o.0, l.0), lack_more k d ks es o.1 l.1)
 
-integer_pair : (k : List ℕ) (z : ℤ) (ts : List Token) (text mid after rest : List ℕ) → is_name k ≡ true
-    → text ≡ 44 ∷ 32 ∷ 58 ∷ (k ++ 32 ∷ mid)
-    → BeginWith (leaf (atom (integer z)) ∷ []) mid after → BeginWith ts after rest
-    → BeginWith (leaf (atom (keyword k)) ∷ leaf (atom (integer z)) ∷ ts) text rest
-integer_pair k z ts text mid after rest n q b c =
-    field k (leaf (atom (integer z))) ts text mid rest n q
-    (both_begin (leaf (atom (integer z)) ∷ []) ts mid after rest b c)
+-- a pair of any form before others
+form_pair : (k : List ℕ) (d : Datum) (es : Entries) (text mid after rest : List ℕ) → is_name k ≡ true
+    → text ≡ 44 ∷ 32 ∷ 58 ∷ (k ++ 32 ∷ mid) → BeginWith (tokens_of d) mid after
+    → BeginWith (entries_tokens es ++ close_map ∷ []) after rest
+    → BeginWith (entries_tokens (entry k d es) ++ close_map ∷ []) text rest
+form_pair k d es text mid after rest n q b c =
+    let ts : List Token = entries_tokens es ++ close_map ∷ [] in
+    rw (append_assoc (tokens_of d) (entries_tokens es) (close_map ∷ []))
+    (form_field d k ts text mid rest n q (both_begin (tokens_of d) ts mid after rest b c))
 
 -- one more pair, which is not of the object
 pub other_pair : (k : List ℕ) (ks : List (List ℕ)) (z : ℤ) (text mid after rest : List ℕ) → is_name k ≡ true
@@ -137,7 +137,7 @@ other_pair k ks z text mid after rest n s o q b r =
       lack = lack_more k (atom (integer z)) ks r.pairs o r.lack.1;
       object_is = rw s r.object_is;
       fits = (r.lack.0, tt, r.fits);
-      begins = integer_pair k z (entries_tokens r.pairs ++ close_map ∷ []) text mid after rest n q b r.begins;
+      begins = form_pair k (atom (integer z)) r.pairs text mid after rest n q b r.begins;
     }
 
 -- the pair of the object
@@ -152,8 +152,7 @@ object_pair n x text mid after rest e q b r =
           (refl, (refl, (refl, (refl, tt)))) r.lack.1;
       object_is = sym e;
       fits = (r.lack.0, tt, r.fits);
-      begins = integer_pair (codes "object") (pos n)
-          (entries_tokens r.pairs ++ close_map ∷ []) text mid after rest refl q b r.begins;
+      begins = form_pair (codes "object") (atom (integer (pos n))) r.pairs text mid after rest refl q b r.begins;
     }
 
 differs : (k : List ℕ) → (codes "object" ≡ k → ⊥) → same_bytes (codes "object") k ≡ false
@@ -172,13 +171,11 @@ pub note_pair : (k : List ℕ) (a : Atom) (text at_key after_key at_value after_
     → ReadsLast keys_to_index text 0 rest
 note_pair k a text at_key after_key at_value after_value rest o q e s b z =
     let key : Token = leaf (atom (keyword k)) in
-    let value : BeginWith (leaf (atom a) ∷ close_map ∷ []) at_value rest =
-    both_begin (leaf (atom a) ∷ []) (close_map ∷ []) at_value after_value rest b
+    let value = both_begin (leaf (atom a) ∷ []) (close_map ∷ []) at_value after_value rest b
     (here after_value rest close_map z) in
     let behind : BeginWith (leaf (atom a) ∷ close_map ∷ []) after_key rest =
     rw s (spaced 32 (leaf (atom a)) (close_map ∷ []) at_value rest refl value) in
-    let own : BeginWith (key ∷ leaf (atom a) ∷ close_map ∷ []) (58 ∷ at_key) rest =
-    both_begin (key ∷ []) (leaf (atom a) ∷ close_map ∷ []) (58 ∷ at_key) after_key rest
+    let own = both_begin (key ∷ []) (leaf (atom a) ∷ close_map ∷ []) (58 ∷ at_key) after_key rest
     (first_here (58 ∷ at_key) after_key key e) behind in
     let more : List Token = leaf (atom a) ∷ close_map ∷ [] in
     let all : BeginWith (key ∷ more) (44 ∷ 32 ∷ 58 ∷ at_key) rest =
@@ -205,16 +202,6 @@ fewer_keys k ks text x rest r =
 
 type_is : (t : MapType) → type_named (type_name t) ≡ Some (map_type t)
 type_is t = grind arith
-
--- a pair of any form before others
-form_pair : (k : List ℕ) (d : Datum) (es : Entries) (text mid after rest : List ℕ) → is_name k ≡ true
-    → text ≡ 44 ∷ 32 ∷ 58 ∷ (k ++ 32 ∷ mid) → BeginWith (tokens_of d) mid after
-    → BeginWith (entries_tokens es ++ close_map ∷ []) after rest
-    → BeginWith (entries_tokens (entry k d es) ++ close_map ∷ []) text rest
-form_pair k d es text mid after rest n q b c =
-    let ts : List Token = entries_tokens es ++ close_map ∷ [] in
-    rw (append_assoc (tokens_of d) (entries_tokens es) (close_map ∷ []))
-    (form_field d k ts text mid rest n q (both_begin (tokens_of d) ts mid after rest b c))
 
 abbrev form_with : ℕ → MapType → Function → Datum → Entries → Datum
 form_with n t f d es =
