@@ -83,8 +83,8 @@ pair_here y z inside after_y from_z after_z rest b q c r =
     (here after_z rest close_vector r) in
     let behind : BeginWith (leaf (atom (integer z)) ∷ close_vector ∷ []) after_y rest =
     rw q (spaced 32 (leaf (atom (integer z))) (close_vector ∷ []) from_z rest refl second) in
-    let all = both_begin (leaf (atom (integer y)) ∷ []) (leaf (atom (integer z)) ∷ close_vector ∷ []) inside after_y rest
-    b behind in
+    let all = both_begin (leaf (atom (integer y)) ∷ []) (leaf (atom (integer z)) ∷ close_vector ∷ []) inside after_y
+    rest b behind in
     record {
       form = vector (item (atom (integer y)) (item (atom (integer z)) no_items));
       plain = refl;
