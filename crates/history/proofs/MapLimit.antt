@@ -18,9 +18,7 @@ use Rattle.history.specs.Seen.{HasFirst, HasNoFault}
 -- ---- of one form
 
 fault_within : (ds : List Datum) (d : Datum) (k : HistoryFaultKind) → IsMapFault ds d k → IsHistoryFormFault ds d k
-fault_within ds d NotAnOperation h = inl h
-fault_within ds d TooMany h = absurd h.2
-fault_within ds d kind h = h
+fault_within ds d k h = grind arith
 
 -- a form on no great object
 abbrev pub IsSmall : Datum → Type 0
@@ -28,16 +26,11 @@ IsSmall d = HasGreatObject d → ⊥
 
 fault_or_limit : (ds : List Datum) (d : Datum) (k : HistoryFaultKind) → IsSmall d → IsHistoryFormFault ds d k
     → IsMapFault ds d k ⊎ ((k ≡ TooMany) × (max_maps ≤ length ds))
-fault_or_limit ds d NotAnOperation small (inl h) = inl h
-fault_or_limit ds d NotAnOperation small (inr h) = absurd (small h)
-fault_or_limit ds d TooMany small h = inr (refl, h)
-fault_or_limit ds d kind small h = inl h
+fault_or_limit ds d k small h = grind arith
 
 before_limit : (ds : List Datum) (d : Datum) (k : HistoryFaultKind) → IsMapFault ds d k
     → history_fault_number k < history_fault_number TooMany
-before_limit ds d TooMany h = absurd h.2
-before_limit ds d NoMemory h = absurd h.2
-before_limit ds d kind h = omega arith
+before_limit ds d k h = grind arith
 
 -- no allocation failure is a fault
 pub not_memory : (ds : List Datum) (d : Datum) (k : HistoryFaultKind) → IsMapFault ds d k → k ≡ NoMemory → ⊥

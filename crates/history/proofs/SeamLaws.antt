@@ -2,10 +2,9 @@
 -- process or an object is taken over once for each (`taken_more`). By cases on whether the key was met.
 use Rattle.std.proofs.Common.{◌≡◌, ℕ, ◌+◌, ◌≤◌, ◌⊎◌, inl, inr, false}
 use Rattle.std.proofs.Common.{List, ◌∷◌, ◌++◌, map, length}
-use Rattle.std.proofs.Common.{Option, Some, None, All, refl, ap, sym, ◌∙◌}
+use Rattle.std.proofs.Common.{Option, None, All, refl, ap, sym}
 use Rattle.std.proofs.Common.{arith}
 use Rattle.std.specs.Option.{option_or, is_some}
-use Rattle.std.proofs.lemmas.Bool.{cases_eq}
 use Rattle.std.proofs.lemmas.List.{length-append}
 use Rattle.std.proofs.lemmas.List.Elements.{All-append}
 use Rattle.number_map.specs.Lookup.{value_of}
@@ -45,26 +44,16 @@ taken_first {V} old own keys k h = elim h [
 -- a value that is taken over twice is the same
 twice : {V : Type 0} (own old now : Option V) → (now ≡ option_or own old) ⊎ (now ≡ old) → option_or own now
     ≡ option_or own old
-twice None old now h = elim h [ inl q ↦ q | inr q ↦ q ]
-twice (Some v) old now h = refl
+twice own old now h = grind arith
 
 -- one more key of the list is taken over
 pub taken_more : {V : Type 0} (old own now new : ℕ → Option V) (key : ℕ) (later : List ℕ) (k : ℕ)
     → TakesOver now own new key
     → IsTakenOver old own now (key ∷ later) k → IsTakenOver old own new later k
-taken_more {V} old own now new key later k t h = elim (cases_eq k key) [
-  | inl e ↦ inl (rw e (t.at_key ∙ twice (own key) (old key) (now key) (rw e at kept)))
-  | inr ne ↦ elim h [
-    | inl q ↦ inl (t.others k ne ∙ q)
-    | inr s ↦ elim s.1 [
-      | inl e ↦ absurd (ne e)
-      | inr j ↦ inr (t.others k ne ∙ s.0, j)
-    ]
-  ]
-]
-  where
-    kept : (now k ≡ kept_after old own k) ⊎ (now k ≡ old k)
-    kept = elim h [ inl q ↦ inl q | inr s ↦ inr s.0 ]
+taken_more {V} old own now new key later k t h =
+    let at_key = t.at_key in
+    let others = t.others k in
+    grind (arith, twice (own key) (old key) (now key))
 
 -- ---- a piece that fits
 

@@ -1,7 +1,7 @@
 -- A text in the usual form is read as the map that its parts say (`usual_is`). Each part begins with its tokens, and
 -- pairs are put in front of the last ones one by one (`other_pair`, `object_pair`).
-use Rattle.std.proofs.Common.{◌≡◌, ℕ, ◌⊎◌, true, false, Bool, Some, List, [], ◌∷◌, ◌++◌, codes, refl, sym}
-use Rattle.std.proofs.Common.{◌∙◌, append_assoc, arith}
+use Rattle.std.proofs.Common.{◌≡◌, ℕ, ◌⊎◌, true, false, Some, List, [], ◌∷◌, ◌++◌, codes, refl, sym}
+use Rattle.std.proofs.Common.{append_assoc, arith}
 use Rattle.std.specs.Prelude.{ℤ, pos}
 use Rattle.std.specs.Str.{IsUtf8, bytes_eq}
 use Rattle.std.proofs.lemmas.Slice.Eq.{bytes_eq-Decides}
@@ -156,11 +156,7 @@ object_pair n x text mid after rest e q b r =
     }
 
 differs : (k : List ℕ) → (codes "object" ≡ k → ⊥) → same_bytes (codes "object") k ≡ false
-differs k h = by_same (same_bytes (codes "object") k) refl
-  where
-    by_same : (b : Bool) → same_bytes (codes "object") k ≡ b → same_bytes (codes "object") k ≡ false
-    by_same false e = e
-    by_same true e = absurd (h ((bytes_eq-Decides (codes "object") k).0 (same_bytes_is (codes "object") k ∙ e)))
+differs k h = grind (arith, same_bytes_is (codes "object") k, bytes_eq-Decides (codes "object") k)
 
 -- one more pair of a key without a meaning, and a value that has no elements
 pub note_pair : (k : List ℕ) (a : Atom) (text at_key after_key at_value after_value rest : List ℕ)
@@ -222,6 +218,16 @@ client_is : (n : ℕ) (t : MapType) (f : Function) (x : ℕ) (v : Value) (d : Da
 client_is n t f x v d es e =
     rw (type_is t, e, own_name f) refl
 
+-- a map whose pairs are read is read as their form
+whole_is : (es : Entries) (c : ClientMap) (w : Datum) (text own rest : List ℕ) → IsUtf8 text
+    → (text ≡ own) ⊎ (text ≡ 10 ∷ own) → BeginWith (open_map ∷ (entries_tokens es ++ close_map ∷ [])) own rest
+    → DatumFits 16 (dictionary es) → spec.client_of (dictionary es) ≡ Some (client_map c w)
+    → plain_value w ≡ c.value → ReadsUsual text c rest
+whole_is es c w text own rest u feed begins fits client value =
+    let all = after_one 10 open_map (entries_tokens es ++ close_map ∷ []) text own rest refl feed begins in
+    let front = front_of text rest (dictionary es) u fits all in
+    record { form = dictionary es; front = front.0; utf8 = front.1; says = (w, client, value) }
+
 -- a map in the usual order of its keys is read as its form
 pub usual_is : (n : ℕ) (t : MapType) (f : Function) (x : ℕ) (v : Value)
     (text own from_n after_n from_t after_t from_f after_f from_v after_v rest : List ℕ) → IsUtf8 text
@@ -244,16 +250,9 @@ usual_is n t f x v text own from_n after_n from_t after_t from_f after_f from_v 
     let ts : List Token = entries_tokens es_t ++ close_map ∷ [] in
     let n1 = first_field (codes "process") (leaf (atom (integer (pos n)))) ts own from_n rest refl qn
     (both_begin (leaf (atom (integer (pos n))) ∷ []) ts from_n after_n rest bn t1) in
-    let all = after_one 10 open_map
-    (leaf (atom (keyword (codes "process"))) ∷ leaf (atom (integer (pos n))) ∷ ts) text own rest refl feed n1 in
-    let front = front_of text rest (form_with n t f d last.pairs) u
-    (fits_with n t f d last.pairs value.fits last.lack last.fits) all in
-    record {
-      form = form_with n t f d last.pairs;
-      front = front.0;
-      utf8 = front.1;
-      says = (d, client_is n t f x v d last.pairs last.object_is, value.plain);
-    }
+    whole_is (entry (codes "process") (atom (integer (pos n))) es_t) (map_with n t f x v) d text own rest u feed n1
+    (fits_with n t f d last.pairs value.fits last.lack last.fits) (client_is n t f x v d last.pairs last.object_is)
+    value.plain
 
 -- ---- the same with the index and the time first
 
@@ -303,13 +302,5 @@ index_first_is i j n t f v text own from_i after_i from_j after_j from_t after_t
     let ts : List Token = entries_tokens es_j ++ close_map ∷ [] in
     let i1 = first_field (codes "index") (leaf (atom (integer i))) ts own from_i rest refl qi
     (both_begin (leaf (atom (integer i)) ∷ []) ts from_i after_i rest bi j1) in
-    let all = after_one 10 open_map
-    (leaf (atom (keyword (codes "index"))) ∷ leaf (atom (integer i)) ∷ ts) text own rest refl feed i1 in
-    let front = front_of text rest (dictionary (indexed_with i j n t f d)) u
-    (indexed_fits i j n t f d value.fits) all in
-    record {
-      form = dictionary (indexed_with i j n t f d);
-      front = front.0;
-      utf8 = front.1;
-      says = (d, indexed_client i j n t f v d, value.plain);
-    }
+    whole_is (indexed_with i j n t f d) (map_with n t f 0 v) d text own rest u feed i1
+    (indexed_fits i j n t f d value.fits) (indexed_client i j n t f v d) value.plain
