@@ -2,7 +2,7 @@
 -- is the first fault of all (`first_fault`). By what one more form adds to events and to what is kept.
 use Rattle.std.proofs.Common.{◌≡◌, ℕ, ◌+◌, ◌<◌, ◌≤◌, ◌⊎◌, inl, inr, List, [], ◌∷◌, ◌++◌, length, take, drop, get_or}
 use Rattle.std.proofs.Common.{zero, suc, zero-add, refl, ap, sym, ◌∙◌, subst, arith}
-use Rattle.std.proofs.lemmas.List.{append-nil, length-append, map-append, take_more, take_all}
+use Rattle.std.proofs.lemmas.List.{append-nil, length-append, map_push, take_more, take_all}
 use Rattle.edn_reader.specs.Datum.{Datum}
 use Rattle.edn_reader.specs.View.{view, views}
 use Rattle.edn_reader.specs.declared.form.Form.{Form}
@@ -77,8 +77,7 @@ one_more old new number ds d es more h few small r =
 -- and one more
 one_form : (fs : List Form) (i : ℕ) (f : Form) → i < length fs → f ≡ get_or fs i f → views (take (i + 1) fs) ≡ views
     (take i fs) ++ view f ∷ []
-one_form fs i f l is = ap views (take_more fs i f l) ∙ (map-append view (take i fs) (get_or fs i f ∷ []) ∙ ap
-    (λ x. views (take i fs) ++ view x ∷ []) (sym is))
+one_form fs i f l is = rw (take_more fs i f l, ← is) (map_push view (take i fs) f)
 
 -- the forms up to the next one have no fault, if it has none
 pub faultless_more : (seen : Seen) (fs : List Form) (i : ℕ) (f : Form) (es : List Event) → i < length fs

@@ -2,7 +2,7 @@
 -- process or an object is taken over once for each (`taken_more`). By cases on whether the key was met.
 use Rattle.std.proofs.Common.{◌≡◌, ℕ, ◌+◌, ◌≤◌, ◌⊎◌, inl, inr, false}
 use Rattle.std.proofs.Common.{List, ◌∷◌, ◌++◌, map, length}
-use Rattle.std.proofs.Common.{Option, None, All, refl, ap, sym}
+use Rattle.std.proofs.Common.{Option, None, All, refl}
 use Rattle.std.proofs.Common.{arith}
 use Rattle.std.specs.Option.{option_or, is_some}
 use Rattle.std.proofs.lemmas.List.{length-append}
@@ -36,10 +36,7 @@ IsTakenOver old own now left k = (now k ≡ kept_after old own k) ⊎ ((now k �
 -- before any key is taken over, those of the list are still to be
 pub taken_first : {V : Type 0} (old own : ℕ → Option V) (keys : List ℕ) (k : ℕ) → IsListed (own k) keys k
     → IsTakenOver old own old keys k
-taken_first {V} old own keys k h = elim h [
-  | inl none ↦ inl (sym (ap (λ (o : Option V). option_or o (old k)) none))
-  | inr c ↦ inr (refl, in_from_contains keys k c)
-]
+taken_first {V} old own keys k h = grind (arith, in_from_contains keys k)
 
 -- a value that is taken over twice is the same
 twice : {V : Type 0} (own old now : Option V) → (now ≡ option_or own old) ⊎ (now ≡ old) → option_or own now

@@ -29,11 +29,6 @@ found_more ds d f h = (
       (omega (arith, a.0, length-append ds (d ∷ [])), rw (take-append-le (f.map + 1) ds (d ∷ []) within) a.1),
 )
 
-faulty_more : (r : Reading) (f : HistoryFault) (ds : List Datum) (d : Datum) → r.fault ≡ Some f → IsHistoryReading r ds
-    → IsHistoryReading r (ds ++ d ∷ [])
-faulty_more r f ds d e h =
-    rw e (found_more ds d f (rw e at h))
-
 -- a fault that was found stays the first with one more form
 pub faulty_stays : (r : Reading) (ds : List Datum) (d : Datum) → is_some r.fault ≡ true → IsHistoryReading r ds
     → IsHistoryReading r (ds ++ d ∷ [])
@@ -41,7 +36,7 @@ faulty_stays r ds d e h = by_fault r.fault refl e
   where
     by_fault : (o : Option HistoryFault) → r.fault ≡ o → is_some o ≡ true → IsHistoryReading r (ds ++ d ∷ [])
     by_fault None q k = absurd cc
-    by_fault (Some f) q k = faulty_more r f ds d q h
+    by_fault (Some f) q k = rw q (found_more ds d f (rw q at h))
 
 -- a reader that found no fault has read the forms
 pub are_read : (r : Reading) (ds : List Datum) → r.fault ≡ None → IsHistoryReading r ds
