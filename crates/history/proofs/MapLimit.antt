@@ -17,9 +17,7 @@ use Rattle.history.specs.Seen.{HasFirst, HasNoFault}
 -- ---- of one form
 
 fault_within : (ds : List Datum) (d : Datum) (k : HistoryFaultKind) → IsMapFault ds d k → IsHistoryFormFault ds d k
-fault_within ds d NotAnOperation h = inl h
-fault_within ds d TooMany h = absurd h.2
-fault_within ds d kind h = h
+fault_within ds d k h = grind arith
 
 -- a form on no great object
 abbrev pub IsSmall : Datum → Type 0
@@ -27,16 +25,11 @@ IsSmall d = HasGreatObject d → ⊥
 
 fault_or_limit : (ds : List Datum) (d : Datum) (k : HistoryFaultKind) → IsSmall d → IsHistoryFormFault ds d k
     → IsMapFault ds d k ⊎ ((k ≡ TooMany) × (max_maps ≤ length ds))
-fault_or_limit ds d NotAnOperation small (inl h) = inl h
-fault_or_limit ds d NotAnOperation small (inr h) = absurd (small h)
-fault_or_limit ds d TooMany small h = inr (refl, h)
-fault_or_limit ds d kind small h = inl h
+fault_or_limit ds d k small h = grind arith
 
 before_limit : (ds : List Datum) (d : Datum) (k : HistoryFaultKind) → IsMapFault ds d k
     → history_fault_number k < history_fault_number TooMany
-before_limit ds d TooMany h = absurd h.2
-before_limit ds d NoMemory h = absurd h.2
-before_limit ds d kind h = omega arith
+before_limit ds d k h = grind arith
 
 -- no allocation failure is a fault
 pub not_memory : (ds : List Datum) (d : Datum) (k : HistoryFaultKind) → IsMapFault ds d k → k ≡ NoMemory → ⊥
@@ -44,11 +37,7 @@ not_memory ds d k h q = let g : IsMapFault ds d NoMemory = subst (IsMapFault ds 
 
 -- an object past the greatest that a text names is the first fault of its form
 pub great_first : (ds : List Datum) (d : Datum) → HasGreatObject d → HasFirst IsHistoryFormFault ds d NotAnOperation
-great_first ds d great = record { stands = inr great; first = λ j f. least j }
-  where
-    least : (j : HistoryFaultKind) → 1 ≤ history_fault_number j
-    least NotAnOperation = omega arith
-    least kind = omega arith
+great_first ds d great = record { stands = inr great; first = λ j f. grind arith }
 
 -- the first fault of a form at any length is its first fault in one text, if its object is small
 pub first_within : (ds : List Datum) (d : Datum) (k : HistoryFaultKind) → IsSmall d → HasFirst IsMapFault ds d k
@@ -58,7 +47,7 @@ first_within ds d k small h = record {
   first = λ j f. elim (fault_or_limit ds d j small f) [
     | inl g ↦ h.first j g
     | inr t ↦ let l = before_limit ds d k h.stands in
-        subst (λ (x : HistoryFaultKind). history_fault_number k ≤ history_fault_number x) (sym t.0) (omega arith)
+        rw t.0 (omega arith)
   ];
 }
 
@@ -77,8 +66,7 @@ too_many_first ds d small none many = record {
   stands = many;
   first = λ j f. elim (fault_or_limit ds d j small f) [
     | inl g ↦ absurd (none j g)
-    | inr t ↦ subst (λ (x : HistoryFaultKind). history_fault_number TooMany ≤ history_fault_number x) (sym t.0)
-        (omega arith)
+    | inr t ↦ rw t.0 (omega arith)
   ];
 }
 

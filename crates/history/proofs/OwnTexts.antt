@@ -1,9 +1,9 @@
 -- The bytes of a form at the front of a text, which are those before the rest, spell the form alone: by induction on
 -- its tokens, of which each goes as far as it can. And one map more with its own bytes.
-use Rattle.std.proofs.Common.{◌≡◌, ℕ, ◌+◌, ◌-◌, ◌≤◌, inl, inr, List, [], ◌∷◌, ◌++◌, length, take, refl, ap, sym, ◌∙◌}
+use Rattle.std.proofs.Common.{◌≡◌, ℕ, ◌+◌, ◌-◌, inl, inr, List, [], ◌∷◌, ◌++◌, length, take, refl, ap, sym, ◌∙◌}
 use Rattle.std.proofs.Common.{subst, append_assoc, arith}
 use Rattle.std.specs.Str.{IsUtf8}
-use Rattle.std.proofs.lemmas.List.{length-append, take_all, take-append-le}
+use Rattle.std.proofs.lemmas.List.{length-append, take_at}
 use Rattle.std.proofs.lemmas.Str.{IsUtf8-take, IsCharBoundary-at_seam}
 use Rattle.edn_reader.specs.Datum.{Datum, items_of}
 use Rattle.edn_reader.specs.Elements.{SpellsFront}
@@ -26,14 +26,12 @@ token_alone open_map text after own rest h q = (123 ∷ own, h ∙ ap (λ (x : L
 token_alone close_map text after own rest h q = (125 ∷ own, h ∙ ap (λ (x : List ℕ). 125 ∷ x) q, refl)
 token_alone (leaf d) text after own rest (inl (a, word, is, w, e, p)) q = (
   word ++ own,
-  p ∙ (ap (λ (x : List ℕ). word ++ x) q ∙ sym (append_assoc word own rest)),
-  inl
-      (a, word, is, w, ends_alone own rest (subst EndsToken q e), refl),
+  rw (q, ← append_assoc word own rest) at p,
+  inl (a, word, is, w, ends_alone own rest (rw q at e), refl),
 )
 token_alone (leaf d) text after own rest (inr (s, quoted, is, k, p)) q = (
   34 ∷ (quoted ++ 34 ∷ own),
-  p ∙ (ap (λ (x : List ℕ). 34 ∷ (quoted ++ 34 ∷ x)) q ∙ ap (λ (x : List ℕ). 34 ∷ x)
-      (sym (append_assoc quoted (34 ∷ own) rest))),
+  p ∙ rw (q, append_assoc quoted (34 ∷ own) rest),
   inr (s, quoted, is, k, refl),
 )
 
@@ -54,16 +52,12 @@ pub form_alone : (d : Datum) (text rest before left : List ℕ) → before ≡ t
 form_alone d text rest before left at end whole later f =
     let own = tokens_alone (items_tokens (items_of (d ∷ []))) text rest f.begins in
     let long : length text ≡ length own.0 + length rest = ap length own.1 ∙ length-append own.0 rest in
-    let within : length own.0 ≤ length own.0 = omega arith in
+    let count : length text - length rest ≡ length own.0 = omega arith in
     let front : take (length own.0) text ≡ own.0 =
-    ap (take (length own.0)) own.1 ∙ rw take-append-le (take_all (length own.0) own.0 within) in
+    ap (take (length own.0)) own.1 ∙ take_at own.0 rest (length own.0) refl in
     let utf8 : IsUtf8 own.0 = subst IsUtf8 front
     (IsUtf8-take text (length own.0) whole (IsCharBoundary-at_seam text own.0 rest own.1 later)) in
-    let same : length before ≡ length text = ap length at in
-    let same_rest : length left ≡ length rest = ap length end in
-    let count : length before - length left ≡ length own.0 = omega arith in
-    subst (Spells (d ∷ [])) (sym (ap (λ (k : ℕ). take k before) count ∙ (ap (take (length own.0)) at ∙ front)))
-    (record { utf8 = utf8; tokens = own.2; fits = f.fits })
+    rw (at, end, count, front) (record { utf8 = utf8; tokens = own.2; fits = f.fits })
 
 -- one map more
 pub texts_push : (ms : List MapText) (ds : List Datum) (m : MapText) (d : Datum) → AreMapTexts ms ds → IsMapText m d

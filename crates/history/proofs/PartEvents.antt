@@ -1,13 +1,12 @@
 -- The events of joined forms: those of the first forms, and then those of the others with their
 -- numbers counted from as many maps earlier; by induction on the forms.
-use Rattle.std.proofs.Common.{◌≡◌, ℕ, ◌+◌, List, [], ◌∷◌, ◌++◌, map, length, Option, Some, None}
+use Rattle.std.proofs.Common.{◌≡◌, ℕ, ◌+◌, List, [], ◌∷◌, ◌++◌, map, length, Option}
 use Rattle.std.proofs.Common.{refl, ap, sym, ◌∙◌, append_assoc, zero-add, arith}
 use Rattle.std.proofs.lemmas.List.{map-append}
 use Rattle.edn_reader.specs.Datum.{Datum}
-use Rattle.events.specs.declared.event.Action.{Action}
 use Rattle.events.specs.declared.event.Event.{Event}
 use Rattle.history.specs.Maps.{ClientMap, client_of}
-use Rattle.history.specs.Denotes.{action_of, event_of_map, event_of, events_of_forms}
+use Rattle.history.specs.Denotes.{event_of, events_of_forms}
 use Rattle.history.specs.Noting.{shift_event}
 
 -- ---- joined forms
@@ -20,12 +19,7 @@ events_join n (d ∷ ds) es =
     rw (e, events_join (n + 1) ds es) (simp append_assoc)
 
 shift_one : (n k : ℕ) (c : Option ClientMap) → event_of (n + k) c ≡ map (shift_event n) (event_of k c)
-shift_one n k None = refl
-shift_one n k (Some m) = go (action_of m.type m)
-  where
-    go : (a : Option Action) → event_of_map (n + k) m a ≡ map (shift_event n) (event_of_map k m a)
-    go None = refl
-    go (Some a) = refl
+shift_one n k c = grind arith
 
 events_moved : (n k : ℕ) (ds : List Datum) → events_of_forms (n + k) ds ≡ map (shift_event n) (events_of_forms k ds)
 events_moved n k [] = refl

@@ -6,12 +6,12 @@ use Rattle.std.specs.Prelude.{Result, Ok, Err, is_ok, Contains, if◌then◌else
 use Rattle.std.specs.Option.{option_or}
 use Rattle.std.specs.Result.{result_ok}
 use Rattle.std.proofs.lemmas.Bool.{cases_eq}
-use Rattle.std.proofs.lemmas.List.{append-nil, length-append, map-append}
-use Rattle.std.proofs.lemmas.List.Elements.{All-append}
+use Rattle.std.proofs.lemmas.List.{append-nil, length-append, map_push}
+use Rattle.std.proofs.lemmas.List.Elements.{All-push, Contains-append_left, Contains-push}
 use Rattle.std.proofs.lemmas.Option.{same_Some}
 use Rattle.number_map.specs.Lookup.{value_of}
 use Rattle.model.specs.declared.Kind.{Kind}
-use Rattle.model.proofs.Lists.{all_from_in, all_at, contains_from_in, in_from_contains, in_left, in_right}
+use Rattle.model.proofs.Lists.{all_from_in, all_at, in_left, in_right}
 use Rattle.edn.specs.Fields.{max_object}
 use Rattle.edn_reader.specs.Datum.{Datum}
 use Rattle.edn_reader.proofs.FormsInARow.{Along}
@@ -92,56 +92,7 @@ noted_map c f = record { map_type = c.map_type; function = f; process = c.proces
 abbrev pub noted_event : code.ClientMap → ℕ → Action → Event
 noted_event c n a = record { number = n; process = c.process; object = c.object; action = a }
 
--- the new piece's needs contain those of the old one, and what the map needs
-pub continues_more : (old new : ReadPiece) (ds : List Datum) (d : Datum) (c : code.ClientMap) (w : Datum) (f : Function)
-    (a : Action)
-    → ContinuesWhereItFits old ds → client_of d ≡ Some (client_map c w) → c.function ≡ Some f
-    → action_of (map_type c.map_type) (client_map c w) ≡ Some a
-    → NotesProcess (value_of old.seen.processes) (value_of new.seen.processes) old.firsts.items new.firsts.items
-    (noted_map c f)
-    → NotesObject (value_of old.seen.kinds) (value_of new.seen.kinds) old.objects.items new.objects.items c.object f
-    → ContinuesWhereItFits new (ds ++ d ∷ [])
-continues_more old new ds d c w f a h is known action process object before s k seen faultless fits =
-    let m = client_map c w in
-    let own = value_of old.seen.processes in
-    let kinds = value_of old.seen.kinds in
-    let kind_fits : IsNoOther (k c.object) (kind_of_function f) = fits.of_kind c.object
-    (kind_of_function f) object.own in
-    let of_kind : (x : ℕ) (kind : Kind) → kinds x ≡ Some kind
-    → IsNoOther (k x) kind = λ x kind q. elim (cases_eq x c.object) [
-      | inl e ↦
-          let same : kind ≡ kind_of_function f = object.checked kind (rw e at q) in rw (e, same) kind_fits
-      | inr ne ↦ fits.of_kind x kind (object.others x ne ∙ q)
-    ] in
-    let fits_before : FitsAfter old s k = record {
-      allowed = fewer_firsts (IsAllowed s) (own c.process) old.firsts.items new.firsts.items
-          (noted_map c f) process.checked fits.allowed;
-      of_kind = of_kind;
-    } in
-    let so_far = h before s k seen faultless fits_before in
-    let allowed = allowed_after (own c.process) (s c.process) old.firsts.items new.firsts.items
-    (noted_map c f) process.checked
-    (λ q. all_at (IsAllowed s) (old.firsts.items ++ noted_map c f ∷ []) (rw q at fits.allowed)
-    (noted_map c f) (in_right (noted_map c f) old.firsts.items (noted_map c f ∷ []) (inl refl))) in
-    let more = goes_on_more (before ++ ds) d m f a (kept_after s own) (kept_after s (value_of new.seen.processes))
-    (kept_after k kinds) (kept_after k (value_of new.seen.kinds))
-    so_far.1 so_far.0 is known action allowed
-    (no_other_after (kinds c.object) (k c.object) (kind_of_function f) object.checked kind_fits)
-    (ap (λ (o : Option Process). option_or o (s c.process)) process.own)
-    (λ p ne. ap (λ (o : Option Process). option_or o (s p)) (process.others p ne))
-    (ap (λ (o : Option Kind). option_or o (k c.object)) object.own)
-    (λ x ne. ap (λ (o : Option Kind). option_or o (k x)) (object.others x ne)) in
-    let same = append_assoc before ds (d ∷ []) in (rw same at more.0, rw same at more.1)
-
 -- ---- one map more
-
--- the events of forms and one more map of a client
-event_added : (ds : List Datum) (d : Datum) (c : code.ClientMap) (w : Datum) (n : ℕ) (a : Action) → n ≡ length ds
-    → client_of d ≡ Some (client_map c w)
-    → action_of (map_type c.map_type) (client_map c w) ≡ Some a → events_of_forms 0 (ds ++ d ∷ [])
-    ≡ events_of_forms 0 ds ++ noted_event c n a ∷ []
-event_added ds d c w n a count is action =
-    rw (events_push 0 ds d, zero-add (length ds), ← count, is, action) refl
 
 -- the processes so far have a first map, and that of one more map has one too
 firsts_more : (old new : ℕ → Option Process) (was now : List FirstMap) (m : FirstMap) → NotesProcess old new was now m
@@ -153,13 +104,11 @@ firsts_more old new was now m h listed p = elim (cases_eq p m.process) [
 ]
   where
     ends : now ≡ was ++ m ∷ [] → map (λ x. x.process) now ≡ map (λ x. x.process) was ++ m.process ∷ []
-    ends q = ap (map (λ x. x.process)) q ∙ map-append (λ x. x.process) was (m ∷ [])
+    ends q = rw q (map_push (λ x. x.process) was m)
 
     own : (o : Option Process) → IsFirstOrAllowed o was now m → IsListed o (map (λ x. x.process) was) m.process
         → Contains (map (λ x. x.process) now) m.process
-    own None c l = rw (ends c)
-        (contains_from_in (map (λ x. x.process) was ++ m.process ∷ []) m.process
-        (in_right m.process (map (λ x. x.process) was) (m.process ∷ []) (inl refl)))
+    own None c l = rw (ends c) (Contains-push (map (λ x. x.process) was) m.process)
     own (Some v) c l = elim l [
       | inl q ↦ absurd (cc q)
       | inr k ↦ rw c.0 k
@@ -168,15 +117,12 @@ firsts_more old new was now m h listed p = elim (cases_eq p m.process) [
     other : (o : Option Process) → IsFirstOrAllowed o was now m → IsListed (old p) (map (λ x. x.process) was) p
         → IsListed (old p) (map (λ x. x.process) now) p
     other None c (inl q) = inl q
-    other None c (inr k) = inr (rw (ends c)
-        (contains_from_in (map (λ x. x.process) was ++ m.process ∷ []) p
-        (in_left p (map (λ x. x.process) was) (m.process ∷ []) (in_from_contains (map (λ x. x.process) was) p k))))
+    other None c (inr k) = inr (rw (ends c) (Contains-append_left (map (λ x. x.process) was) (m.process ∷ []) p k))
     other (Some v) c l = rw c.0 l
 
 -- no form so far is on a great object, nor is one more
 small_more : (ds : List Datum) (d : Datum) → All IsSmall ds → IsSmall d → All IsSmall (ds ++ d ∷ [])
-small_more ds d h own = All-append IsSmall ds (d ∷ []) h (all_from_in IsSmall (d ∷ [])
-    (λ x j. elim j [ inl e ↦ rw e own | inr k ↦ absurd k ]))
+small_more ds d h own = All-push IsSmall ds d h own
 
 small_client : (d : Datum) (m : ClientMap) → client_of d ≡ Some m → m.object ≤ max_object → IsSmall d
 small_client d m is few great =
@@ -188,24 +134,56 @@ small_other : (d : Datum) → client_of d ≡ None → IsSmall d
 small_other d none great = let is = great.1 in absurd (cc (none, is))
 
 -- one map more of a client
-pub part_more : (old new : ReadPiece) (ds : List Datum) (d : Datum) (c : code.ClientMap) (w : Datum) (f : Function)
-    (a : Action) → IsOfForms old ds
-    → client_of d ≡ Some (client_map c w) → c.function ≡ Some f → action_of (map_type c.map_type) (client_map c w)
-    ≡ Some a
-    → NotesProcess (value_of old.seen.processes) (value_of new.seen.processes) old.firsts.items new.firsts.items
-    (noted_map c f)
-    → NotesObject (value_of old.seen.kinds) (value_of new.seen.kinds) old.objects.items new.objects.items c.object f
-    → new.maps ≡ old.maps + 1 → new.events.items ≡ old.events.items ++ noted_event c old.maps a ∷ []
-    → c.object ≤ max_object → IsOfForms new (ds ++ d ∷ [])
-part_more old new ds d c w f a h is known action process object count events few = record {
-  count = omega (arith, length-append ds (d ∷ []), count, h.count);
-  events = rw (events, h.events, event_added ds d c w old.maps a h.count is action) refl;
-  processes = firsts_more (value_of old.seen.processes)
-      (value_of new.seen.processes) old.firsts.items new.firsts.items (noted_map c f) process h.processes;
-  objects = λ x. object.listed x (h.objects x);
-  continues = continues_more old new ds d c w f a h.continues is known action process object;
-  small = small_more ds d h.small (small_client d (client_map c w) is few);
-}
+module _ (old new : ReadPiece) (ds : List Datum) (d : Datum) (c : code.ClientMap) (w : Datum) (f : Function)
+    (a : Action) (is : client_of d ≡ Some (client_map c w)) (known : c.function ≡ Some f)
+    (action : action_of (map_type c.map_type) (client_map c w) ≡ Some a)
+    (process : NotesProcess (value_of old.seen.processes) (value_of new.seen.processes) old.firsts.items
+    new.firsts.items (noted_map c f))
+    (object : NotesObject (value_of old.seen.kinds) (value_of new.seen.kinds) old.objects.items new.objects.items
+    c.object f) where
+  -- the new piece's needs contain those of the old one, and what the map needs
+  continues_more : ContinuesWhereItFits old ds → ContinuesWhereItFits new (ds ++ d ∷ [])
+  continues_more h before s k seen faultless fits =
+      let m = client_map c w in
+      let own = value_of old.seen.processes in
+      let kinds = value_of old.seen.kinds in
+      let kind_fits : IsNoOther (k c.object) (kind_of_function f) = fits.of_kind c.object
+      (kind_of_function f) object.own in
+      let of_kind : (x : ℕ) (kind : Kind) → kinds x ≡ Some kind
+      → IsNoOther (k x) kind = λ x kind q. elim (cases_eq x c.object) [
+        | inl e ↦
+            let same : kind ≡ kind_of_function f = object.checked kind (rw e at q) in rw (e, same) kind_fits
+        | inr ne ↦ fits.of_kind x kind (object.others x ne ∙ q)
+      ] in
+      let fits_before : FitsAfter old s k = record {
+        allowed = fewer_firsts (IsAllowed s) (own c.process) old.firsts.items new.firsts.items
+            (noted_map c f) process.checked fits.allowed;
+        of_kind = of_kind;
+      } in
+      let so_far = h before s k seen faultless fits_before in
+      let allowed = allowed_after (own c.process) (s c.process) old.firsts.items new.firsts.items
+      (noted_map c f) process.checked
+      (λ q. all_at (IsAllowed s) (old.firsts.items ++ noted_map c f ∷ []) (rw q at fits.allowed)
+      (noted_map c f) (in_right (noted_map c f) old.firsts.items (noted_map c f ∷ []) (inl refl))) in
+      let more = goes_on_more (before ++ ds) d m f a (kept_after s own) (kept_after s (value_of new.seen.processes))
+      (kept_after k kinds) (kept_after k (value_of new.seen.kinds))
+      so_far.1 so_far.0 is known action allowed
+      (no_other_after (kinds c.object) (k c.object) (kind_of_function f) object.checked kind_fits)
+      (rw process.own) (λ p ne. rw (process.others p ne)) (rw object.own) (λ x ne. rw (object.others x ne)) in
+      let same = append_assoc before ds (d ∷ []) in (rw same at more.0, rw same at more.1)
+
+  pub part_more : IsOfForms old ds → new.maps ≡ old.maps + 1
+      → new.events.items ≡ old.events.items ++ noted_event c old.maps a ∷ [] → c.object ≤ max_object
+      → IsOfForms new (ds ++ d ∷ [])
+  part_more h count events few = record {
+    count = omega (arith, length-append ds (d ∷ []), count, h.count);
+    events = rw (events, h.events, events_push 0 ds d, zero-add (length ds), ← h.count, is, action);
+    processes = firsts_more (value_of old.seen.processes)
+        (value_of new.seen.processes) old.firsts.items new.firsts.items (noted_map c f) process h.processes;
+    objects = λ x. object.listed x (h.objects x);
+    continues = continues_more h.continues;
+    small = small_more ds d h.small (small_client d (client_map c w) is few);
+  }
 
 -- ---- a map that is no client's
 
@@ -284,8 +262,7 @@ no_maps read seen count events =
         rw (append-nil before)
             (seen_same s (kept_after s (value_of read.seen.processes)) k
             (kept_after k (value_of read.seen.kinds)) before kept
-            (λ p. ap (λ (o : Option Process). option_or o (s p)) (processes p))
-            (λ x. ap (λ (o : Option Kind). option_or o (k x)) (kinds x))),
+            (λ p. rw (processes p)) (λ x. rw (kinds x))),
       );
     }
 

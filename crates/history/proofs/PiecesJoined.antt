@@ -1,7 +1,7 @@
 -- A text that is cut at line feeds is its pieces (`piece_more`). If each was read, joining them one by one
 -- (`join_more`) gives the forms of the text (`all_joined`).
 use Rattle.std.proofs.Common.{◌≡◌, ℕ, zero, suc, ◌<◌, List, [], ◌∷◌, ◌++◌, length, get_or, Option}
-use Rattle.std.proofs.Common.{Some, IfSome, refl, ap, sym, ◌∙◌, subst, append_assoc, arith}
+use Rattle.std.proofs.Common.{Some, IfSome, refl, sym, append_assoc, arith}
 use Rattle.std.proofs.lemmas.List.{append-nil}
 use Rattle.edn_reader.specs.Datum.{Datum}
 use Rattle.edn_reader.specs.Spells.{Spells}
@@ -23,15 +23,14 @@ joined_cons a (p ∷ ps) b qs = refl
 joined_cut : (ps : List (List ℕ)) (a b : List ℕ) → joined_by_feeds (ps ++ a ∷ b ∷ [])
     ≡ joined_by_feeds (ps ++ (a ++ 10 ∷ b) ∷ [])
 joined_cut [] a b = refl
-joined_cut (p ∷ ps) a b = joined_cons p ps a (b ∷ []) ∙
-    (ap (λ t. p ++ 10 ∷ t) (joined_cut ps a b) ∙ sym (joined_cons p ps (a ++ 10 ∷ b) []))
+joined_cut (p ∷ ps) a b =
+    rw (joined_cons p ps a (b ∷ []), joined_cut ps a b) (sym (joined_cons p ps (a ++ 10 ∷ b) []))
 
 -- one more piece is cut off
 pub piece_more : (ps : List (List ℕ)) (rest a b : List ℕ) (text : List ℕ) → rest ≡ a ++ 10 ∷ b
     → joined_by_feeds (ps ++ rest ∷ []) ≡ text
     → joined_by_feeds ((ps ++ a ∷ []) ++ b ∷ []) ≡ text
-piece_more ps rest a b text q h = ap joined_by_feeds (append_assoc ps (a ∷ []) (b ∷ []))
-    ∙ (joined_cut ps a b ∙ (ap (λ r. joined_by_feeds (ps ++ r ∷ [])) (sym q) ∙ h))
+piece_more ps rest a b text q h = rw (append_assoc ps (a ∷ []) (b ∷ []), joined_cut ps a b, ← q) h
 
 -- ---- pieces
 
@@ -62,15 +61,14 @@ nothing_joined pieces seams reads are joined = record
 
 piece_first : (ds es : List Datum) (p : List ℕ) (ps : List (List ℕ)) → Spells ds p → Spells es (joined_by_feeds ps)
     → Spells (ds ++ es) (joined_by_feeds (p ∷ ps))
-piece_first ds es p [] h k = subst (λ xs. Spells (ds ++ xs) p) (one_reading_of [] es [] nothing_spelled k)
-    (subst (λ xs. Spells xs p) (sym (append-nil ds)) h)
+piece_first ds es p [] h k = rw (← one_reading_of [] es [] nothing_spelled k, append-nil ds) h
 piece_first ds es p (q ∷ qs) h k = joined_spell ds es p (joined_by_feeds (q ∷ qs)) h k
 
 pub join_more : (text : List ℕ) (old new : Seams) (read : ReadPiece) (rest later : List (Option ReadPiece))
     → IsJoinedTo text old rest → rest ≡ Some read ∷ later
     → ((ds es : List Datum) → AreJoined old ds → IsOfForms read es → AreJoined new (ds ++ es))
     → IsJoinedTo text new later
-join_more text old new read rest later h is add = go h.pieces (subst (AreReadFrom h.pieces) is h.are) h.spelled
+join_more text old new read rest later h is add = go h.pieces (rw is at h.are) h.spelled
   where
     go : (ps : List (List ℕ)) → AreReadFrom ps (Some read ∷ later)
         → ((es : List Datum) → Spells es (joined_by_feeds ps) → Spells (h.forms ++ es) text)
@@ -83,16 +81,16 @@ join_more text old new read rest later h is add = go h.pieces (subst (AreReadFro
           forms = h.forms ++ read.0;
           are = a.1;
           joined = add h.forms read.0 h.joined read.2;
-          spelled = λ es l. subst (λ xs. Spells xs text) (sym (append_assoc h.forms read.0 es))
+          spelled = λ es l. rw (append_assoc h.forms read.0 es)
               (k (read.0 ++ es) (piece_first read.0 es p ps read.1 l));
         }
 
 pub all_joined : (text : List ℕ) (seams : Seams) (rest : List (Option ReadPiece)) → rest ≡ []
     → IsJoinedTo text seams rest → (ds : List Datum) × AreJoined seams ds × Spells ds text
-all_joined text seams rest is h = go h.pieces (subst (AreReadFrom h.pieces) is h.are) h.spelled
+all_joined text seams rest is h = go h.pieces (rw is at h.are) h.spelled
   where
     go : (ps : List (List ℕ)) → AreReadFrom ps [] →
         ((es : List Datum) → Spells es (joined_by_feeds ps) → Spells (h.forms ++ es) text)
         → (ds : List Datum) × AreJoined seams ds × Spells ds text
-    go [] a k = (h.forms, h.joined, subst (λ xs. Spells xs text) (append-nil h.forms) (k [] nothing_spelled))
+    go [] a k = (h.forms, h.joined, rw (append-nil h.forms) at (k [] nothing_spelled))
     go (p ∷ ps) a k = absurd a

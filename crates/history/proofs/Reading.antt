@@ -2,7 +2,7 @@
 -- is the first fault of all (`first_fault`). By what one more form adds to events and to what is kept.
 use Rattle.std.proofs.Common.{◌≡◌, ℕ, ◌+◌, ◌<◌, ◌≤◌, ◌⊎◌, inl, inr, List, [], ◌∷◌, ◌++◌, length, take, drop, get_or}
 use Rattle.std.proofs.Common.{zero, suc, zero-add, refl, ap, sym, ◌∙◌, subst, arith}
-use Rattle.std.proofs.lemmas.List.{append-nil, length-append, map-append, take_more, take_all}
+use Rattle.std.proofs.lemmas.List.{append-nil, length-append, map_push, take_more, take_all}
 use Rattle.edn_reader.specs.Datum.{Datum}
 use Rattle.edn_reader.specs.View.{view, views}
 use Rattle.edn_reader.specs.declared.form.Form.{Form}
@@ -29,11 +29,7 @@ split_push : (ds : List Datum) (d : Datum) (earlier later : List Datum) (e : Dat
     → ds ++ d ∷ [] ≡ earlier ++ e ∷ later → ((earlier ≡ ds) × (e ≡ d))
     ⊎ ((rest : List Datum) × (ds ≡ earlier ++ e ∷ rest))
 split_push [] d [] later e q = inl (refl, let s : d ≡ e = cc in sym s)
-split_push [] d (x ∷ earlier) later e q = absurd (no_tail earlier (let s : [] ≡ earlier ++ e ∷ later = cc in s))
-  where
-    no_tail : (xs : List Datum) → [] ≡ xs ++ e ∷ later → ⊥
-    no_tail [] s = cc s
-    no_tail (y ∷ ys) s = cc s
+split_push [] d (x ∷ earlier) later e q = absurd (omega (arith, simp length-append at (ap length q)))
 split_push (y ∷ ds) d [] later e q = inr (ds, let s : y ≡ e = cc in ap (λ z. z ∷ ds) s)
 split_push (y ∷ ds) d (x ∷ earlier) later e q =
     let head : y ≡ x = cc in
@@ -55,11 +51,7 @@ faultless_push IsFault ds d h none earlier later e k q f = elim (split_push ds d
 -- no forms have no fault
 pub nothing_faulty : (IsFault : List Datum → Datum → HistoryFaultKind → Type 0)
     → AreFaultless IsFault []
-nothing_faulty IsFault earlier later d k e f = no_split earlier e
-  where
-    no_split : (earlier : List Datum) → [] ≡ earlier ++ d ∷ later → ⊥
-    no_split [] e = cc
-    no_split xs e = cc
+nothing_faulty IsFault earlier later d k e f = omega (arith, simp length-append at (ap length e))
 
 -- ---- what is read
 
@@ -85,8 +77,7 @@ one_more old new number ds d es more h few small r =
 -- and one more
 one_form : (fs : List Form) (i : ℕ) (f : Form) → i < length fs → f ≡ get_or fs i f → views (take (i + 1) fs) ≡ views
     (take i fs) ++ view f ∷ []
-one_form fs i f l is = ap views (take_more fs i f l) ∙ (map-append view (take i fs) (get_or fs i f ∷ []) ∙ ap
-    (λ x. views (take i fs) ++ view x ∷ []) (sym is))
+one_form fs i f l is = rw (take_more fs i f l, ← is) (map_push view (take i fs) f)
 
 -- the forms up to the next one have no fault, if it has none
 pub faultless_more : (seen : Seen) (fs : List Form) (i : ℕ) (f : Form) (es : List Event) → i < length fs

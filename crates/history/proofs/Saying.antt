@@ -1,7 +1,7 @@
 -- What a form says by its entries is what it says by its tokens (`client_is`): the value by its first tokens, the
 -- object and the keys by the walk over the pairs.
 use Rattle.std.proofs.Common.{◌≡◌, ℕ, ℤ, true, false, Option, Some, None, IfSome, List, [], ◌∷◌, ◌++◌, codes, refl, sym}
-use Rattle.std.proofs.Common.{ap, ◌∙◌}
+use Rattle.std.proofs.Common.{ap, ◌∙◌, arith}
 use Rattle.std.specs.Prelude.{option_map, option_and_then}
 use Rattle.edn_reader.specs.Truncation.{integer_in}
 use Rattle.edn_reader.specs.Datum.{boolean, integer, Datum, atom, vector, Items, no_items, item, Entries}
@@ -18,21 +18,15 @@ use Rattle.history.specs.declared.client_map.ClientMap.{ClientMap}
 -- ---- the value, by its first tokens
 
 no_first : (a : Datum) (ds : Items) → integer_in a ≡ None → None ≡ tuple_in (item a ds)
-no_first a no_items e = refl
-no_first a (item b no_items) e = rw e refl
-no_first a (item b (item c no_items)) e = rw e refl
-no_first a (item b (item c (item d ds))) e = refl
+no_first a ds e = grind arith
 
 no_second : (x : ℤ) (b : Datum) (ds : Items) → integer_in b ≡ None
     → None ≡ tuple_in (item (atom (integer x)) (item b ds))
-no_second x b no_items e = rw e refl
-no_second x b (item c no_items) e = rw e refl
-no_second x b (item c (item d ds)) e = refl
+no_second x b ds e = grind arith
 
 no_third : (x y : ℤ) (c : Datum) (ds : Items) → integer_in c ≡ None
     → None ≡ tuple_in (item (atom (integer x)) (item (atom (integer y)) (item c ds)))
-no_third x y c no_items e = rw e refl
-no_third x y c (item d ds) e = refl
+no_third x y c ds e = grind arith
 
 third_by : (x y : ℤ) (c : Datum) (ds : Items) (ts : List Token)
     → tuple_first (leaf (atom (integer x)) ∷ leaf (atom (integer y)) ∷

@@ -1,15 +1,14 @@
 -- One more piece that fits after the joined ones is joined to them (`joined_more`): what the piece says of a process
 -- or an object that no earlier piece named is added (`taken_more`). By cases on whether the key was met.
-use Rattle.std.proofs.Common.{◌≡◌, ℕ, ◌+◌, ◌<◌, ◌≤◌, ◌⊎◌, inl, inr, false, List, [], ◌∷◌, ◌++◌, map, length, take}
-use Rattle.std.proofs.Common.{get_or, Option, Some, None, All, refl, ap, sym, ◌∙◌, arith}
+use Rattle.std.proofs.Common.{◌≡◌, ℕ, ◌+◌, ◌≤◌, ◌⊎◌, inl, inr, false, List, ◌∷◌, ◌++◌, map, length, Option, None, All}
+use Rattle.std.proofs.Common.{refl, arith}
 use Rattle.std.specs.Option.{option_or, is_some}
-use Rattle.std.proofs.lemmas.Bool.{cases_eq}
-use Rattle.std.proofs.lemmas.List.{length-append, take_more, take_all}
+use Rattle.std.proofs.lemmas.List.{length-append}
 use Rattle.std.proofs.lemmas.List.Elements.{All-append}
 use Rattle.number_map.specs.Lookup.{value_of}
 use Rattle.model.specs.declared.Kind.{Kind}
 use Rattle.model.specs.Lists.{In}
-use Rattle.model.proofs.Lists.{in_from_contains, all_at, all_from_in}
+use Rattle.model.proofs.Lists.{in_from_contains, all_at}
 use Rattle.edn_reader.specs.Datum.{Datum}
 use Rattle.events.specs.Operations.{IsListed}
 use Rattle.history.specs.declared.seen.Process.{Process}
@@ -35,34 +34,21 @@ IsTakenOver old own now left k = (now k ≡ kept_after old own k) ⊎ ((now k �
 -- before any key is taken over, those of the list are still to be
 pub taken_first : {V : Type 0} (old own : ℕ → Option V) (keys : List ℕ) (k : ℕ) → IsListed (own k) keys k
     → IsTakenOver old own old keys k
-taken_first {V} old own keys k h = elim h [
-  | inl none ↦ inl (sym (ap (λ (o : Option V). option_or o (old k)) none))
-  | inr c ↦ inr (refl, in_from_contains keys k c)
-]
+taken_first {V} old own keys k h = grind (arith, in_from_contains keys k)
 
 -- a value that is taken over twice is the same
 twice : {V : Type 0} (own old now : Option V) → (now ≡ option_or own old) ⊎ (now ≡ old) → option_or own now
     ≡ option_or own old
-twice None old now h = elim h [ inl q ↦ q | inr q ↦ q ]
-twice (Some v) old now h = refl
+twice own old now h = grind arith
 
 -- one more key of the list is taken over
 pub taken_more : {V : Type 0} (old own now new : ℕ → Option V) (key : ℕ) (later : List ℕ) (k : ℕ)
     → TakesOver now own new key
     → IsTakenOver old own now (key ∷ later) k → IsTakenOver old own new later k
-taken_more {V} old own now new key later k t h = elim (cases_eq k key) [
-  | inl e ↦ inl (rw e (t.at_key ∙ twice (own key) (old key) (now key) (rw e at kept)))
-  | inr ne ↦ elim h [
-    | inl q ↦ inl (t.others k ne ∙ q)
-    | inr s ↦ elim s.1 [
-      | inl e ↦ absurd (ne e)
-      | inr j ↦ inr (t.others k ne ∙ s.0, j)
-    ]
-  ]
-]
-  where
-    kept : (now k ≡ kept_after old own k) ⊎ (now k ≡ old k)
-    kept = elim h [ inl q ↦ inl q | inr s ↦ inr s.0 ]
+taken_more {V} old own now new key later k t h =
+    let at_key = t.at_key in
+    let others = t.others k in
+    grind (arith, twice (own key) (old key) (now key))
 
 -- ---- a piece that fits
 
@@ -110,21 +96,8 @@ joined_more old new read ds es h p allowed one few processes kinds events maps =
       count = omega (arith, length-append ds es, counted, own, maps);
     }
 
--- ---- along a list
-
--- what holds of the first i elements and of the next holds of the first i + 1
-pub all_more : {X : Type 0} (P : X → Type 0) (xs : List X) (i : ℕ) (d : X) → i < length xs → All P (take i xs)
-    → P (get_or xs i d) → All P (take (i + 1) xs)
-all_more P xs i d l h p = rw (take_more xs i d l) (All-append P (take i xs) (get_or xs i d ∷ []) h
-    (all_from_in P (get_or xs i d ∷ []) (λ x j. elim j [ inl e ↦ rw e p | inr k ↦ absurd k ])))
-
--- what holds of as many elements as there are holds of all
-pub all_done : {X : Type 0} (P : X → Type 0) (xs : List X) (i : ℕ) → length xs ≤ i → All P (take i xs) → All P xs
-all_done P xs i l h = rw (take_all i xs l) at h
-
 was_none : {X : Type 0} (o : Option X) → false ≡ is_some o → o ≡ None
-was_none None q = refl
-was_none (Some x) q = absurd (cc q)
+was_none o q = grind arith
 
 -- a process may do what its first map in the piece says, if no fault was found
 pub allowed_at : (processes : ℕ → Option Process) (m : FirstMap) (kept : Option Process)

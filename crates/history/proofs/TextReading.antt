@@ -1,6 +1,5 @@
 -- The maps of a text, one by one: what was found stays found, whatever follows.
-use Rattle.std.proofs.Common.{◌≡◌, ◌≢◌, ℕ, ◌+◌, ◌<◌, ◌≤◌, true, Option, Some, None, List, [], ◌∷◌, ◌++◌, length}
-use Rattle.std.proofs.Common.{take, refl, sym, subst, arith}
+use Rattle.std.proofs.Common.{◌≡◌, ◌≢◌, ℕ, ◌+◌, ◌≤◌, true, Option, Some, None, List, [], ◌∷◌, ◌++◌, length, refl, arith}
 use Rattle.std.specs.Option.{is_some}
 use Rattle.std.proofs.lemmas.List.{length-append, take_all, take-append-le}
 use Rattle.edn_reader.specs.Datum.{Datum}
@@ -12,7 +11,7 @@ use Rattle.history.specs.declared.fault.HistoryFault.{HistoryFault}
 use Rattle.history.specs.declared.fault.HistoryFaultKind.{HistoryFaultKind}
 use Rattle.history.specs.declared.fault.HistoryFaultKind.TheVariants.{NoMemory}
 use Rattle.history.specs.declared.text_reader.Reading.{Reading}
-use Rattle.history.specs.Faults.{IsHistoryFormFault, HasNoHistoryFault}
+use Rattle.history.specs.Faults.{IsHistoryFormFault}
 use Rattle.history.specs.Seen.{HasFirst, HasNoFault}
 use Rattle.history.specs.Texts.{IsHistoryFaultIn, AreEventsRead, IsHistoryReading}
 use Rattle.history.proofs.Reading.{faultless_push}
@@ -23,22 +22,11 @@ found_more : (ds : List Datum) (d : Datum) (f : HistoryFault) → IsHistoryFault
     → IsHistoryFaultIn (ds ++ d ∷ []) f
 found_more ds d f h = (
   λ n. first_more ds d f.map f.kind (h.0 n),
-  λ m. (
+  λ m.
       let a = h.1 m in
-      let lt : f.map < length ds = a.0 in (
-        omega (arith, lt, length-append ds (d ∷ [])),
-        subst HasNoHistoryFault (sym (take_front (f.map + 1) ds d (omega (arith, lt)))) a.1,
-      )
-      ),
+      let within : f.map + 1 ≤ length ds = omega (arith, a.0) in
+      (omega (arith, a.0, length-append ds (d ∷ [])), rw (take-append-le (f.map + 1) ds (d ∷ []) within) a.1),
 )
-  where
-    take_front : (n : ℕ) (xs : List Datum) (d : Datum) → n ≤ length xs → take n (xs ++ d ∷ []) ≡ take n xs
-    take_front n xs d le = rw take-append-le refl
-
-faulty_more : (r : Reading) (f : HistoryFault) (ds : List Datum) (d : Datum) → r.fault ≡ Some f → IsHistoryReading r ds
-    → IsHistoryReading r (ds ++ d ∷ [])
-faulty_more r f ds d e h =
-    rw e (found_more ds d f (rw e at h))
 
 -- a fault that was found stays the first with one more form
 pub faulty_stays : (r : Reading) (ds : List Datum) (d : Datum) → is_some r.fault ≡ true → IsHistoryReading r ds
@@ -47,7 +35,7 @@ faulty_stays r ds d e h = by_fault r.fault refl e
   where
     by_fault : (o : Option HistoryFault) → r.fault ≡ o → is_some o ≡ true → IsHistoryReading r (ds ++ d ∷ [])
     by_fault None q k = absurd cc
-    by_fault (Some f) q k = faulty_more r f ds d q h
+    by_fault (Some f) q k = rw q (found_more ds d f (rw q at h))
 
 -- a reader that found no fault has read the forms
 pub are_read : (r : Reading) (ds : List Datum) → r.fault ≡ None → IsHistoryReading r ds
@@ -61,7 +49,8 @@ pub found : (seen : Seen) (number : ℕ) (ds : List Datum) (d : Datum) (es : Lis
     → IsHistoryFaultIn (ds ++ d ∷ [])
     (record { kind = k; map = number })
 found seen number ds d es k h first none = (
-  λ n. (let f = first n in
+  λ n.
+      let f = first n in
       record {
         earlier = ds;
         form = d;
@@ -71,14 +60,13 @@ found seen number ds d es k h first none = (
         stands = f.stands;
         faultless = h.faultless;
         least = f.first;
-      }),
-  λ m. (
+      },
+  λ m.
       let long = length-append ds (d ∷ []) in
-      let count : length ds ≡ number = h.count in (
-        omega (arith, long, count),
-        subst HasNoHistoryFault (sym (take_all (number + 1) (ds ++ d ∷ [])
-            (omega (arith, long, count)))) (faultless_push IsHistoryFormFault ds d h.faultless (none m)),
-      )
+      let all : length (ds ++ d ∷ []) ≤ number + 1 = omega (arith, long, h.count) in (
+        omega (arith, long, h.count),
+        rw (take_all (number + 1) (ds ++ d ∷ []) all)
+            (faultless_push IsHistoryFormFault ds d h.faultless (none m)),
       ),
 )
 

@@ -1,7 +1,7 @@
 -- A text in the usual form is read as the map that its parts say (`usual_is`). Each part begins with its tokens, and
 -- pairs are put in front of the last ones one by one (`other_pair`, `object_pair`).
-use Rattle.std.proofs.Common.{◌≡◌, ℕ, ◌⊎◌, true, false, Bool, Some, List, [], ◌∷◌, ◌++◌, codes, refl, sym}
-use Rattle.std.proofs.Common.{◌∙◌, append_assoc, arith}
+use Rattle.std.proofs.Common.{◌≡◌, ℕ, ◌⊎◌, true, false, Some, List, [], ◌∷◌, ◌++◌, codes, refl, sym}
+use Rattle.std.proofs.Common.{append_assoc, arith}
 use Rattle.std.specs.Prelude.{ℤ, pos}
 use Rattle.std.specs.Str.{IsUtf8, bytes_eq}
 use Rattle.std.proofs.lemmas.Slice.Eq.{bytes_eq-Decides}
@@ -10,11 +10,10 @@ use Rattle.edn_reader.specs.Datum.{Atom, nil, boolean, integer, keyword, Datum, 
 use Rattle.edn_reader.specs.Datum.{item, Entries, no_entries, entry, DatumFits, EntriesFit}
 use Rattle.edn_reader.specs.Token.{Token, close_vector, open_map, close_map, leaf, tokens_of, entries_tokens}
 use Rattle.edn_reader.specs.Reading.{first, got}
-use Rattle.edn_reader.specs.Spells.{EndsToken}
+use Rattle.edn_reader.specs.Spells.{EndsToken, IsWord}
 use Rattle.edn_reader.specs.Sound.{BeginWith}
 use Rattle.edn_reader.proofs.Fronts.{both_begin, front_of}
-use Rattle.edn_reader.proofs.UsualFronts.{here, spaced, word_here, first_here, after_one, field, form_field}
-use Rattle.edn_reader.proofs.UsualFronts.{first_field}
+use Rattle.edn_reader.proofs.UsualFronts.{here, spaced, word_here, first_here, after_one, form_field, first_field}
 use Rattle.seq_objects.specs.declared.function.Function.{Function}
 use Rattle.seq_objects.specs.declared.value.Value.{Value}
 use Rattle.seq_objects.specs.declared.value.Value.TheVariants.{Nil, False, True, Int, Pair}
@@ -22,7 +21,7 @@ use Rattle.seq_objects.specs.Functions.{name_of}
 use Rattle.edn.specs.Fields.{same_bytes, value_at}
 use Rattle.edn.proofs.Finding.{same_bytes_is}
 use Rattle.history.specs.Maps as spec
-use Rattle.history.specs.Maps.{type_named, short_in, object_at, client_with}
+use Rattle.history.specs.Maps.{type_named, short_in, object_at, client_with, plain_value}
 use Rattle.history.specs.Views.{map_type, client_map}
 use Rattle.history.specs.UsualForms.{ReadsUsual, type_name, ReadsValue, LackEach, operation_keys, keys_to_object}
 use Rattle.history.specs.UsualForms.{keys_to_index, IsNoneOf, ReadsLast}
@@ -53,30 +52,20 @@ function_here f text rest e q =
 
 -- ---- values
 
--- nil is read where its bytes are
+-- a word without a colon is read as its value where its bytes are
+word_value : (a : Atom) (v : Value) (word text rest : List ℕ) → plain_value (atom a) ≡ Some v
+    → DatumFits 15 (atom a) → IsWord a word → EndsToken rest → text ≡ word ++ rest → ReadsValue text v rest
+word_value a v word text rest plain fits is e q =
+    record { form = atom a; plain = plain; fits = fits; begins = word_here a word text rest is e q }
+
 pub nil_here : (text rest : List ℕ) → EndsToken rest → text ≡ codes "nil" ++ rest → ReadsValue text Nil rest
-nil_here text rest e q =
-    record { form = atom nil; plain = refl; fits = tt; begins = word_here nil (codes "nil") text rest refl e q }
+nil_here text rest e q = word_value nil Nil (codes "nil") text rest refl tt refl e q
 
--- false is read where its bytes are
 pub false_here : (text rest : List ℕ) → EndsToken rest → text ≡ codes "false" ++ rest → ReadsValue text False rest
-false_here text rest e q =
-    record {
-      form = atom (boolean false);
-      plain = refl;
-      fits = tt;
-      begins = word_here (boolean false) (codes "false") text rest refl e q;
-    }
+false_here text rest e q = word_value (boolean false) False (codes "false") text rest refl tt refl e q
 
--- true is read where its bytes are
 pub true_here : (text rest : List ℕ) → EndsToken rest → text ≡ codes "true" ++ rest → ReadsValue text True rest
-true_here text rest e q =
-    record {
-      form = atom (boolean true);
-      plain = refl;
-      fits = tt;
-      begins = word_here (boolean true) (codes "true") text rest refl e q;
-    }
+true_here text rest e q = word_value (boolean true) True (codes "true") text rest refl tt refl e q
 
 -- an integer is read as a value
 pub integer_here : (z : ℤ) (text rest : List ℕ) → BeginWith (leaf (atom (integer z)) ∷ []) text rest
@@ -89,14 +78,12 @@ pub pair_here : (y z : ℤ) (inside after_y from_z after_z rest : List ℕ)
     → BeginWith (leaf (atom (integer z)) ∷ []) from_z after_z → after_z ≡ codes "]" ++ rest
     → ReadsValue (91 ∷ inside) (Pair y z) rest
 pair_here y z inside after_y from_z after_z rest b q c r =
-    let close : BeginWith (close_vector ∷ []) after_z rest = here after_z rest close_vector r in
-    let second : BeginWith (leaf (atom (integer z)) ∷ close_vector ∷ []) from_z rest =
-    both_begin (leaf (atom (integer z)) ∷ []) (close_vector ∷ []) from_z after_z rest c close in
+    let second = both_begin (leaf (atom (integer z)) ∷ []) (close_vector ∷ []) from_z after_z rest c
+    (here after_z rest close_vector r) in
     let behind : BeginWith (leaf (atom (integer z)) ∷ close_vector ∷ []) after_y rest =
     rw q (spaced 32 (leaf (atom (integer z))) (close_vector ∷ []) from_z rest refl second) in
-    let all : BeginWith (leaf (atom (integer y)) ∷ leaf (atom (integer z)) ∷ close_vector ∷ []) inside rest =
-    both_begin (leaf (atom (integer y)) ∷ [])
-    (leaf (atom (integer z)) ∷ close_vector ∷ []) inside after_y rest b behind in
+    let all = both_begin (leaf (atom (integer y)) ∷ []) (leaf (atom (integer z)) ∷ close_vector ∷ []) inside after_y
+    rest b behind in
     record {
       form = vector (item (atom (integer y)) (item (atom (integer z)) no_items));
       plain = refl;
@@ -128,13 +115,15 @@ lack_more : (k : List ℕ) (d : Datum) (ks : List (List ℕ)) (es : Entries) →
 lack_more k d [] es o l = tt
 lack_more k d (j ∷ ks) es o l = ((apart j k o.0, l.0), lack_more k d ks es o.1 l.1)
 
-integer_pair : (k : List ℕ) (z : ℤ) (ts : List Token) (text mid after rest : List ℕ) → is_name k ≡ true
-    → text ≡ 44 ∷ 32 ∷ 58 ∷ (k ++ 32 ∷ mid)
-    → BeginWith (leaf (atom (integer z)) ∷ []) mid after → BeginWith ts after rest
-    → BeginWith (leaf (atom (keyword k)) ∷ leaf (atom (integer z)) ∷ ts) text rest
-integer_pair k z ts text mid after rest n q b c =
-    field k (leaf (atom (integer z))) ts text mid rest n q
-    (both_begin (leaf (atom (integer z)) ∷ []) ts mid after rest b c)
+-- a pair of any form before others
+form_pair : (k : List ℕ) (d : Datum) (es : Entries) (text mid after rest : List ℕ) → is_name k ≡ true
+    → text ≡ 44 ∷ 32 ∷ 58 ∷ (k ++ 32 ∷ mid) → BeginWith (tokens_of d) mid after
+    → BeginWith (entries_tokens es ++ close_map ∷ []) after rest
+    → BeginWith (entries_tokens (entry k d es) ++ close_map ∷ []) text rest
+form_pair k d es text mid after rest n q b c =
+    let ts : List Token = entries_tokens es ++ close_map ∷ [] in
+    rw (append_assoc (tokens_of d) (entries_tokens es) (close_map ∷ []))
+    (form_field d k ts text mid rest n q (both_begin (tokens_of d) ts mid after rest b c))
 
 -- one more pair, which is not of the object
 pub other_pair : (k : List ℕ) (ks : List (List ℕ)) (z : ℤ) (text mid after rest : List ℕ) → is_name k ≡ true
@@ -147,7 +136,7 @@ other_pair k ks z text mid after rest n s o q b r =
       lack = lack_more k (atom (integer z)) ks r.pairs o r.lack.1;
       object_is = rw s r.object_is;
       fits = (r.lack.0, tt, r.fits);
-      begins = integer_pair k z (entries_tokens r.pairs ++ close_map ∷ []) text mid after rest n q b r.begins;
+      begins = form_pair k (atom (integer z)) r.pairs text mid after rest n q b r.begins;
     }
 
 -- the pair of the object
@@ -162,16 +151,11 @@ object_pair n x text mid after rest e q b r =
           (refl, (refl, (refl, (refl, tt)))) r.lack.1;
       object_is = sym e;
       fits = (r.lack.0, tt, r.fits);
-      begins = integer_pair (codes "object") (pos n)
-          (entries_tokens r.pairs ++ close_map ∷ []) text mid after rest refl q b r.begins;
+      begins = form_pair (codes "object") (atom (integer (pos n))) r.pairs text mid after rest refl q b r.begins;
     }
 
 differs : (k : List ℕ) → (codes "object" ≡ k → ⊥) → same_bytes (codes "object") k ≡ false
-differs k h = by_same (same_bytes (codes "object") k) refl
-  where
-    by_same : (b : Bool) → same_bytes (codes "object") k ≡ b → same_bytes (codes "object") k ≡ false
-    by_same false e = e
-    by_same true e = absurd (h ((bytes_eq-Decides (codes "object") k).0 (same_bytes_is (codes "object") k ∙ e)))
+differs k h = grind (arith, same_bytes_is (codes "object") k, bytes_eq-Decides (codes "object") k)
 
 -- one more pair of a key without a meaning, and a value that has no elements
 pub note_pair : (k : List ℕ) (a : Atom) (text at_key after_key at_value after_value rest : List ℕ)
@@ -182,13 +166,11 @@ pub note_pair : (k : List ℕ) (a : Atom) (text at_key after_key at_value after_
     → ReadsLast keys_to_index text 0 rest
 note_pair k a text at_key after_key at_value after_value rest o q e s b z =
     let key : Token = leaf (atom (keyword k)) in
-    let value : BeginWith (leaf (atom a) ∷ close_map ∷ []) at_value rest =
-    both_begin (leaf (atom a) ∷ []) (close_map ∷ []) at_value after_value rest b
+    let value = both_begin (leaf (atom a) ∷ []) (close_map ∷ []) at_value after_value rest b
     (here after_value rest close_map z) in
     let behind : BeginWith (leaf (atom a) ∷ close_map ∷ []) after_key rest =
     rw s (spaced 32 (leaf (atom a)) (close_map ∷ []) at_value rest refl value) in
-    let own : BeginWith (key ∷ leaf (atom a) ∷ close_map ∷ []) (58 ∷ at_key) rest =
-    both_begin (key ∷ []) (leaf (atom a) ∷ close_map ∷ []) (58 ∷ at_key) after_key rest
+    let own = both_begin (key ∷ []) (leaf (atom a) ∷ close_map ∷ []) (58 ∷ at_key) after_key rest
     (first_here (58 ∷ at_key) after_key key e) behind in
     let more : List Token = leaf (atom a) ∷ close_map ∷ [] in
     let all : BeginWith (key ∷ more) (44 ∷ 32 ∷ 58 ∷ at_key) rest =
@@ -235,6 +217,16 @@ client_is : (n : ℕ) (t : MapType) (f : Function) (x : ℕ) (v : Value) (d : Da
 client_is n t f x v d es e =
     rw (type_is t, e, own_name f) refl
 
+-- a map whose pairs are read is read as their form
+whole_is : (es : Entries) (c : ClientMap) (w : Datum) (text own rest : List ℕ) → IsUtf8 text
+    → (text ≡ own) ⊎ (text ≡ 10 ∷ own) → BeginWith (open_map ∷ (entries_tokens es ++ close_map ∷ [])) own rest
+    → DatumFits 16 (dictionary es) → spec.client_of (dictionary es) ≡ Some (client_map c w)
+    → plain_value w ≡ c.value → ReadsUsual text c rest
+whole_is es c w text own rest u feed begins fits client value =
+    let all = after_one 10 open_map (entries_tokens es ++ close_map ∷ []) text own rest refl feed begins in
+    let front = front_of text rest (dictionary es) u fits all in
+    record { form = dictionary es; front = front.0; utf8 = front.1; says = (w, client, value) }
+
 -- a map in the usual order of its keys is read as its form
 pub usual_is : (n : ℕ) (t : MapType) (f : Function) (x : ℕ) (v : Value)
     (text own from_n after_n from_t after_t from_f after_f from_v after_v rest : List ℕ) → IsUtf8 text
@@ -247,48 +239,21 @@ pub usual_is : (n : ℕ) (t : MapType) (f : Function) (x : ℕ) (v : Value)
 unfolding is_name
 usual_is n t f x v text own from_n after_n from_t after_t from_f after_f from_v after_v rest u feed qn bn qt bt qf bf
     qv value last =
-    let last_tokens : List Token = entries_tokens last.pairs ++ close_map ∷ [] in
-    let ts_v : List Token = tokens_of value.form ++ last_tokens in
-    let v1 : BeginWith ts_v from_v rest =
-    both_begin (tokens_of value.form) last_tokens from_v after_v rest value.begins last.begins in
-    let v2 : BeginWith (leaf (atom (keyword (codes "value"))) ∷ ts_v) after_f rest =
-    form_field value.form (codes "value") last_tokens after_f from_v rest refl qv v1 in
-    let ts_f : List Token = leaf (atom (keyword (codes "value"))) ∷ ts_v in
-    let f1 : BeginWith (leaf (atom (keyword (name_of f))) ∷ ts_f) from_f rest =
-    both_begin (leaf (atom (keyword (name_of f))) ∷ []) ts_f from_f after_f rest bf v2 in
-    let f2 = field (codes "f") (leaf (atom (keyword (name_of f)))) ts_f after_t from_f rest refl qf f1 in
-    let ts_t : List Token = leaf (atom (keyword (codes "f"))) ∷ leaf (atom (keyword (name_of f))) ∷ ts_f in
-    let t1 : BeginWith (leaf (atom (keyword (type_name t))) ∷ ts_t) from_t rest =
-    both_begin (leaf (atom (keyword (type_name t))) ∷ []) ts_t from_t after_t rest bt f2 in
-    let t2 = field (codes "type") (leaf (atom (keyword (type_name t)))) ts_t after_n from_t rest refl qt t1 in
-    let ts_n : List Token = leaf (atom (keyword (codes "type"))) ∷ leaf (atom (keyword (type_name t))) ∷ ts_t in
-    let n1 : BeginWith (leaf (atom (integer (pos n))) ∷ ts_n) from_n rest =
-    both_begin (leaf (atom (integer (pos n))) ∷ []) ts_n from_n after_n rest bn t2 in
-    let n2 = first_field (codes "process") (leaf (atom (integer (pos n)))) ts_n own from_n rest refl qn n1 in
-    let all = after_one 10 open_map
-    (leaf (atom (keyword (codes "process"))) ∷ leaf (atom (integer (pos n))) ∷ ts_n) text own rest refl feed n2 in
-    let begins : BeginWith (tokens_of (form_with n t f value.form last.pairs)) text rest =
-    rw (append_assoc (tokens_of value.form) (entries_tokens last.pairs) (close_map ∷ [])) all in
-    let front = front_of text rest (form_with n t f value.form last.pairs) u
-    (fits_with n t f value.form last.pairs value.fits last.lack last.fits) begins in
-    record {
-      form = form_with n t f value.form last.pairs;
-      front = front.0;
-      utf8 = front.1;
-      says = (value.form, client_is n t f x v value.form last.pairs last.object_is, value.plain);
-    }
+    let d : Datum = value.form in
+    let es_v : Entries = entry (codes "value") d last.pairs in
+    let v1 = form_pair (codes "value") d last.pairs after_f from_v after_v rest refl qv value.begins last.begins in
+    let es_f : Entries = entry (codes "f") (atom (keyword (name_of f))) es_v in
+    let f1 = form_pair (codes "f") (atom (keyword (name_of f))) es_v after_t from_f after_f rest refl qf bf v1 in
+    let es_t : Entries = entry (codes "type") (atom (keyword (type_name t))) es_f in
+    let t1 = form_pair (codes "type") (atom (keyword (type_name t))) es_f after_n from_t after_t rest refl qt bt f1 in
+    let ts : List Token = entries_tokens es_t ++ close_map ∷ [] in
+    let n1 = first_field (codes "process") (leaf (atom (integer (pos n)))) ts own from_n rest refl qn
+    (both_begin (leaf (atom (integer (pos n))) ∷ []) ts from_n after_n rest bn t1) in
+    whole_is (entry (codes "process") (atom (integer (pos n))) es_t) (map_with n t f x v) d text own rest u feed n1
+    (fits_with n t f d last.pairs value.fits last.lack last.fits) (client_is n t f x v d last.pairs last.object_is)
+    value.plain
 
 -- ---- the same with the index and the time first
-
--- a pair of any form before others
-form_pair : (k : List ℕ) (d : Datum) (es : Entries) (text mid after rest : List ℕ) → is_name k ≡ true
-    → text ≡ 44 ∷ 32 ∷ 58 ∷ (k ++ 32 ∷ mid) → BeginWith (tokens_of d) mid after
-    → BeginWith (entries_tokens es ++ close_map ∷ []) after rest
-    → BeginWith (entries_tokens (entry k d es) ++ close_map ∷ []) text rest
-form_pair k d es text mid after rest n q b c =
-    let ts : List Token = entries_tokens es ++ close_map ∷ [] in
-    rw (append_assoc (tokens_of d) (entries_tokens es) (close_map ∷ []))
-    (form_field d k ts text mid rest n q (both_begin (tokens_of d) ts mid after rest b c))
 
 abbrev indexed_with : ℤ → ℤ → ℕ → MapType → Function → Datum → Entries
 indexed_with i j n t f d =
@@ -336,13 +301,5 @@ index_first_is i j n t f v text own from_i after_i from_j after_j from_t after_t
     let ts : List Token = entries_tokens es_j ++ close_map ∷ [] in
     let i1 = first_field (codes "index") (leaf (atom (integer i))) ts own from_i rest refl qi
     (both_begin (leaf (atom (integer i)) ∷ []) ts from_i after_i rest bi j1) in
-    let all = after_one 10 open_map
-    (leaf (atom (keyword (codes "index"))) ∷ leaf (atom (integer i)) ∷ ts) text own rest refl feed i1 in
-    let front = front_of text rest (dictionary (indexed_with i j n t f d)) u
-    (indexed_fits i j n t f d value.fits) all in
-    record {
-      form = dictionary (indexed_with i j n t f d);
-      front = front.0;
-      utf8 = front.1;
-      says = (d, indexed_client i j n t f v d, value.plain);
-    }
+    whole_is (indexed_with i j n t f d) (map_with n t f 0 v) d text own rest u feed i1
+    (indexed_fits i j n t f d value.fits) (indexed_client i j n t f v d) value.plain

@@ -30,6 +30,7 @@ use Rattle.shards.proofs.Proper.{proper_of_kinds, proper_from}
 
 -- ---- the objects of events
 
+-- what is found in a list is in it
 found_in : (p : Event → Bool) (d : Event) (es : List Event) → find p es ≡ Some d → In d es
 found_in p d [] q = absurd cc
 found_in p d (e ∷ es) q = grind (arith, found_in p d es)
@@ -147,6 +148,7 @@ pub ordered_same : (es fs : List Event) (x y : ℕ) → kind_of_object es x ≡ 
     → calls_on x (denoted es) ≡ calls_on y (denoted fs) → OrderedAt es x → OrderedAt fs y
 ordered_same es fs x y kind calls o = rw (← kind, ← calls) o
 
+-- an object without an event has no operation
 none_on : (x : ℕ) (es : List Event) → filter (λ e. e.object == x) es ≡ [] → operations_on x es ≡ []
 none_on x [] none = refl
 none_on x (e ∷ es) none = grind (arith, none_on x es)
@@ -172,12 +174,13 @@ module _ (es : List Event) (proper : IsProper es) where
           let j : In e (filter on es) = rw q (inl refl) in
           (e, in_filter on e es j, eqb-true e.object c.object (in_filter_passes on e es j))
 
-  -- a history is linearizable exactly if each object with an event has a valid order
+  -- a history is linearizable if each object with an event has a valid order
   pub linearizable_by : ((e : Event) → In e es → OrderedAt es e.object) → DenoteLinearizable es
   linearizable_by each = named_kinds (kind_of_object es) (denoted es) (denoted_is_history es proper)
       (all_from_in (λ (c : ProcessCall). HasValidOrder (kind_of_object es) (denoted es) c.object)
       (calls_in (denoted es)) (λ c i. let e = called_in c i in rw e.2 at (each e.0 e.1)))
 
+  -- the order of each object of a linearizable history
   pub orders_of : DenoteLinearizable es → (x : ℕ) → OrderedAt es x
   orders_of l = orders_of_kinds (kind_of_object es) (denoted es) (denoted_is_history es proper) l
 

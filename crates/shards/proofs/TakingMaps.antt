@@ -288,7 +288,7 @@ module _ (ms : List MapText) (ds : List Datum) (i : ℕ) (z : MapText) (h : AreM
   one_form : take (i + 1) ds ≡ take i ds ++ form ∷ []
   one_form = let long = length_all ms ds h in take_more ds i (atom nil) (omega arith)
 
-  -- it was taken too
+  -- one map more of a piece was taken, this one
   pub map_taken : (count : ℕ) (mid new : Divider) (maps : List SpelledMap) (written : Files) (text : List ℕ)
       → text ≡ skip (get_or ms i z).text.now
       → ((more : List SpelledMap) (d : Datum) → Says (get_or ms i z).said d → Spells (d ∷ []) text
@@ -303,7 +303,7 @@ module _ (ms : List MapText) (ds : List Datum) (i : ℕ) (z : MapText) (h : AreM
         taken = rw (← append_assoc maps t.more (one.0 ∷ [])) one.2;
       }
 
-  -- what is found at it is found among all maps of the piece
+  -- what is found at this map is found among all maps of the piece
   found_in_all : (maps more : List SpelledMap) (Found : List Datum → Type 0)
       → ((xs es : List Datum) → Found xs → Found (xs ++ es)) → forms_of more ≡ take i ds
       → Found (forms_of (maps ++ more) ++ form ∷ []) → Found (forms_of maps ++ ds)

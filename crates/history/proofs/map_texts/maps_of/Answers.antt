@@ -1,14 +1,11 @@
 -- `maps_of`: the maps are those that the piece spells, each with its own bytes, or the fault is the first one. The maps
 -- so far are of the forms up to the place that was reached, and `form_alone` gives the bytes of the next.
-use Rattle.std.proofs.Common.{Option, List, [], ◌∷◌, ◌++◌, length, sym, ap, subst, ◌∙◌, inr, inl, arith}
+use Rattle.std.proofs.Common.{List, [], ◌∷◌, ◌++◌, length, sym, ap, subst, ◌∙◌, inr, inl, arith}
 use Rattle.std.specs.Str.{IsUtf8}
-use Rattle.edn_reader.specs.Elements.{SpellsNothing}
 use Rattle.edn_reader.proofs.FormsInARow.{along_more, along_spells, front_more, sound_after, unreadable_after}
-use Rattle.history.specs.declared.client_map.OperationMap.{OperationMap}
 use Rattle.history.specs.declared.map_texts.MapText.{MapText}
-use Rattle.history.specs.MapReading.{left_in, start_of_map, ReadsNext}
+use Rattle.history.specs.MapReading.{left_in, start_of_map}
 use Rattle.history.specs.MapTexts.{AreMapTexts}
-use Rattle.history.specs.UsualForms.{ReadsForm}
 use Rattle.history.proofs.OwnTexts.{form_alone, texts_push}
 use Rattle.history.proofs.Pushing.{pushed_unless}
 use Rattle.history.proofs.map_texts.maps_of.Goals as goal
@@ -17,8 +14,7 @@ pub forms-preserved : goal.forms-preserved
 forms-preserved c =
     let text = left_in c.forms.maps in
     let rest = left_in c.advance.new.self in
-    let read : ReadsForm text c.in-Ok-Some.said rest =
-    subst (λ (o : Option OperationMap). ReadsNext text o rest) c.in-Ok-Some.field-0-is c.in-Ok-Some.ensures.reads in
+    let read = rw c.in-Ok-Some.field-0-is at c.in-Ok-Some.ensures.reads in
     let whole : IsUtf8 text = subst IsUtf8 c.rest.ensures c.rest.utf8 in
     let spelled = form_alone read.form text rest c.as_bytes-before.result.now c.rest-left.result.now
     (c.as_bytes-before.ensures.value ∙ c.rest.ensures) c.rest-left.ensures whole read.utf8 read.front in
@@ -39,9 +35,7 @@ forms-preserved c =
 pub returns-in-Ok-None-clause-maps : goal.returns-in-Ok-None-clause-maps
 returns-in-Ok-None-clause-maps c =
     let a = c.forms.invariant.along in
-    let n : SpellsNothing (left_in c.forms.maps) =
-    subst (λ (o : Option OperationMap). ReadsNext (left_in c.forms.maps) o
-    (left_in c.advance.new.self)) c.in-Ok-None.field-0-is c.in-Ok-None.ensures.reads in (
+    let n = rw c.in-Ok-None.field-0-is at c.in-Ok-None.ensures.reads in (
       a.forms,
       along_spells (AreMapTexts c.forms.texts.items) c.args.piece.now (left_in c.forms.maps)
           (start_of_map c.forms.maps) a n,
@@ -53,8 +47,7 @@ returns-then-is_err-clause-memory c = λ _.
     let a = c.forms.invariant.along in
     let text = left_in c.forms.maps in
     let rest = left_in c.advance.new.self in
-    let read : ReadsForm text c.in-Ok-Some.said rest =
-    subst (λ (o : Option OperationMap). ReadsNext text o rest) c.in-Ok-Some.field-0-is c.in-Ok-Some.ensures.reads in (
+    let read = rw c.in-Ok-Some.field-0-is at c.in-Ok-Some.ensures.reads in (
       c.forms.invariant.short,
       inr (record {
         forms = a.forms ++ read.form ∷ [];

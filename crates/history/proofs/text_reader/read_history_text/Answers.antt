@@ -1,19 +1,13 @@
 -- `read_history_text`: the text spells maps that denote the history, or has the fault. The loop keeps that the text
 -- is the forms read so far and then what is left (`Along`), and what is left gets shorter.
-use Rattle.std.proofs.Common.{Option, subst}
-use Rattle.edn_reader.specs.Elements.{SpellsNothing}
 use Rattle.edn_reader.proofs.FormsInARow.{along_more, along_spells, sound_after, unreadable_after}
-use Rattle.history.specs.declared.client_map.OperationMap.{OperationMap}
-use Rattle.history.specs.MapReading.{left_in, start_of_map, ReadsNext}
+use Rattle.history.specs.MapReading.{left_in, start_of_map}
 use Rattle.history.specs.Texts.{IsHistoryReading}
-use Rattle.history.specs.UsualForms.{ReadsForm}
 use Rattle.history.proofs.text_reader.read_history_text.Goals as goal
 
 pub forms-preserved : goal.forms-preserved
 forms-preserved c =
-    let read : ReadsForm (left_in c.forms.maps) c.in-Ok-Some.said (left_in c.advance.new.self) =
-    subst (λ (o : Option OperationMap). ReadsNext (left_in c.forms.maps) o
-    (left_in c.advance.new.self)) c.in-Ok-Some.field-0-is c.in-Ok-Some.ensures.reads in
+    let read = rw c.in-Ok-Some.field-0-is at c.in-Ok-Some.ensures.reads in
     record {
       along = along_more (IsHistoryReading c.forms.reading) (IsHistoryReading c.take.new.self) c.args.text.now
           (left_in c.forms.maps) (left_in c.advance.new.self)
@@ -27,9 +21,7 @@ forms-preserved c =
 pub returns-in-Ok-finish-clause-denotes : goal.returns-in-Ok-finish-clause-denotes
 returns-in-Ok-finish-clause-denotes c =
     let a = c.forms.invariant.along in
-    let n : SpellsNothing (left_in c.forms.maps) =
-    subst (λ (o : Option OperationMap). ReadsNext (left_in c.forms.maps) o
-    (left_in c.advance.new.self)) c.in-Ok-None.field-0-is c.in-Ok-None.ensures.reads in (
+    let n = rw c.in-Ok-None.field-0-is at c.in-Ok-None.ensures.reads in (
       a.forms,
       along_spells (IsHistoryReading c.forms.reading) c.args.text.now (left_in c.forms.maps)
           (start_of_map c.forms.maps) a n,
@@ -39,9 +31,7 @@ returns-in-Ok-finish-clause-denotes c =
 pub returns-in-Err-finish-clause-fault : goal.returns-in-Err-finish-clause-fault
 returns-in-Err-finish-clause-fault c =
     let a = c.forms.invariant.along in
-    let n : SpellsNothing (left_in c.forms.maps) =
-    subst (λ (o : Option OperationMap). ReadsNext (left_in c.forms.maps) o
-    (left_in c.advance.new.self)) c.in-Ok-None.field-0-is c.in-Ok-None.ensures.reads in (
+    let n = rw c.in-Ok-None.field-0-is at c.in-Ok-None.ensures.reads in (
       c.forms.invariant.short,
       a.forms,
       along_spells (IsHistoryReading c.forms.reading) c.args.text.now (left_in c.forms.maps) (start_of_map c.forms.maps)

@@ -1,13 +1,10 @@
 -- `read_lines`: the piece has then the forms that the lines spell after its own. The piece is always of its forms
 -- and of the forms of the lines up to the place that was reached.
-use Rattle.std.proofs.Common.{Option, [], ◌∷◌, ◌++◌, sym, subst, append_assoc}
+use Rattle.std.proofs.Common.{[], ◌∷◌, ◌++◌, sym, subst, append_assoc}
 use Rattle.std.proofs.lemmas.List.{append-nil}
-use Rattle.edn_reader.specs.Elements.{SpellsNothing}
 use Rattle.edn_reader.proofs.FormsInARow.{along_more, along_moved, along_spells}
-use Rattle.history.specs.declared.client_map.OperationMap.{OperationMap}
-use Rattle.history.specs.MapReading.{left_in, start_of_map, ReadsNext}
+use Rattle.history.specs.MapReading.{left_in, start_of_map}
 use Rattle.history.specs.ReadPieces.{IsOfForms}
-use Rattle.history.specs.UsualForms.{ReadsForm}
 use Rattle.history.proofs.PieceMore.{along_start}
 use Rattle.history.proofs.piece.ReadPiece.read_lines.Goals as goal
 
@@ -21,9 +18,7 @@ forms-init c = λ ds h.
 
 pub forms-preserved : goal.forms-preserved
 forms-preserved c = λ ds h.
-    let read : ReadsForm (left_in c.forms.maps) c.in-Ok-Some.said (left_in c.advance.new.self) =
-    subst (λ (o : Option OperationMap). ReadsNext (left_in c.forms.maps) o (left_in c.advance.new.self))
-    c.in-Ok-Some.field-0-is c.in-Ok-Some.ensures.reads in
+    let read = rw c.in-Ok-Some.field-0-is at c.in-Ok-Some.ensures.reads in
     along_more (λ es. IsOfForms c.forms.self (ds ++ es)) (λ es. IsOfForms c.take.new.self (ds ++ es)) c.args.lines.now
     (left_in c.forms.maps) (left_in c.advance.new.self) (start_of_map c.forms.maps) (start_of_map c.advance.new.self)
     read.form read.front c.in-Ok-Some.ensures.moves
@@ -33,9 +28,7 @@ forms-preserved c = λ ds h.
 pub returns-in-Ok-None : goal.returns-in-Ok-None
 returns-in-Ok-None c = λ ds h.
     let a = c.forms.invariant ds h in
-    let n : SpellsNothing (left_in c.forms.maps) =
-    subst (λ (o : Option OperationMap). ReadsNext (left_in c.forms.maps) o (left_in c.advance.new.self))
-    c.in-Ok-None.field-0-is c.in-Ok-None.ensures.reads in (
+    let n = rw c.in-Ok-None.field-0-is at c.in-Ok-None.ensures.reads in (
       a.forms,
       along_spells (λ es. IsOfForms c.forms.self (ds ++ es)) c.args.lines.now (left_in c.forms.maps)
           (start_of_map c.forms.maps) a n,

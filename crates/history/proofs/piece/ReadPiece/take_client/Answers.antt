@@ -16,7 +16,7 @@ returns c = λ ds d says h.
       maps = old.maps + 1;
       events = c.push.new.self;
     } in
-    part_more old new ds d m says.0 f a h says.1 c.in_ok-function.was
-    (sym (c.in_ok-action.ensures says.0 says.2)) c.in_ok-note_process.ensures c.in_ok-note_object.ensures refl
+    part_more old new ds d m says.0 f a says.1 c.in_ok-function.was (sym (c.in_ok-action.ensures says.0 says.2))
+    c.in_ok-note_process.ensures c.in_ok-note_object.ensures h refl
     (pushed c.push.result c.in_ok-ok.field-0 c.push.new.self.items _ old.events.items c.in_ok-ok.ensures.value
     c.push.ensures.items) c.if-is_great.ensures

@@ -1,7 +1,3 @@
-use Rattle.std.proofs.Common.{Option, List, ◌++◌, ◌∷◌, [], ◌+◌, sym, subst}
-use Rattle.events.specs.declared.event.Event.{Event}
-use Rattle.history.specs.declared.fault.HistoryFault.{HistoryFault}
-use Rattle.history.specs.Texts.{AreEventsRead, AreEventsReadOrFaulty}
 use Rattle.history.proofs.Reading.{one_more}
 use Rattle.history.proofs.TextReading.{are_read, found}
 use Rattle.history.proofs.text_reader.Reading.take_said.Goals as goal
@@ -13,11 +9,7 @@ returns-in-Ok c = λ ds d says h.
     let more = one_more c.args.self.now.seen c.read_next.new.seen c.args.self.now.map ds d
     c.args.self.now.events.items r.0 a c.in-Ok.ensures.few
     (c.in-Ok.ensures.small d says) r.1 in
-    let all = subst (λ (es : List Event). AreEventsRead c.read_next.new.seen (c.args.self.now.map + 1)
-    (ds ++ d ∷ []) es)
-    (sym r.2) more in
-    subst (λ (o : Option HistoryFault). AreEventsReadOrFaulty o c.read_next.new.seen (c.args.self.now.map + 1)
-    (ds ++ d ∷ []) c.read_next.new.events.items) (sym c.requires) all
+    rw (c.requires, r.2) more
 
 pub returns-in-Err : goal.returns-in-Err
 returns-in-Err c = λ ds d says h.
