@@ -11,7 +11,7 @@ mod running;
 mod simulating;
 mod sources;
 mod trusting;
-mod verification;
+mod verifying_files;
 mod write_output;
 
 pub use command_line::{FolderLine, Line, LineFault, RunOptions, SplitLine, line};

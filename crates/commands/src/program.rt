@@ -10,7 +10,7 @@ use crate::checking::{check_bytes, check_sources};
 use crate::running::run;
 use crate::simulating::play;
 use crate::sources::{Unread, end_unread, file_text, has_first, has_second};
-use crate::verification::verify_sources;
+use crate::verifying_files::verify_sources;
 use crate::write_output::write_output;
 use command_line::Line;
 use edn::{Sink, Source};

@@ -1,4 +1,5 @@
 //! The values that a map has for its keys, by their shapes.
+
 ghost use Rattle.std.specs.Prelude.{◌≡◌, ◌<◌, ◌^◌, option_map};
 ghost use Rattle.edn_reader.specs.Truncation.{integer_in};
 ghost use Rattle.edn_reader.specs.Datum.{entries_of};

@@ -1,4 +1,5 @@
 //! Where text comes from.
+
 ghost use Rattle.std.specs.Prelude.{◌≡◌, ◌≤◌, ℕ, List, Bool, true, false, length, take, ⊤, Option};
 ghost use Rattle.std.specs.Prelude.{Result, IfOk, OnOk, OnErr};
 ghost use Rattle.std.specs.Io.KnownBytes.{Keeps};

@@ -1,4 +1,5 @@
 //! The bytes of a text, by what they are for.
+
 ghost use Rattle.std.specs.Prelude.{◌≡◌};
 ghost use Rattle.std.specs.List.{list_all};
 ghost use Rattle.edn_reader.specs.Bytes as spec;

@@ -1,4 +1,5 @@
 //! A text's elements, one by one.
+
 ghost use Rattle.std.specs.Prelude.{◌≡◌, ◌≢◌, ◌+◌, ◌<◌, ◌≤◌, List, length, Some, None, IfOk, IfErr};
 ghost use Rattle.std.specs.Prelude.{IsErrAnd, if◌then◌else◌};
 ghost use Rattle.std.specs.Str.{IsUtf8};

@@ -1,4 +1,5 @@
 //! What can be wrong with a text.
+
 ghost use Rattle.std.specs.Prelude.{◌≡◌, ◌≢◌, ◌↔◌, ◌++◌, ◌-◌, length, Some, codes, decimal};
 
 use std::alloc::{AllocError, AllocFailed};

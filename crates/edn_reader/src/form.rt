@@ -1,4 +1,5 @@
 //! What a text can hold, in memory.
+
 ghost use Rattle.std.specs.Prelude.{◌≡◌, ◌≤◌, true, IfOk};
 ghost use Rattle.edn_reader.specs.Bytes.{is_name};
 ghost use Rattle.edn_reader.specs.declared.form.TheConstants.{SHORT};

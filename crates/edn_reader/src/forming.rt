@@ -1,4 +1,5 @@
 //! Forms from the tokens of an element.
+
 ghost use Rattle.std.specs.Prelude.{◌≡◌, ◌<◌, ◌≤◌, ◌∷◌, ◌++◌, [], List, length, true, false, IfOk};
 ghost use Rattle.std.specs.Prelude.{OnOk, MatchOption};
 ghost use Rattle.edn_reader.specs.Datum.{keyword, atom};

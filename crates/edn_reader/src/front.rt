@@ -38,7 +38,7 @@ pub fn ends_word(rest: &[u8]) -> bool
     matches!(rest, [b',' | b'}' | b' ' | b']' | b'\n', ..])
 }
 
-/// An integer that has no sign, and what follows it.
+/// A number that is written without a sign, as an `i64`, and what follows it.
 #[inline(always)]
 pub fn integer_at(text: &[u8]) -> Option<(i64, &[u8])>
     ensures { IfSome result (λ x.
@@ -56,7 +56,7 @@ pub fn integer_at(text: &[u8]) -> Option<(i64, &[u8])>
     }
 }
 
-/// As `integer_at`, for a number that is not negative.
+/// The same, as a `u64`: without a sign it is not negative.
 #[inline(always)]
 pub fn natural_at(text: &[u8]) -> Option<(u64, &[u8])>
     ensures { IfSome result (λ x.

@@ -1,4 +1,5 @@
 //! What reading and writing promise each other, as functions that do nothing.
+
 ghost use Rattle.edn_reader.specs.Laws.{OneReading, TextSpells, JoinedSpell, LinesSpell};
 
 /// A text spells one list of forms at most. So a form that was written is what is read back.

@@ -1,4 +1,5 @@
 //! What is between tokens, and how far a word goes.
+
 ghost use Rattle.std.specs.Prelude.{◌≡◌, ◌≤◌, length};
 ghost use Rattle.edn_reader.specs.Reading as spec;
 

@@ -1,4 +1,5 @@
 //! Whether a form keeps the limits of a text.
+
 ghost use Rattle.std.specs.Prelude.{◌≡◌, ◌↔◌, IsTrue};
 ghost use Rattle.edn_reader.specs.Datum.{max_open, DatumFits, ItemsFit, EntriesFit};
 ghost use Rattle.edn_reader.specs.Reading.{has_key};

@@ -1,4 +1,5 @@
 //! Tokens from the front of a text, which stay where they are in it.
+
 ghost use Rattle.std.specs.Prelude.{◌≡◌, ◌≢◌, ◌<◌, ◌^◌, length, true, Some, None, IfOk, IfErr};
 ghost use Rattle.std.specs.Prelude.{IfSome};
 ghost use Rattle.edn_reader.specs.Spells.{EndsToken, value_after};

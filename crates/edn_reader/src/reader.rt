@@ -1,4 +1,5 @@
 //! From bytes to forms.
+
 ghost use Rattle.std.specs.Prelude.{◌≡◌, ◌≢◌, ◌<◌, List, length, IfOk, IfErr, IsErrAnd};
 ghost use Rattle.edn_reader.specs.Datum.{Datum, max_length};
 ghost use Rattle.edn_reader.specs.Sound.{IsSoundAt};

@@ -1,4 +1,5 @@
 //! What is between the quotes of a string.
+
 ghost use Rattle.std.specs.Prelude.{◌≡◌, IfOk, string_bytes};
 ghost use Rattle.std.specs.Str.{IsUtf8};
 ghost use Rattle.edn_reader.specs.Spells as spec;

@@ -1,4 +1,5 @@
 //! The tokens of an element that are kept.
+
 ghost use Rattle.std.specs.Prelude.{◌≡◌, ◌<◌, OnOk};
 ghost use Rattle.edn_reader.specs.Truncation as spec;
 ghost use Rattle.edn_reader.specs.Pieces.{piece_token};

@@ -1,4 +1,5 @@
 //! What a single word stands for.
+
 ghost use Rattle.std.specs.Prelude.{◌≡◌, ◌≢◌, ◌<◌, ◌≤◌, ◌+◌, ◌-◌, ◌*◌, ◌^◌, IfSome, IfNone};
 ghost use Rattle.edn_reader.specs.Spells as spec;
 ghost use Rattle.edn_reader.specs.Reading.{integer_of, positive_of, negative_of};

@@ -13,8 +13,8 @@ use history_commands::{Status, refute};
 use std::alloc::Global;
 
 /// Checks reasons why the history is not linearizable, and writes the lines of the answers. The
-/// search of a part has a limit of `steps` steps. 4,294,967,295 stands for the program's own
-/// number: 1,000,000.
+/// search of a part has a limit of `steps` steps. 4,294,967,295 means the default of the program,
+/// 1,000,000.
 ///
 /// 1: some reason shows that the history is not linearizable. 2: a text is malformed. 3: no reason
 /// shows it, or an allocation failed.

@@ -1,4 +1,5 @@
 //! Bags compared with no memory.
+
 ghost use Rattle.std.specs.Prelude.{◌≡◌, ◌↔◌, IsTrue};
 ghost use Rattle.std.specs.List.{list_all};
 ghost use Rattle.pairing_heap.specs.Bag.{bag_of};

@@ -1,4 +1,5 @@
 //! The nodes of a heap, which are in one vector and name one another by their places in it.
+
 ghost use Rattle.std.specs.Prelude.{◌≡◌, ℕ, Option, Some, IfSome, IfOk, OnErr, slice_get};
 ghost use Rattle.model.specs.Objects.{with_value};
 ghost use Rattle.pairing_heap.specs.Bag.{bag_of};

@@ -1,4 +1,4 @@
-//! What a reason that does not show anything hands out.
+//! The answers for reasons that do not hold.
 
 use cuts::{Count, Counted, Cut};
 use history::read_history_text;

@@ -126,8 +126,8 @@ pub fn refute(
     // The part that is returned is the one that the reason names.
     ensures part { IfOk result (λ r. IfPart r (IsNamedPart reason.now.cuts.items
         history.now.object history.now.kind (calls_of history.now.ops))) }
-    // The answer is impossible only if the basis shows it of that part: a count is exceeded. No
-    // order of the part is valid.
+    // The answer is impossible only if the basis shows it of that part, by a count that is exceeded
+    // or by a search that excluded all orders, and no order of the part is valid.
     ensures shown { IfOk result (λ r. IfShownImpossible r (λ part.
         IsShownBy reason.now.basis part × PartHasNoValidOrder part)) }
     ensures not_shown { IfOk result (λ r. IfNotShown r (IsWhyNotShown reason.now.basis)) }

@@ -69,7 +69,7 @@ on_object has d m q = rw q
 pub on_none : (has : ℕ → Bool) (d : Datum) → client_of d ≡ None → is_on has d ≡ false
 on_none has d q = rw q
 
--- ---- what is said of it
+-- ---- what a reader says of a map
 
 -- a client's map is said to be one
 pub says_client : (said : OperationMap) (d : Datum) (m : ClientMap) → Says said d → client_of d ≡ Some m

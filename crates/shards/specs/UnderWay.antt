@@ -79,7 +79,7 @@ IsFaultIn count text left Read = ⊤
 IsFaultIn count text left Write = ⊤
 IsFaultIn count text left NoMemory = ⊤
 
--- the source or the folder failed, or an allocation did: nothing is said of the text
+-- the source or the folder failed, or an allocation did: no clause says anything about the text
 abbrev pub IsOfHost : SplitFault → Type 0
 IsOfHost (Malformed fault) = ⊥
 IsOfHost (FewShards x) = ⊥

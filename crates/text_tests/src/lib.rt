@@ -1,5 +1,5 @@
-//! Tests of the public calls of `edn`. They are in a crate of their own, so that
-//! each of these libraries is proved once, and not again for its tests.
+//! Tests of the public calls of `edn`. They are in a crate of their own, so that `edn` is not
+//! proved again for its tests.
 #![tactic(auto)]
 
 #[cfg(test)]

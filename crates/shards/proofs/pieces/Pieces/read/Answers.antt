@@ -35,7 +35,7 @@ loop-self-preserved g c =
     record {
       more = some_more c.extend_from_slice.new.self.items (drop (length c.get.new.buf) l.buffer.items)
           c.deref.result.now l.buffer.len l.invariant.more (c.get.auto.buf ∙ c.deref_mut.ensures.len)
-              c.deref.ensures.value
+          c.deref.ensures.value
           c.in-Ok.ensures.gives c.in_ok-extend_from_slice.ensures.items;
       start = l.invariant.start;
       wanted = l.invariant.wanted;

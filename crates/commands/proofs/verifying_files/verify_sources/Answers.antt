@@ -6,7 +6,7 @@ use Rattle.judging.specs.Reads.{read_limit}
 use Rattle.judging.specs.Texts.{IsHistoryRead}
 use Rattle.history_commands.specs.Verified.{IsVerification}
 use Rattle.commands.proofs.Leaving.{leaves_as, made_as}
-use Rattle.commands.proofs.verification.verify_sources.Goals as goal
+use Rattle.commands.proofs.verifying_files.verify_sources.Goals as goal
 
 pub returns-clause-leaves : goal.returns-clause-leaves
 returns-clause-leaves g c =

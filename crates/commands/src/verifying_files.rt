@@ -1,4 +1,4 @@
-//! The verification of a history by evidence, as both come from sources.
+//! `verify` on two sources: the history is made before the evidence is read.
 
 ghost use Rattle.std.specs.Prelude.{◌≡◌, false, true, IfOk, IfErr};
 ghost use Rattle.commands.specs.Leaves.{Leaves};
