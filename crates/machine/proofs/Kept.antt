@@ -19,33 +19,20 @@ use Rattle.desk_model.specs.Transitions.{release, end}
 use Rattle.desk_model.proofs.Changed.{changed_here, changed_else, changed_all}
 use Rattle.machine.specs.declared.step.Stage.TheVariants.{Idle, Drawn, Answered}
 use Rattle.machine.specs.Machines.{State, AnyStage, HasRun, IsMachine, clients_of, world_of, stage_of, done_in}
-use Rattle.machine.specs.Runs.{Leads, IsWorldOfRun, IsImpossible}
+use Rattle.machine.specs.Runs.{Leads, IsWorldOfRun}
 use Rattle.machine.specs.Steps.{IsGoing, IsStepTaken}
 use Rattle.desk_model.proofs.Entries.{replays_more}
 use Rattle.machine.proofs.Lists.{get_or-set, slice_get-set_same, slice_get-set_other, map-set_same_at}
 use Rattle.machine.proofs.States.{world-staged, world-ticked, world-held, world-handed, world-served, world-ended}
 use Rattle.machine.proofs.Journals.{done_in-journal_of, journal_called, journal_returned}
 
--- ---- runs that are one transition longer, and states under other names
+-- ---- runs that are one transition longer
 
 leads_more : (kinds : List Kind) (quota : ℕ) (w : World) (ms : List (ℕ × Step)) (m : ℕ × Step) (between after : World)
     → Leads kinds quota w ms between → Transition kinds quota m.1 between m.0 after
     → Leads kinds quota w (ms ++ m ∷ []) after
 leads_more kinds quota w [] m between after l h = (after, subst (λ z. Transition kinds quota m.1 z m.0 after) l h, refl)
 leads_more kinds quota w (n ∷ ns) m between after l h = (l.0, l.1, leads_more kinds quota l.0 ns m between after l.2 h)
-
--- what holds of one state holds of the same state under another name
-pub taken_of : (s t s' : State) (c : ℕ) (w : Step) → s ≡ t → IsStepTaken s c w s' → IsStepTaken t c w s'
-taken_of s t s' c w e h = subst (λ (z : State). IsStepTaken z c w s') e h
-
--- a step that is not possible in a state is not possible in an equal one
-pub not_of : (s t : State) (c : ℕ) (w : Step) → s ≡ t → IsImpossible s.kinds s.quota (world_of s) (c, w)
-    → IsImpossible t.kinds t.quota (world_of t) (c, w)
-not_of s t c w e h = subst (λ (z : State). IsImpossible z.kinds z.quota (world_of z) (c, w)) e h
-
--- a client that has not ended in a state has not in an equal one
-pub going_of : (s t : State) (c : ℕ) → s ≡ t → IsGoing t c → IsGoing s c
-going_of s t c e h = subst (λ (z : State). IsGoing z c) (sym e) h
 
 -- one more transition of a run
 pub run_more : (kinds : List Kind) (n quota : ℕ) (step : Step) (w after : World) (c : ℕ)
@@ -88,7 +75,11 @@ pub record Keeps (contents : List Content) (s : State) : Type 0 where
   pub journals_are : (c : ℕ) → get_or s.journals c [] ≡ journal_in (world_of s) c
   pub single : (c x y : ℕ) → get_or s.holders x None ≡ Some c → get_or s.holders y None ≡ Some c → x ≡ y
 
-module _ (contents : List Content) (s : State) (m : IsMachine contents s) (c : ℕ) (go : IsGoing s c) where
+-- the step w of c leads from s to s', which is a machine
+abbrev pub Leaves : List Content → State → ℕ → Step → State → Type 0
+Leaves contents s c w s' = IsMachine contents s' × IsStepTaken s c w s'
+
+module _ {contents : List Content} {s : State} (m : IsMachine contents s) (c : ℕ) (go : IsGoing s c) where
   -- what a client that is going takes is a transition
   moves_on : (w : Step) (after : World) → Takes s.kinds s.quota w (world_of s) c after
       → Transition s.kinds s.quota w (world_of s) c after
@@ -96,7 +87,7 @@ module _ (contents : List Content) (s : State) (m : IsMachine contents s) (c : �
 
   pub kept : (contents' : List Content) (s' : State) (w : Step) → IsLike s s'
       → Takes s.kinds s.quota w (world_of s) c (world_of s') → Keeps contents' s'
-      → IsMachine contents' s' × IsStepTaken s c w s'
+      → Leaves contents' s c w s'
   kept contents' s' w like takes keeps =
       let moved : Transition s.kinds s.quota w (world_of s) c (world_of s') = moves_on w (world_of s') takes in
       let ek = like.kinds in let eq = like.quota in let el = like.logs in let eh = like.holders in
@@ -138,8 +129,7 @@ module _ (contents : List Content) (s : State) (m : IsMachine contents s) (c : �
   pub staged_now : (t : AnyStage) (w : Step)
       → Takes s.kinds s.quota w (world_of s) c (staged (world_of s) c (stage_of t))
       → request_of (stage_of t) ≡ request_of ((world_of s).stage c)
-      → IsMachine contents (record s { stages = set s.stages c t })
-      × IsStepTaken s c w (record s { stages = set s.stages c t })
+      → Leaves contents s c w (record s { stages = set s.stages c t })
   staged_now t w takes same =
       let s' : State = record s { stages = set s.stages c t } in
       let is : world_of s' ≡ staged (world_of s) c (stage_of t) = world-staged s c t go.0 in
@@ -160,8 +150,7 @@ module _ (contents : List Content) (s : State) (m : IsMachine contents s) (c : �
       → Takes s.kinds s.quota w (world_of s) c (held_by (world_of s) x h)
       → ((d y z : ℕ) → changed (λ k. get_or s.holders k None) x h y ≡ Some d
       → changed (λ k. get_or s.holders k None) x h z ≡ Some d → y ≡ z)
-      → IsMachine contents (record s { holders = set s.holders x h })
-      × IsStepTaken s c w (record s { holders = set s.holders x h })
+      → Leaves contents s c w (record s { holders = set s.holders x h })
   held_now x h w low takes single =
       let s' : State = record s { holders = set s.holders x h } in
       let is : world_of s' ≡ held_by (world_of s) x h = world-held s x h low in
@@ -177,8 +166,7 @@ module _ (contents : List Content) (s : State) (m : IsMachine contents s) (c : �
       })
 
   pub win_now : (x : ℕ) → x < length s.kinds → (world_of s).holder x ≡ None → HoldsNothing (world_of s) c
-      → IsMachine contents (record s { holders = set s.holders x (Some c) })
-      × IsStepTaken s c (win x) (record s { holders = set s.holders x (Some c) })
+      → Leaves contents s c (win x) (record s { holders = set s.holders x (Some c) })
   win_now x low free nothing = let e = m.holders in held_now x (Some c) (win x) (omega arith)
       (record { on_object = low; free = free; holds_nothing = nothing; after = refl }) single
     where
@@ -197,8 +185,7 @@ module _ (contents : List Content) (s : State) (m : IsMachine contents s) (c : �
       )
 
   pub release_now : (x : ℕ) → x < length s.kinds → (world_of s).holder x ≡ Some c → (world_of s).hand x ≡ None
-      → IsMachine contents (record s { holders = set s.holders x None })
-      × IsStepTaken s c release (record s { holders = set s.holders x None })
+      → Leaves contents s c release (record s { holders = set s.holders x None })
   release_now x low held hand = let e = m.holders in held_now x None release (omega arith)
       (record { object = x; held = held; free = hand; after = refl }) single
     where
@@ -210,8 +197,7 @@ module _ (contents : List Content) (s : State) (m : IsMachine contents s) (c : �
           grind (arith, changed_here f x None, changed_else f x None y, changed_else f x None z, m.single d y z)
 
   pub end_now : MayEnd ((world_of s).stage c) → HoldsNothing (world_of s) c
-      → IsMachine contents (record s { ended = set s.ended c true })
-      × IsStepTaken s c end (record s { ended = set s.ended c true })
+      → Leaves contents s c end (record s { ended = set s.ended c true })
   end_now may nothing =
       let s' : State = record s { ended = set s.ended c true } in
       let low = go.0 in let long = m.ended in let within : c < length s.ended = omega arith in
@@ -228,8 +214,8 @@ module _ (contents : List Content) (s : State) (m : IsMachine contents s) (c : �
   ticked_now : (t : AnyStage) (js : List AnyEvent) (w : Step)
       → Takes s.kinds s.quota w (world_of s) c (ticked (world_of s) c (stage_of t) (done_in js))
       → js ≡ journal_of (done_in js) (request_of (stage_of t))
-      → IsMachine contents (record s { clock = s.clock + 1; stages = set s.stages c t; journals = set s.journals c js })
-      × IsStepTaken s c w (record s { clock = s.clock + 1; stages = set s.stages c t; journals = set s.journals c js })
+      → Leaves contents s c w
+      (record s { clock = s.clock + 1; stages = set s.stages c t; journals = set s.journals c js })
   ticked_now t js w takes here =
       let s' : State = record s { clock = s.clock + 1; stages = set s.stages c t; journals = set s.journals c js } in
       let low = go.0 in let long = m.journals in let within : c < length s.journals = omega arith in
@@ -261,7 +247,7 @@ module _ (contents : List Content) (s : State) (m : IsMachine contents s) (c : �
         stages = set s.stages c (Drawn q);
         journals = set s.journals c (get_or s.journals c [] ++ invoked q ∷ []);
       } in
-      IsMachine contents s' × IsStepTaken s c (draw_call x op) s'
+      Leaves contents s c (draw_call x op) s'
   call_now x op idle few low kind =
       let q : AnyRequest = record { object = x; ticket = s.clock; op = op } in
       let ds : List AnyDone = (world_of s).done c in
@@ -285,7 +271,7 @@ module _ (contents : List Content) (s : State) (m : IsMachine contents s) (c : �
         stages = set s.stages c Idle;
         journals = set s.journals c (get_or s.journals c [] ++ Returned s.clock a ∷ []);
       } in
-      IsMachine contents s' × IsStepTaken s c draw_return s'
+      Leaves contents s c draw_return s'
   return_now q a taken =
       let ds : List AnyDone = (world_of s).done c in
       let es : List AnyDone = ds ++ record { request = q; answer = a; returned = s.clock } ∷ [] in
@@ -304,8 +290,7 @@ module _ (contents : List Content) (s : State) (m : IsMachine contents s) (c : �
   pub handed_now : (x : ℕ) (h : Option ℕ) (r : ℕ) (t : AnyStage) (w : Step) → x < length s.kinds → r < length s.stages
       → Takes s.kinds s.quota w (world_of s) c (handed (world_of s) x h r (stage_of t))
       → request_of (stage_of t) ≡ request_of ((world_of s).stage r)
-      → IsMachine contents (record s { hands = set s.hands x h; stages = set s.stages r t })
-      × IsStepTaken s c w (record s { hands = set s.hands x h; stages = set s.stages r t })
+      → Leaves contents s c w (record s { hands = set s.hands x h; stages = set s.stages r t })
   handed_now x h r t w low within takes same =
       let s' : State = record s { hands = set s.hands x h; stages = set s.stages r t } in
       let long = m.hands in
@@ -333,7 +318,7 @@ module _ (contents : List Content) (s : State) (m : IsMachine contents s) (c : �
         hands = set s.hands x None;
         stages = set s.stages r (Answered q a);
       } in
-      IsMachine (set contents x after) s' × IsStepTaken s c answer s'
+      Leaves (set contents x after) s c answer s'
   served_now x r q before after a at low within kind same held hand stage can serves =
       let s' : State = record s {
         logs = set s.logs x (get_or s.logs x [] ++ logged r q a);

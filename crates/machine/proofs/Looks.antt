@@ -44,7 +44,7 @@ seen_at f [] i v low e = absurd (omega arith)
 seen_at f (x ∷ xs) zero v low e = ap (λ z. Some (f z)) (sym e)
 seen_at f (x ∷ xs) (suc i) v low e = seen_at f xs i v (omega arith) e
 
-module _ (contents : List Content) (s : State) (m : IsMachine contents s) where
+module _ {contents : List Content} {s : State} (m : IsMachine contents s) where
   -- an idle client has made half as many calls as its journal has events
   pub calls_half : (c : ℕ) → (world_of s).stage c ≡ world.idle
       → length (get_or s.journals c []) ≡ 2 * calls_made ((world_of s).done c) None

@@ -13,5 +13,5 @@ returns-clause-picked g c =
     let low : c.args.object < length hands = omega arith in
     subst (λ (s : State). IfSome c.index.result.now (λ r. (r < clients_of s) × HasPicked s c.args.object r))
     c.self.view_is
-    (if_picked _ _ c.self.invariant c.args.object c.index.result.now
+    (if_picked c.self.invariant c.args.object c.index.result.now
     (get_or_default hands c.args.object None c.index.result.now low ∙ sym c.index.ensures))

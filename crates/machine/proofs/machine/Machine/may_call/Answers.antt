@@ -13,7 +13,7 @@ returns-in-Idle g c =
     subst (λ (s : State). (world_of s).stage c.args.client ≡ idle
     → length (get_or s.journals c.args.client []) ≡ 2 * calls_made ((world_of s).done c.args.client) None)
     c.self.view_is
-    (λ e. calls_half _ _ c.self.invariant c.args.client e) is in
+    (λ e. calls_half c.self.invariant c.args.client e) is in
     let quota = ap (λ (s : State). s.quota) c.self.view_is in
     let events = c.events_of.ensures in
     (λ less. (is, grind (arith, nat_tests)), λ both. let few = both.1 in grind (arith, nat_tests))

@@ -1,6 +1,6 @@
 -- `pick`: the step is taken, or is impossible and nothing has changed. The client holds one object alone, so a hand
 -- that is not free, or a row that has nothing for it, shows that the step is impossible.
-use Rattle.std.proofs.Common.{◌≡◌, true, false, get_or, None, refl, sym, ◌∙◌, ap}
+use Rattle.std.proofs.Common.{◌≡◌, true, false, refl, ◌∙◌}
 use Rattle.machine.proofs.Rows.{pick_done}
 use Rattle.machine.proofs.machine.Machine.pick.Goals as goal
 
@@ -8,9 +8,8 @@ pub returns-then-not-is_hand_free : goal.returns-then-not-is_hand_free
 returns-then-not-is_hand_free g c = (
   refl,
   λ after h.
-      let same : h.3.object ≡ c.in-Some.object = c.in-Some.ensures.only h.3.object h.3.held in
       let e : false ≡ true = c.if-not-is_hand_free.ensures.1
-      (ap (λ k. get_or c.args.self.now.hands k None) (sym same) ∙ h.3.free) in
+      (rw (← c.in-Some.ensures.only h.3.object h.3.held) h.3.free) in
       absurd (cc),
 )
 
@@ -23,21 +22,14 @@ returns-in_default-posted_at g c = (
 
 pub invariant_of-self : goal.invariant_of-self
 invariant_of-self g c =
-    (pick_done g.S.SeqObject.content g.S.SeqObject.op_in g.S.SeqObject.reply_in c.self.inside c.self.invariant _
-    c.self.view_is
-    c.args.client c.in-Some.object c.args.row c.in-Some-posted_at.request c.requires c.in-Some.ensures.held.0
-    c.in-Some-posted_at.ensures.found.0
-    c.in-Some.ensures.held.1
-    (c.if-not-is_hand_free.ensures.0 refl) c.in-Some-posted_at.ensures.found.1 c.in-Some-posted_at.ensures.found.2).0
+    (pick_done _ _ _ c.self.inside c.self.invariant c.self.view_is c.args.client c.in-Some.object c.args.row
+    c.in-Some-posted_at.request c.requires c.in-Some.ensures.held (c.if-not-is_hand_free.ensures.0 refl)
+    c.in-Some-posted_at.ensures.found).0
 
 pub returns : goal.returns
 returns g c = (
-  (pick_done g.S.SeqObject.content g.S.SeqObject.op_in g.S.SeqObject.reply_in c.self.inside c.self.invariant _
-      c.self.view_is
-      c.args.client c.in-Some.object c.args.row c.in-Some-posted_at.request c.requires c.in-Some.ensures.held.0
-      c.in-Some-posted_at.ensures.found.0
-      c.in-Some.ensures.held.1
-      (c.if-not-is_hand_free.ensures.0 refl) c.in-Some-posted_at.ensures.found.1
-      c.in-Some-posted_at.ensures.found.2).1,
+  (pick_done _ _ _ c.self.inside c.self.invariant c.self.view_is c.args.client c.in-Some.object c.args.row
+      c.in-Some-posted_at.request c.requires c.in-Some.ensures.held (c.if-not-is_hand_free.ensures.0 refl)
+      c.in-Some-posted_at.ensures.found).1,
   tt,
 )

@@ -17,17 +17,14 @@ returns-then-is_possible g c = (
 
 pub invariant_of-self : goal.invariant_of-self
 invariant_of-self g c =
-    (put_back_done g.S.SeqObject.content g.S.SeqObject.op_in g.S.SeqObject.reply_in c.self.inside c.self.invariant _
-    c.self.view_is c.args.client c.in-Some.object c.in-Some.row c.in-Some.request c.requires c.in-Some.ensures.found
-    c.if-is_possible.ensures.content
+    (put_back_done _ _ _ c.self.inside c.self.invariant c.self.view_is c.args.client c.in-Some.request c.requires
+    c.in-Some.ensures.found c.if-is_possible.ensures.content
     (λ can. let e : false ≡ true = c.if-is_possible.ensures.possible.1 can in absurd (cc))).0
 
 pub returns : goal.returns
 returns g c = (
-  (put_back_done g.S.SeqObject.content g.S.SeqObject.op_in g.S.SeqObject.reply_in c.self.inside c.self.invariant _
-      c.self.view_is
-      c.args.client c.in-Some.object c.in-Some.row c.in-Some.request c.requires c.in-Some.ensures.found
-      c.if-is_possible.ensures.content
+  (put_back_done _ _ _ c.self.inside c.self.invariant c.self.view_is c.args.client c.in-Some.request c.requires
+      c.in-Some.ensures.found c.if-is_possible.ensures.content
       (λ can. let e : false ≡ true = c.if-is_possible.ensures.possible.1 can in absurd (cc))).1,
   tt,
 )
