@@ -21,7 +21,8 @@ use events::{End, Invocation};
 use seq_objects::{AnyOp, AnyReply, Kind, SeqObject};
 use std::alloc::Global;
 
-/// The greatest number so far, if the operation returned before that was reached.
+/// The greatest invocation so far, if the operation returned before it: then the operation comes
+/// too late.
 fn late_by(end: &End, greatest: Option<u32>) -> Option<u32>
     ensures { MatchOption result (IsEarly end.now greatest)
         (λ by. (greatest ≡ Some by) × IsLate end.now by) }

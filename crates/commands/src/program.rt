@@ -107,7 +107,7 @@ fn perform_on_sources<R: Threads + Wait + Sync, F: Source, G: Source, S: Sink>(
 /// `perform` does. Reads each file to its end, or to one byte past the limit of a text. Does not
 /// retry a failed read. Ignores a file that the command does not use.
 ///
-/// A check and a verification free the history's text as soon as it is read.
+/// A check and a verification free the history's text as soon as the history is made from it.
 pub fn perform_over<R: Threads + Wait + Sync, F: Source, G: Source, S: Sink>(
     rt: &R,
     alloc: Global,

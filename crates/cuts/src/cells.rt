@@ -25,32 +25,32 @@ struct CellCut {
     other: i64,
 }
 
-/// Whether this content is kept. `none` says whether having no value is kept.
-fn keeps(none: bool, values: &Values, content: Option<i64>) -> bool
-    ensures { result ≡ spec.keeps_content none (keeps_value values.now) content }
+/// Whether this content is kept. `keeps_none`: whether having no value is kept.
+fn keeps(keeps_none: bool, values: &Values, content: Option<i64>) -> bool
+    ensures { result ≡ spec.keeps_content keeps_none (keeps_value values.now) content }
 {
     match content {
         Some(value) => values.has(value),
-        None => none,
+        None => keeps_none,
     }
 }
 
-/// What a touch becomes that leaves this content in the part, when `own` is the call itself if it
-/// is one of a register.
+/// The call that a touch becomes, if it leaves this content in the part. `own` is the call itself,
+/// if it is a call of a register: it stays if all that it names is kept.
 fn change(
-    none: bool,
+    keeps_none: bool,
     values: &Values,
     own: Option<(AnyOp, AnyReply)>,
     need: Need,
     content: Option<i64>,
 ) -> (AnyOp, AnyReply)
-    ensures { result ≡ spec.change (spec.keeps_content none (keeps_value values.now)) own need
-        content }
+    ensures { result ≡ spec.change (spec.keeps_content keeps_none (keeps_value values.now)) own
+        need content }
 {
     match (need, own) {
         (Need::Any, Some(call)) => call,
-        (Need::Is(found), Some(call)) if keeps(none, values, found) => call,
-        (Need::Is(found), None) if keeps(none, values, found) => replacing(found, content),
+        (Need::Is(found), Some(call)) if keeps(keeps_none, values, found) => call,
+        (Need::Is(found), None) if keeps(keeps_none, values, found) => replacing(found, content),
         _ => setting(content),
     }
 }

@@ -179,9 +179,9 @@ fn start_at(operations: &[Invocation], number: u32) -> Option<Start>
 
 /// The part that begins with the call of this number. Returns None unless the call returned, its
 /// reply tells what it left, and each call is on its key (of a map) or its element (of a set).
-/// The part leaves out each call that returned before it. Of those that overlap it, if it left a
-/// value, a write becomes a write, and so does a swap that was not refused. Any other is pending;
-/// if it left nothing, all of them are.
+/// The part leaves out each call that returned before it. Of the calls that overlap the first one:
+/// if the first left a value, a write, or a swap that was not refused, becomes a write, and any
+/// other is pending. If it left nothing, all are pending.
 ///
 /// An error: an allocation failed.
 pub(crate) fn suffix_from(

@@ -87,7 +87,7 @@ fn two_work<R: Threads + Wait + Sync>(
     );
 }
 
-/// Four of them.
+/// Four of the clients work, each in a thread.
 fn four_work<R: Threads + Wait + Sync>(
     rt: &R,
     desk: &Desk<AnyObject>,

@@ -19,8 +19,8 @@ pub trait Source {
     /// What it means that a call for a buffer of this length fails, with what it leaves.
     ghost refuses: { Self → ℕ → Self → Type 0 };
 
-    /// Puts bytes at the beginning of the buffer, and says how many they are. None for a buffer
-    /// that is not empty is the end.
+    /// Puts bytes at the beginning of the buffer, and says how many they are. If it puts 0 bytes
+    /// into a buffer that is not empty, the source is at its end.
     fn get(&mut self, buf: &mut [u8]) -> Result<usize, Failed>
         requires { broken self.old ≡ false }
         ensures within { IfOk result (λ n. n ≤ length buf.new) }

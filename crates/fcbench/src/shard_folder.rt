@@ -1,6 +1,6 @@
-//! The files of shards in a folder. Of shard 3, `3.edn` has the maps, `3.places` their places in
-//! the whole, and `3.evidence` and `3.status`, which others write, what was found of it. The file
-//! `shards` has the number of the shards. It is made last, so a folder without it has no whole
+//! The files of shards in a folder. Of shard 3, `3.edn` has the maps, `3.places` their numbers in
+//! the full history, and `3.evidence` and `3.status`, which others write, what was found of it. The
+//! file `shards` has the number of the shards. It is made last, so a folder without it has no full
 //! history.
 
 ghost use Rattle.std.specs.Prelude.{⊤, ◌≡◌, ◌<◌, IfOk, None, false, is_some};

@@ -5,7 +5,7 @@ ghost use Rattle.std.specs.Prelude.{slice_index_or, vec_len, vec_capacity, IfOk,
 ghost use Rattle.std.specs.Prelude.{IfNone, if◌then◌else◌};
 ghost use Rattle.recorder.specs.Records.{items_of_each};
 ghost use Rattle.desk_invariant.specs.Views.{after_end_seen, after_end_unset, end_notice};
-ghost use Rattle.desk_invariant.specs.Views.{after_notice, table_slots};
+ghost use Rattle.desk_invariant.specs.Views.{after_notice, first_end, journal_slot, table_slots};
 ghost use Rattle.publication.specs.Handles.{IsRoom};
 ghost use Rattle.publication.specs.Calls.{IsClosedRecord, IsStillThere};
 ghost use Rattle.publication.specs.Closing.{values_of, IsTakenTo, HasCore, HasJournal, IsLogOf};
@@ -176,8 +176,8 @@ fn take_logs<S: SeqObject>(
     }
 }
 
-/// Drops what is from one slot up to another.
-fn pass_over<S: SeqObject>(left: &mut Left<S, S::Op, S::Reply>, from: usize, to: usize)
+/// Takes out and drops the values of the slots from `from` up to, not including, `to`.
+fn drop_slots<S: SeqObject>(left: &mut Left<S, S::Op, S::Reply>, from: usize, to: usize)
     requires { IsTakenTo from left.old × (from ≤ to) × (to ≤ table_slots) }
     ensures { IsTakenTo to left.new × (values_of left.new ≡ values_of left.old) }
 {
@@ -191,9 +191,10 @@ fn take_journal<S: SeqObject>(
     left: &mut Left<S, S::Op, S::Reply>,
     client: u32,
 ) -> Vec<JournalEvent<S::Op, S::Reply>>
-    requires slots { IsTakenTo (48 + client) left.old × (client < max_clients) }
+    requires slots { IsTakenTo (journal_slot client) left.old × (client < max_clients) }
     requires journal { HasJournal (values_of left.old) client }
-    ensures slots { IsTakenTo (49 + client) left.new × (values_of left.new ≡ values_of left.old) }
+    ensures slots { IsTakenTo (journal_slot (1 + client)) left.new
+        × (values_of left.new ≡ values_of left.old) }
     ensures journal { IsJournalOf (values_of left.old) client result.items }
 {
     match left.take(ENDS + client as usize) {
@@ -209,10 +210,12 @@ fn take_journals<S: SeqObject>(
     to: u32,
     journals: &mut Vec<Vec<JournalEvent<S::Op, S::Reply>>>,
 )
-    requires slots { IsTakenTo (48 + from) left.old × (from ≤ to) × (to < 1 + max_clients) }
+    requires slots { IsTakenTo (journal_slot from) left.old × (from ≤ to)
+        × (to < 1 + max_clients) }
     requires present { (c : ℕ) → from ≤ c → c < to → HasJournal (values_of left.old) c }
     requires room { (vec_len journals.old ≡ from) × (to ≤ vec_capacity journals.old) }
-    ensures slots { IsTakenTo (48 + to) left.new × (values_of left.new ≡ values_of left.old) }
+    ensures slots { IsTakenTo (journal_slot to) left.new
+        × (values_of left.new ≡ values_of left.old) }
     ensures journals { AreJournals from to (values_of left.old) (items_of_each journals.new.items)
         × IsSameBelow from (items_of_each journals.old.items) (items_of_each journals.new.items) }
     ensures room { vec_capacity journals.new ≡ vec_capacity journals.old }
@@ -230,10 +233,12 @@ fn take_all_journals<S: SeqObject>(
     own: Vec<JournalEvent<S::Op, S::Reply>>,
     journals: &mut Vec<Vec<JournalEvent<S::Op, S::Reply>>>,
 )
-    requires slots { IsTakenTo 48 left.old × (number < clients) × (clients < 1 + max_clients) }
+    requires slots { IsTakenTo first_end left.old × (number < clients)
+        × (clients < 1 + max_clients) }
     requires present { (c : ℕ) → c < clients → c ≢ number → HasJournal (values_of left.old) c }
     requires room { IsRoom clients journals.old × (vec_len journals.old ≡ 0) }
-    ensures slots { IsTakenTo (48 + clients) left.new × (values_of left.new ≡ values_of left.old) }
+    ensures slots { IsTakenTo (journal_slot clients) left.new
+        × (values_of left.new ≡ values_of left.old) }
     ensures count { length (items_of_each journals.new.items) ≡ clients }
     ensures own { slice_index_or (items_of_each journals.new.items) number [] ≡ own.items }
     ensures others { (c : ℕ) → c < clients → c ≢ number →
@@ -242,7 +247,7 @@ fn take_all_journals<S: SeqObject>(
 {
     let own_slot = ENDS + number as usize;
     take_journals(left, 0, number, journals);
-    pass_over(left, own_slot, own_slot + 1);
+    drop_slots(left, own_slot, own_slot + 1);
     journals.push_reserved(own);
     take_journals(left, number + 1, clients, journals);
 }
@@ -271,9 +276,9 @@ fn gather<S: SeqObject>(desk: Desk<S>, last: Client<S>) -> Record<S>
     let objects = kinds.len();
     let mut left = table.close_with(seat);
     take_logs(&mut left, objects, &mut logs);
-    pass_over(&mut left, objects, ENDS);
+    drop_slots(&mut left, objects, ENDS);
     take_all_journals(&mut left, clients, number, journal.events, &mut journals);
-    pass_over(&mut left, ENDS + clients as usize, SLOTS);
+    drop_slots(&mut left, ENDS + clients as usize, SLOTS);
     left.free();
     Record::new(journals, logs)
 }

@@ -24,9 +24,9 @@ pub filter_kept : {X : Type 0} (p : X → Bool) (xs : List X) (x : X) → p x �
     → filter p (xs ++ x ∷ []) ≡ filter p xs ++ x ∷ []
 filter_kept p xs x q = rw (filter-append, q)
 
-pub filter_left : {X : Type 0} (p : X → Bool) (xs : List X) (x : X) → p x ≡ false
+pub filter_left_out : {X : Type 0} (p : X → Bool) (xs : List X) (x : X) → p x ≡ false
     → filter p (xs ++ x ∷ []) ≡ filter p xs
-filter_left p xs x q = rw (filter-append, q) (append-nil (filter p xs))
+filter_left_out p xs x q = rw (filter-append, q) (append-nil (filter p xs))
 
 pub places_kept : (n : ℕ) (has : ℕ → Bool) (ds : List Datum) (d : Datum) → is_on has d ≡ true
     → places_from n has (ds ++ d ∷ []) ≡ places_from n has ds ++ (n + length ds) ∷ []
@@ -35,7 +35,7 @@ places_kept n has (x ∷ ds) d q =
     let e : n + 1 + length ds ≡ n + length (x ∷ ds) = omega arith in
     rw (places_kept (n + 1) has ds d q, e) (sym (append_assoc (cond (is_on has x) (n ∷ []) []) _ _))
 
-pub places_left : (n : ℕ) (has : ℕ → Bool) (ds : List Datum) (d : Datum) → is_on has d ≡ false
+pub places_left_out : (n : ℕ) (has : ℕ → Bool) (ds : List Datum) (d : Datum) → is_on has d ≡ false
     → places_from n has (ds ++ d ∷ []) ≡ places_from n has ds
-places_left n has [] d q = rw q
-places_left n has (x ∷ ds) d q = rw (places_left (n + 1) has ds d q)
+places_left_out n has [] d q = rw q
+places_left_out n has (x ∷ ds) d q = rw (places_left_out (n + 1) has ds d q)

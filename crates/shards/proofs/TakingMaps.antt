@@ -32,7 +32,7 @@ use Rattle.shards.specs.Taking.{AddsLine, AddsMap, AreMapsTaken, AreTakenOf, Are
 use Rattle.shards.specs.Taking.{IsPieceFault, forms_of, waiting_maps, waiting_places}
 use Rattle.shards.specs.Tallies.{CountsOne}
 use Rattle.shards.proofs.BareMaps.{bare_spells}
-use Rattle.shards.proofs.LinesMore.{lines_push, table_push, filter_kept, filter_left, places_kept, places_left}
+use Rattle.shards.proofs.LinesMore.{lines_push, table_push, filter_kept, filter_left_out, places_kept, places_left_out}
 use Rattle.shards.proofs.EventsOfMaps.{on_object, on_none}
 use Rattle.shards.proofs.LargeObjects.{tally_same}
 
@@ -58,7 +58,7 @@ module _ (count s : ℕ) (maps : List SpelledMap) (m : SpelledMap) where
   text_kept q = rw (filter_kept on maps m q) (lines_push (maps_of_shard (shard_among count) s maps) m)
 
   text_left : on m ≡ false → own_text (maps ++ m ∷ []) ≡ own_text maps
-  text_left q = ap map_lines (filter_left on maps m q)
+  text_left q = ap map_lines (filter_left_out on maps m q)
 
   table_kept : (place : ℕ) → place ≡ length (forms_of maps) → on m ≡ true
       → own_table (maps ++ m ∷ []) ≡ own_table maps ++ (decimal place ++ 10 ∷ [])
@@ -67,7 +67,7 @@ module _ (count s : ℕ) (maps : List SpelledMap) (m : SpelledMap) where
       (table_push (places_from 0 has (forms_of maps)) place)
 
   table_left : on m ≡ false → own_table (maps ++ m ∷ []) ≡ own_table maps
-  table_left q = rw (forms_push maps m, places_left 0 has (forms_of maps) m.form q)
+  table_left q = rw (forms_push maps m, places_left_out 0 has (forms_of maps) m.form q)
 
   count_kept : on m ≡ true → length (maps_of_shard (shard_among count) s (maps ++ m ∷ []))
       ≡ length (maps_of_shard (shard_among count) s maps) + 1
@@ -75,7 +75,7 @@ module _ (count s : ℕ) (maps : List SpelledMap) (m : SpelledMap) where
 
   count_left : on m ≡ false → length (maps_of_shard (shard_among count) s (maps ++ m ∷ []))
       ≡ length (maps_of_shard (shard_among count) s maps)
-  count_left q = ap length (filter_left on maps m q)
+  count_left q = ap length (filter_left_out on maps m q)
 
 -- a map whose object gets the name that it has in its shard
 pub says_by : (k x : ℕ) (d e : Datum) (c : ClientMap) → client_of d ≡ Some c → c.object ≡ x → k ≡ name_in_shard x
@@ -101,7 +101,7 @@ taken_unseen count old new maps written d h read none shards tally same =
         each = All-push (IsSpelled name_in_shard) maps m h.each (λ c q. absurd (cc (q, none)));
         fit = All-push (ObjectFits count) maps m h.fit (λ c q. absurd (cc (q, none)));
         tally = rw tally (tally_same old.tally (maps_on maps) (maps_on (maps ++ m ∷ [])) h.tally
-            (λ y. ap length (filter_left (λ k. is_on (λ z. z == y) k.form) maps m (on_none (λ z. z == y) d none))));
+            (λ y. ap length (filter_left_out (λ k. is_on (λ z. z == y) k.form) maps m (on_none (λ z. z == y) d none))));
         texts = λ s. cc (h.texts s, text_left count s maps m (off s));
         tables = λ s. cc (h.tables s, table_left count s maps m (off s));
         counts = λ s l. cc (h.counts s l, count_left count s maps m (off s));
@@ -133,7 +133,7 @@ module _ (count : ℕ) (old new : Divider) (maps : List SpelledMap) (written : F
       (length_push (filter on maps) m)
 
   no_more : (y : ℕ) → y ≢ c.object → maps_on (maps ++ m ∷ []) y ≡ maps_on maps y
-  no_more y ne = ap length (filter_left (λ k. is_on (λ z. z == y) k.form) maps m
+  no_more y ne = ap length (filter_left_out (λ k. is_on (λ z. z == y) k.form) maps m
       (on_object (λ z. z == y) m.form c client ∙ ne_eqb c.object y (λ q. ne (sym q))))
 
   taken_line : AreReadAtAnyLength new.reader (forms_of maps ++ m.form ∷ []) → IsSpelled name_in_shard m

@@ -1,6 +1,6 @@
 //! A history in shards: each object is in one of them, and the whole is linearizable exactly if
-//! each shard is. This is said of events in memory and (`texts.rt`) of texts, even of one that is
-//! longer than `judge` reads. These theorems are the contracts of functions that do nothing. They
+//! each shard is. The theorems are about events in memory, and (`texts.rt`) about texts, even one
+//! that is longer than `judge` reads. They are the contracts of functions that do nothing. They
 //! follow from locality: Herlihy and Wing, "Linearizability: A Correctness Condition for Concurrent
 //! Objects", TOPLAS 1990, section 3. `split_over` divides a history of any length into such shards.
 #![tactic(auto)]

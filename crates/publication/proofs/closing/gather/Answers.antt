@@ -49,7 +49,7 @@ take_all_journals-requires-clause-slots g c lfts within =
     let left = left_here g (goal.at.take_all_journals-requires-clause-slots g c).After-close_with-left in
     let low = left.number_low in let own : c.last.inside.number ≡ c.args.last.knows.number = sym k.agrees.number_is
     ∙ ap (λ k. k.knows.number) c.last.view_is in let clients = ap (λ s. s.clients) c.desk.view_is in
-    (c.pass_over.ensures.0, omega arith, d.6)
+    (c.drop_slots.ensures.0, omega arith, d.6)
 
 pub take_all_journals-requires-clause-present : goal.take_all_journals-requires-clause-present
 take_all_journals-requires-clause-present g c lfts within =
@@ -58,7 +58,7 @@ take_all_journals-requires-clause-present g c lfts within =
     let own : c.last.inside.number ≡ c.args.last.knows.number =
     sym k.agrees.number_is ∙ ap (λ k. k.knows.number) c.last.view_is in
     let clients = ap (λ s. s.clients) c.desk.view_is in
-    λ n l other. subst (λ xs. HasJournal xs n) (sym (c.pass_over.ensures.1 ∙ c.take_logs.ensures.slots.1))
+    λ n l other. subst (λ xs. HasJournal xs n) (sym (c.drop_slots.ensures.1 ∙ c.take_logs.ensures.slots.1))
     (let b = left.journals n (omega arith) (λ f. other (f ∙ sym own)) in (b.0, b.1))
 
 pub returns : goal.returns
@@ -89,7 +89,7 @@ returns g c = let d = c.desk.invariant.0 in let k = c.last.invariant.0 in let e 
     (λ n l other. subst (λ js. IsJournalOf (values_of c.close_with-left.result) n (get_or js n []))
     (sym (ap (λ r. r.journals) c.new.ensures))
     (subst (λ xs. IsJournalOf xs n (get_or (items_of_each c.take_all_journals.new.journals.items) n []))
-    (c.pass_over.ensures.1 ∙ c.take_logs.ensures.slots.1)
+    (c.drop_slots.ensures.1 ∙ c.take_logs.ensures.slots.1)
     (c.take_all_journals.ensures.others n (omega arith) (λ f. other (f ∙ own)))))
 
 pub new-requires-clause-kept : goal.new-requires-clause-kept
@@ -115,7 +115,7 @@ new-requires-clause-kept g c lfts within =
     ∙ (ap (λ j. map (event_in g.S.SeqObject.op_in g.S.SeqObject.reply_in) j.events.items)
     c.into_journal-journal.ensures ∙ k.agrees.journal_is ∙ ap (λ k. journal k.knows) c.last.view_is)))
     (λ n l other. subst (λ xs. IsJournalOf xs n (get_or (items_of_each c.take_all_journals.new.journals.items) n []))
-    (c.pass_over.ensures.1 ∙ c.take_logs.ensures.slots.1)
+    (c.drop_slots.ensures.1 ∙ c.take_logs.ensures.slots.1)
     (c.take_all_journals.ensures.others n (omega arith) (λ f. other (f ∙ own)))) in
     let quota : c.desk.inside.quota ≡ c.args.desk.id.quota = ap (λ s. s.id.quota) c.desk.view_is in
     let few = d.7 in

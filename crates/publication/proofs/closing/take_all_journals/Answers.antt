@@ -13,12 +13,13 @@ take_journals-requires-clause-present g c lfts within =
     let low = c.requires.slots.1 in λ d l h. c.requires.present d (omega arith) (λ e. omega arith)
 
 pub take_journals-requires-2-clause-slots : goal.take_journals-requires-2-clause-slots
-take_journals-requires-2-clause-slots g c lfts within = let t = c.pass_over.ensures.0 in let low = c.requires.slots.1 in
+take_journals-requires-2-clause-slots g c lfts within =
+    let t = c.drop_slots.ensures.0 in let low = c.requires.slots.1 in
     ((t.0, (λ k l h. t.1 k (omega arith) h), λ k h. t.2 k (omega arith)), omega arith, c.requires.slots.2)
 
 pub take_journals-requires-2-clause-present : goal.take_journals-requires-2-clause-present
 take_journals-requires-2-clause-present g c lfts within =
-    λ d l h. subst (λ xs. HasJournal xs d) (sym (c.pass_over.ensures.1 ∙ c.take_journals.ensures.slots.1))
+    λ d l h. subst (λ xs. HasJournal xs d) (sym (c.drop_slots.ensures.1 ∙ c.take_journals.ensures.slots.1))
     (c.requires.present d h (λ e. omega arith))
 
 pub returns-clause-own : goal.returns-clause-own
@@ -42,5 +43,5 @@ returns-clause-others g c = let e =
     (λ above. subst (λ xs. IsJournalOf xs d
     (Rattle.std.proofs.Common.get_or (items_of_each c.take_journals-2.new.journals.items) d
     Rattle.std.proofs.Common.[]))
-    (c.pass_over.ensures.1 ∙ c.take_journals.ensures.slots.1)
+    (c.drop_slots.ensures.1 ∙ c.take_journals.ensures.slots.1)
     (c.take_journals-2.ensures.journals.0.1 d (omega arith) l))
