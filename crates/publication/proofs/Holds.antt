@@ -2,7 +2,7 @@
 use mathlib.Core.Option as maybe
 use mathlib.Core.Option.{some}
 use lib.ListN.{get_elem?, length-map}
-use Rattle.std.proofs.Common.{◌≡◌, ℕ, ◌+◌, ◌-◌, ◌<◌, ◌≤◌, Bool, List, [], ◌∷◌, ◌++◌, length, length-append, get_or}
+use Rattle.std.proofs.Common.{◌≡◌, ℕ, ◌+◌, ◌-◌, ◌<◌, ◌≤◌, Bool, List, ◌∷◌, ◌++◌, length, length-append}
 use Rattle.std.proofs.Common.{vec_len, vec_capacity, refl, sym, ap, ◌∙◌, arith, length-set}
 use Rattle.atomic_table.specs.Table.{rest, Me}
 use Rattle.atomic_table.specs.Seated.{TableId}
@@ -18,11 +18,8 @@ use Rattle.desk_model.specs.Images.{request_in, answer_in, entry_in}
 use Rattle.desk_model.proofs.Entries.{replays_more}
 use Rattle.desk_invariant.specs.declared.board.Core.{Core}
 use Rattle.desk_invariant.specs.declared.board.Journal.{Journal}
-use Rattle.desk_invariant.specs.declared.board.Leaving.{Leaving}
-use Rattle.desk_invariant.specs.declared.board.PutBack.{PutBack}
 use Rattle.desk_invariant.specs.declared.board.Slot.{Slot}
 use Rattle.desk_invariant.specs.declared.board.Slot.TheVariants as slot
-use Rattle.desk_invariant.specs.declared.board.Held.{Held}
 use Rattle.desk_invariant.specs.declared.board.Held.TheVariants as held
 use Rattle.desk_invariant.specs.declared.board.Role.TheVariants as role
 use Rattle.desk_invariant.specs.declared.board.DeskView.{DeskView}
@@ -34,55 +31,18 @@ use Rattle.publication.specs.Handles.{Agrees, log_of, IsClient, IsPass, IsHand}
 
 -- ---- what may change in a view with which the fields agree
 
-module _ {O R : Type 0} {op_in : O → AnyOp} {reply_in : R → AnyReply} {number calls quota : ℕ} {outstanding : Bool}
-    {j : Journal O R} {v : DeskView} where
-  -- the client has seen other lists
-  agrees_seen : {seen received : List (List AnyEntry)} {h : Held} {back : List PutBack} {left : List Leaving}
-      {missed retired still_there : List ℕ}
-      {won : ℕ} {ready : Bool} → length seen ≡ 16 → ((x : ℕ) → IsLegalLog (kind_at v.kinds x) (get_or seen x []))
-      → ((x : ℕ) → IsAccount x v (get_or seen x [])) → Agrees op_in reply_in number calls quota outstanding j v
-      → Agrees op_in reply_in number calls quota outstanding j
-      (record v {
-        seen = seen;
-        received = received;
-        held = h;
-        back = back;
-        left = left;
-        missed = missed;
-        won = won;
-        retired = retired;
-        still_there = still_there;
-        ready = ready;
-      })
-  agrees_seen wide legal accounts k = assumption (wide, legal, accounts, k)
-
-  -- what a client was told, holds, has put back, has missed, how often it won, and what it knows of ends and of its
-  -- row does not matter
-  pub agrees_light : {received : List (List AnyEntry)} {h : Held} {back : List PutBack} {left : List Leaving}
-      {missed retired still_there : List ℕ}
-      {won : ℕ} {ready : Bool} → Agrees op_in reply_in number calls quota outstanding j v
-      → Agrees op_in reply_in number calls quota outstanding j
-      (record v {
-        received = received;
-        held = h;
-        back = back;
-        left = left;
-        missed = missed;
-        won = won;
-        retired = retired;
-        still_there = still_there;
-        ready = ready;
-      })
-  agrees_light k = agrees_seen k.wide k.legal k.accounts k
-
-  -- the client sees the list l of x
-  pub agrees_seeing : (x : ℕ) (l : List AnyEntry) → x < 16 → IsLegalLog (kind_at v.kinds x) l → IsAccount x v l
-      → Agrees op_in reply_in number calls quota outstanding j v
-      → Agrees op_in reply_in number calls quota outstanding j (after_meet x l v)
-  agrees_seeing x l low legal account k = let wide = k.wide in
-      agrees_seen (length-set v.seen x l ∙ wide)
-      (seen_all (λ y z. IsLegalLog (kind_at v.kinds y) z) v.seen x l (omega arith) legal (λ y _. k.legal y))
-      (seen_all (λ y z. IsAccount y v z) v.seen x l (omega arith) account (λ y _. k.accounts y)) k
+-- The client sees the list l of x. `Agrees` says nothing of what it was told, holds, has put back or has missed, how
+-- often it won, and what it knows of ends and of its row: `assumption` proves it where only these change.
+pub agrees_seeing : {O R : Type 0} {op_in : O → AnyOp} {reply_in : R → AnyReply} {number calls quota : ℕ}
+    {outstanding : Bool} {j : Journal O R} {v : DeskView} (x : ℕ) (l : List AnyEntry) → x < 16
+    → IsLegalLog (kind_at v.kinds x) l → IsAccount x v l → Agrees op_in reply_in number calls quota outstanding j v
+    → Agrees op_in reply_in number calls quota outstanding j (after_meet x l v)
+agrees_seeing {v = v} x l low legal account k = let wide = k.wide in assumption (
+  length-set v.seen x l ∙ wide,
+  seen_all (λ y z. IsLegalLog (kind_at v.kinds y) z) v.seen x l (omega arith) legal (λ y _. k.legal y),
+  seen_all (λ y z. IsAccount y v z) v.seen x l (omega arith) account (λ y _. k.accounts y),
+  k,
+)
 
 -- ---- the core after one more request
 
@@ -138,14 +98,14 @@ module _ {S O R : Type 0} (content : S → Content) (op_in : O → AnyOp) (reply
 
   -- after a miss the client's fields still agree with what it knows
   pub client_after_miss : (i : ℕ) (m d : M) → TheClient m → d ≡ (after_miss i m.0, m.1) → TheClient d
-  client_after_miss i m d k e = rw e record { agrees = agrees_light k.agrees; free = k.free; in_hand = k.in_hand }
+  client_after_miss i m d k e = rw e record { agrees = assumption k.agrees; free = k.free; in_hand = k.in_hand }
 
   -- the core is out of its slot: m before, a after the win, b with nothing in the slot
   pub pass_after_win : (x : ℕ) (k core : Core S O R) (l : List AnyEntry) (m a b : M) → TheClient m
       → a ≡ (after_win x l m.0, (x, slot.Core k) ∷ m.1) → b ≡ (a.0, (x, slot.Nothing) ∷ rest a.1) → core ≡ k
       → CoreFits content op_in reply_in (kind_at m.0.kinds x) (get_elem? m.0.lists x) k l → x < 16 → ThePass x core b
   pass_after_win x k core l m a b c e f same fits low = rw (f, e, same) record {
-    agrees = agrees_light c.agrees;
+    agrees = assumption c.agrees;
     holds = ap (held.Pass x) (sym fits.0);
     in_hand = ap (λ z. (x, slot.Nothing) ∷ z) c.in_hand;
     fits = (refl, rw fits.0 fits.1, fits.2);
@@ -157,7 +117,7 @@ module _ {S O R : Type 0} (content : S → Content) (op_in : O → AnyOp) (reply
       → a ≡ (m.0, (x, slot.Core core) ∷ rest m.1) → b ≡ (after_release x (log_of op_in reply_in core) a.0, rest a.1)
       → IsAccount x a.0 (log_of op_in reply_in core) → TheClient b
   client_after_release x core m a b p e f account = rw (f, e) record {
-    agrees = agrees_light
+    agrees = assumption
         (agrees_seeing x (log_of op_in reply_in core) p.low (content core.object, p.fits.1) (rw e at account) p.agrees);
     free = refl;
     in_hand = ap rest p.in_hand;
@@ -206,7 +166,7 @@ module _ {S O R : Type 0} (content : S → Content) (op_in : O → AnyOp) (reply
       → b ≡ (after_row_miss i x m.0, m.1)
       → ThePass x core b
   pass_after_row_miss x core i m b p f = rw f record {
-    agrees = agrees_light p.agrees;
+    agrees = assumption p.agrees;
     holds = p.holds;
     in_hand = p.in_hand;
     fits = p.fits;
@@ -219,7 +179,7 @@ module _ {S O R : Type 0} (content : S → Content) (op_in : O → AnyOp) (reply
       → b ≡ (a.0, (16 + r, slot.Nothing) ∷ rest a.1) → q ≡ p → q.object ≡ x
       → kind_of (op_in q.op) ≡ kind_at m.0.kinds x → r < 32 → TheHand x core r p b
   hand_ok x core r q p m a b k e f same on of_kind low = rw (f, e, ← same) record {
-    agrees = agrees_light k.agrees;
+    agrees = assumption k.agrees;
     holds = refl;
     in_hand = ap (λ z. (16 + r, slot.Nothing) ∷ z) k.in_hand;
     fits = k.fits;
@@ -234,7 +194,7 @@ module _ {S O R : Type 0} (content : S → Content) (op_in : O → AnyOp) (reply
       → b ≡ (m.0, (16 + r, slot.Request p) ∷ rest m.1)
       → d ≡ (after_put_back x (log_of op_in reply_in core) r (request_in op_in p) b.0, rest b.1) → ThePass x core d
   back_ok x core r p m b d h e f = rw (f, e) record {
-    agrees = agrees_light h.agrees;
+    agrees = assumption h.agrees;
     holds = refl;
     in_hand = ap rest h.in_hand;
     fits = h.fits;
@@ -251,7 +211,7 @@ module _ {S O R : Type 0} (content : S → Content) (op_in : O → AnyOp) (reply
         rest m.1,
       ) → ThePass x k' d
   answered_ok x r k k' q a m b d h fits log e f = rw (f, e) record {
-    agrees = agrees_light h.agrees;
+    agrees = assumption h.agrees;
     holds = ap (held.Pass x) (sym log);
     in_hand = ap rest h.in_hand;
     fits = fits;

@@ -1,10 +1,9 @@
 -- `answer`: the row has the answer, and the log is longer by the operation if that was done. `answer_ready` gives
 -- what the store needs to keep the rule of the row, and `core_grows` that the core still fits what the pass knows.
-use Rattle.std.proofs.Common.{map, ◌≡◌, ◌+◌, ◌-◌, ◌<◌, length, vec_len, vec_capacity, rules, arith, sym, ap, subst, ◌∙◌}
+use Rattle.std.proofs.Common.{refl, ◌≡◌, ◌+◌, ◌-◌, ◌<◌, length, vec_len, vec_capacity, rules, arith, sym, ap, subst, ◌∙◌}
 use Rattle.desk_model.specs.World.{logged}
 use Rattle.desk_model.specs.Images.{answer_in}
-use Rattle.publication_list.specs.Calls.{PlaceSeen}
-use Rattle.publication.proofs.Dealing.{own_still}
+use Rattle.publication.proofs.Dealing.{own_still, same_desk}
 use Rattle.publication.specs.Handles.{Handling}
 use Rattle.desk_invariant.proofs.Rows.{answer_keeps_rule}
 use Rattle.publication.proofs.Holds.{answer_ready, room_taken, core_grows, answered_ok}
@@ -57,15 +56,9 @@ returns-clause-desk g c = let h = c.self.invariant.0 in let e = c.serve-answer.e
     let r = answer_ready g.S.SeqObject.content g.S.SeqObject.op_in g.S.SeqObject.reply_in _ _ _ _ _ _
     c.self.inside.core c.serve-answer.new.core _
     c.self.inside.request c.serve-answer.result _ _ h c.exchange.ensures.3 e.log e.content in
-    let kinds : c.store.new.seat.me.0.kinds ≡ c.self.inside.seat.me.0.kinds =
-    ap (λ m. m.0.kinds) (c.store.ensures.2 _ _ _ _ _ _ _ r.1 r.2) ∙ ap (λ m. m.0.kinds) c.exchange.ensures.3 in
-    (λ i. record {
-      table = (c.store.ensures.0 ∙ c.exchange.ensures.0) i;
-      quota = c.self.inside.member.quota;
-      kinds = kinds i;
-      lists =
-          map (λ (p : PlaceSeen). p.roster) c.self.inside.member.places;
-    }) ∙ ap (λ k. k.desk) c.self.view_is
+    same_desk (c.store.ensures.0 ∙ c.exchange.ensures.0) refl
+    (ap (λ m. m.0.kinds) (c.store.ensures.2 _ _ _ _ _ _ _ r.1 r.2) ∙ ap (λ m. m.0.kinds) c.exchange.ensures.3) refl
+    (ap (λ k. k.desk) c.self.view_is)
 
 pub returns-clause-room : goal.returns-clause-room
 returns-clause-room g c = let e = c.serve-answer.ensures in

@@ -1,9 +1,8 @@
 -- `release`: the object is back in its slot, and the client has seen the log. The core was put back by the
 -- exchange, so the release keeps the rules of the desk (`release_ready`).
-use Rattle.std.proofs.Common.{map, ◌≡◌, rules, arith, sym, ap, ◌∙◌}
-use Rattle.publication_list.specs.Calls.{PlaceSeen}
+use Rattle.std.proofs.Common.{refl, rules, arith, sym, ap, ◌∙◌}
 use Rattle.desk_invariant.proofs.Locks.{release_keeps_rule}
-use Rattle.publication.proofs.Dealing.{own_still}
+use Rattle.publication.proofs.Dealing.{own_still, same_desk}
 use Rattle.publication.proofs.Holds.{release_ready, client_after_release}
 use Rattle.publication.proofs.CallClauses.{is_released, log_is_seen}
 use Rattle.publication.proofs.client.Pass.release.Goals as goal
@@ -42,12 +41,5 @@ pub returns-clause-desk : goal.returns-clause-desk
 returns-clause-desk g c = let p = c.self.invariant.0 in let r =
     release_ready g.S.SeqObject.content g.S.SeqObject.op_in g.S.SeqObject.reply_in _ _ _ _ _ _ c.self.inside.core _ _
     p c.exchange.ensures.3 in let t = c.store.ensures.2 _ r.1 in
-    let kinds : c.store.new.seat.me.0.kinds ≡ c.self.inside.seat.me.0.kinds =
-    ap (λ m. m.0.kinds) t.0 ∙ ap (λ m. m.0.kinds) c.exchange.ensures.3 in
-    (λ i. record {
-      table = (c.store.ensures.0 ∙ c.exchange.ensures.0) i;
-      quota = c.self.inside.member.quota;
-      kinds = kinds i;
-      lists =
-          map (λ (p : PlaceSeen). p.roster) c.self.inside.member.places;
-    }) ∙ ap (λ k. k.desk) c.self.view_is
+    same_desk (c.store.ensures.0 ∙ c.exchange.ensures.0) refl
+    (ap (λ m. m.0.kinds) t.0 ∙ ap (λ m. m.0.kinds) c.exchange.ensures.3) refl (ap (λ k. k.desk) c.self.view_is)
