@@ -1,7 +1,6 @@
 -- `step`: a refused step is one that is not possible now, and the world stays that of a run. Each kind of step has
 -- the contract of its own function, of which `not_now` and `tried_run` prove the two clauses.
 use Rattle.std.proofs.Common.{ap}
-use Rattle.desk_model.specs.Transitions as world
 use Rattle.machine.specs.Steps.{step_in}
 use Rattle.machine.proofs.Trying.{not_now, tried_run}
 use Rattle.machine.proofs.machine.Machine.step.Goals as goal
