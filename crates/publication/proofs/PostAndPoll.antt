@@ -99,8 +99,8 @@ journal_grows op_in reply_in j j' e l is more =
 
 module _ {S O R : Type 0} {op_in : O → AnyOp} {reply_in : R → AnyReply} {number calls quota : ℕ} {j : Journal O R}
     {m : Me (Slot S O R) DeskView} where
-  -- After a whole post the client waits for its request, and has the empty slot of its journal in hand. The states are
-  -- named by the last step: the slot is filled, the ticket is drawn, the request in the slot is stamped with it, posted.
+  -- After a whole post the client waits for its request, and has the empty slot of its journal in hand. The last step
+  -- names each seat: the slot was filled, the ticket drawn, the request in the slot stamped with it, and posted.
   pub post_turn : {p q : Request O} {filled drawn stamped posted : Me (Slot S O R) DeskView}
       → IsClient op_in reply_in number calls quota false j m
       → filled ≡ (m.0, (16 + number, slot.Request p) ∷ rest m.1)
@@ -159,8 +159,8 @@ module _ {S O R : Type 0} {op_in : O → AnyOp} {reply_in : R → AnyReply} {num
 
   -- ---- a whole poll that takes the answer
 
-  -- After a whole poll the client has taken the answer and drawn its return, and has two empty slots in hand. The states
-  -- are named by the last step: the answer is taken, its slot is emptied, the call is over.
+  -- After a whole poll the client has taken the answer and drawn its return, and has two empty slots in hand. The last
+  -- step names each seat: the answer was taken, its slot emptied, and the call is over.
   pub poll_turn : (t : ℕ) {q : AnyRequest} {e : Answer R} (l : List AnyEntry)
       {taken emptied over : Me (Slot S O R) DeskView} → IsClient op_in reply_in number calls quota true j m
       → m.0.own ≡ own.Waiting q

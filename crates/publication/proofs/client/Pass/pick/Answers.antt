@@ -30,9 +30,7 @@ pub invariant_of-result : goal.invariant_of-result
 invariant_of-result g c =
     let t = ((c.look_and_exchange-found.ensures.tried _ c.args.row _ c.self.invariant.0.holds refl).1
     (search rules)).0 in (
-      pass_after_row_miss g.S.SeqObject.content g.S.SeqObject.op_in g.S.SeqObject.reply_in _ _ _ _ _ _ _ _ _ _
-          c.self.invariant.0
-          t,
+      pass_after_row_miss _ _ _ _ _ _ _ _ _ c.self.invariant.0 t,
       own_still _ _ _ _ (ap (λ m. m.0.lists) t) c.self.invariant.1,
     )
 
@@ -49,8 +47,7 @@ exchange-requires g c =
 pub invariant_of-result-in-Request : goal.invariant_of-result-in-Request
 invariant_of-result-in-Request g c =
     let t = (c.look_and_exchange-found.ensures.tried _ c.args.row _ c.self.invariant.0.holds refl).0 (search rules) in (
-      hand_ok g.S.SeqObject.content g.S.SeqObject.op_in g.S.SeqObject.reply_in _ _ _ _ _ _ _ _ t.0 _ _ _ _
-          c.self.invariant.0 t.3 c.exchange.ensures.3
+      hand_ok _ _ _ _ _ _ _ _ _ c.self.invariant.0 t.3 c.exchange.ensures.3
           (same_request _ _ (sym (came_out _ _ _ _ _ (ap (λ m. m.1) t.3) c.exchange.ensures.2)
           ∙ c.in-Request.is)) t.1 t.2
           c.requires.row,

@@ -41,7 +41,7 @@ invariant_of-client g c =
     let o = (outstanding (sym c.is_outstanding.ensures ∙ c.if-not-is_outstanding.false) k).1 in
     let t = ((c.look_and_exchange-found.ensures.tried c.client.inside.number o.0 k.agrees.number_is refl o.1).1
     (search rules)).0 in (
-      client_after_miss g.S.SeqObject.content _ _ _ _ _ _ _ _ _ _ k t,
+      client_after_miss _ k t,
       own_still _ _ _ _ (ap (λ m. m.0.lists) t) c.client.invariant.1,
     )
 

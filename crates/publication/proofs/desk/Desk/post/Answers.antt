@@ -69,7 +69,6 @@ set_ticket-requires g c =
 
 pub store-requires : goal.store-requires
 store-requires g c = let k = before g (goal.at.store-requires g c).After-exchange in
-    let is = own_idle _ k.agrees.at_rest (sym k.agrees.outstanding_is) in
     let wide = c.self.invariant.0.0 in let low = k.agrees.number_low in let e = c.exchange.ensures.3 in let f =
     c.fetch_add-ticket.ensures.2 _ _ _ (ap (λ z. z.1) e) in let h =
     in_slot c.fetch_add-ticket.new.seat.me.0 (16 + c.client.inside.number) _ _ (rest c.fetch_add-ticket.new.seat.me.1)
@@ -87,7 +86,7 @@ store-requires g c = let k = before g (goal.at.store-requires g c).After-exchang
 pub note_invoked-requires-clause-room : goal.note_invoked-requires-clause-room
 note_invoked-requires-clause-room g c = let k = before g (goal.at.note_invoked-requires-clause-room g c).After-exchange
     in
-    let is = own_idle _ k.agrees.at_rest (sym k.agrees.outstanding_is) in let count = k.agrees.calls_is in
+    let count = k.agrees.calls_is in
     let left = calls_left g (goal.at.note_invoked-requires-clause-room g c).After-exchange in
     room_to_call k.agrees (omega arith)
 
@@ -97,7 +96,6 @@ note_invoked-requires-clause-calls g c = let count = c.client.invariant.0.agrees
 
 pub invariant_of-client : goal.invariant_of-client
 invariant_of-client g c = let k = before g (goal.at.invariant_of-client g c).After-exchange in
-    let is = own_idle _ k.agrees.at_rest (sym k.agrees.outstanding_is) in
     let e = c.exchange.ensures.3 in let f = c.fetch_add-ticket.ensures.2 _ _ _ (ap (λ z. z.1) e) in let h =
     in_slot c.fetch_add-ticket.new.seat.me.0 (16 + c.client.inside.number) _ _ (rest c.fetch_add-ticket.new.seat.me.1)
     (c.set_ticket.ensures _ (came_out _ _ _ _ _ (ap (λ z. z.1) f ∙ ap (λ z. z.1) e) c.slot_mut.ensures.value)) in
@@ -122,7 +120,6 @@ invariant_of-client g c = let k = before g (goal.at.invariant_of-client g c).Aft
 
 pub returns-clause-posted : goal.returns-clause-posted
 returns-clause-posted g c = let k = before g (goal.at.returns-clause-posted g c).After-exchange in
-    let is = own_idle _ k.agrees.at_rest (sym k.agrees.outstanding_is) in
     let e = c.exchange.ensures.3 in let f = c.fetch_add-ticket.ensures.2 _ _ _ (ap (λ z. z.1) e) in let h =
     in_slot c.fetch_add-ticket.new.seat.me.0 (16 + c.client.inside.number) _ _ (rest c.fetch_add-ticket.new.seat.me.1)
     (c.set_ticket.ensures _ (came_out _ _ _ _ _ (ap (λ z. z.1) f ∙ ap (λ z. z.1) e) c.slot_mut.ensures.value)) in

@@ -35,7 +35,7 @@ invariant_of-result g c =
     let there = subst (λ z. c.args.object < length z)
     (sym (ap (λ k. k.desk.kinds) c.client.view_is ∙ ap (λ d. d.kinds) c.requires.desk)) c.requires.object in
     let t = (c.look_and_exchange-found.ensures.tried there).1 c.if-found-ne0.true in (
-      client_after_miss g.S.SeqObject.content _ _ _ _ _ _ _ _ _ _ c.client.invariant.0 t,
+      client_after_miss _ c.client.invariant.0 t,
       own_still _ _ _ _ (ap (λ m. m.0.lists) t) c.client.invariant.1,
     )
 
@@ -53,8 +53,7 @@ invariant_of-result-in-Core g c =
     let t = (c.look_and_exchange-found.ensures.tried there).0 c.if-found-ne0.false in let e = c.exchange.ensures in
     let few = c.self.invariant.0.5 in
     let low : c.args.object < length c.self.inside.kinds.items = search rules in (
-      pass_after_win g.S.SeqObject.content g.S.SeqObject.op_in g.S.SeqObject.reply_in _ _ _ _ _ _ t.0 _ _ _ _ _
-          c.client.invariant.0 t.2 e.3
+      pass_after_win _ _ _ _ _ _ _ _ _ c.client.invariant.0 t.2 e.3
           (same_core _ _ (sym c.in-Core.is ∙ came_out _ _ _ _ _ (ap (λ m. m.1) t.2) e.2)) t.3 (omega arith),
       own_still _ _ _ _ (ap (λ m. m.0.lists) e.3 ∙ ap (λ m. m.0.lists) t.2) c.client.invariant.1,
     )
