@@ -14,7 +14,7 @@ use Rattle.desk_model.specs.declared.JournalEvent.TheVariants.{Returned}
 use Rattle.desk_model.specs.World.{AnyRequest, AnyAnswer, AnyDone, AnyEvent, World, Stage, AnyEntry, kind_at, logged}
 use Rattle.desk_model.specs.World.{Serves, request_of, invoked, calls_made, journal_of, journal_in, Replays}
 use Rattle.desk_model.specs.Transitions.{Step, Takes, Transition, MayEnd, HoldsNothing, changed, staged, ticked}
-use Rattle.desk_model.specs.Transitions.{held_by, handed, ended_by, served_by, draw_call, draw_return, answer, win}
+use Rattle.desk_model.specs.Transitions.{held_by, handed, served_by, draw_call, draw_return, answer, win}
 use Rattle.desk_model.specs.Transitions.{release, end}
 use Rattle.desk_model.proofs.Changed.{changed_here, changed_else, changed_all}
 use Rattle.machine.specs.declared.step.Stage.TheVariants.{Idle, Drawn, Answered}
@@ -85,43 +85,37 @@ module _ {contents : List Content} {s : State} (m : IsMachine contents s) (c : �
       → Transition s.kinds s.quota w (world_of s) c after
   moves_on w after t = let low = go.0 in let few = m.few_clients in (omega arith, go.1, is_there s.stages c low, t)
 
-  pub kept : (contents' : List Content) (s' : State) (w : Step) → IsLike s s'
-      → Takes s.kinds s.quota w (world_of s) c (world_of s') → Keeps contents' s'
-      → Leaves contents' s c w s'
-  kept contents' s' w like takes keeps =
-      let moved : Transition s.kinds s.quota w (world_of s) c (world_of s') = moves_on w (world_of s') takes in
-      let ek = like.kinds in let eq = like.quota in let el = like.logs in let eh = like.holders in
-      let ea = like.hands in let es = like.stages in let ej = like.journals in let ee = like.ended in
-      let ml = m.logs in let mh = m.holders in let ma = m.hands in let mj = m.journals in let me = m.ended in
-      let fo = m.few_objects in let fc = m.few_clients in let fq = m.few_calls in
-      let same_kinds : length s'.kinds ≡ length s.kinds = ap (λ (ks : List Kind). length ks) ek in
-      let run : IsWorldOfRun s.kinds (length s.stages) s.quota (world_of s') =
-      run_more s.kinds (clients_of s) s.quota w (world_of s) (world_of s') c m.run moved in (
+  kept : (w : Step) {contents' : List Content} {s' : State} {after : World} → world_of s' ≡ after
+      → Takes s.kinds s.quota w (world_of s) c after → IsLike s s' → Keeps contents' s' → Leaves contents' s c w s'
+  kept w {contents'} {s'} is takes like keeps =
+      let moved : Transition s.kinds s.quota w (world_of s) c (world_of s') = rw is (moves_on w _ takes) in
+      let same_kinds : length s'.kinds ≡ length s.kinds = ap (λ (ks : List Kind). length ks) like.kinds in
+      let run = run_more s.kinds (clients_of s) s.quota w (world_of s) (world_of s') c m.run moved in (
         record {
           kinds = keeps.kinds;
-          logs = omega arith;
-          holders = omega arith;
-          hands = omega arith;
-          journals = omega arith;
-          ended = omega arith;
-          few_objects = omega arith;
-          few_clients = omega arith;
-          few_calls = omega arith;
+          logs = like.logs ∙ m.logs ∙ sym same_kinds;
+          holders = like.holders ∙ m.holders ∙ sym same_kinds;
+          hands = like.hands ∙ m.hands ∙ sym same_kinds;
+          journals = like.journals ∙ m.journals ∙ sym like.stages;
+          ended = like.ended ∙ m.ended ∙ sym like.stages;
+          few_objects = rw same_kinds m.few_objects;
+          few_clients = rw like.stages m.few_clients;
+          few_calls = rw like.quota m.few_calls;
           fits = keeps.fits;
           journals_are = keeps.journals_are;
           single = keeps.single;
-          run = rw (ek, eq, es) run;
+          run = rw (like.kinds, like.quota, like.stages) run;
         },
-        record { moves = moved; kinds = ek; clients = es; quota = eq },
+        record { moves = moved; kinds = like.kinds; clients = like.stages; quota = like.quota },
       )
 
-  -- the same request, of each client
-  requests_staged : (s' : State) (r : ℕ) (t : Stage) → (world_of s').stage ≡ changed (world_of s).stage r t
+  -- Where only the stage of r is written, and its request stays, the journals are those of the world.
+  journals_stay : (s' : State) (r : ℕ) (t : Stage) → (world_of s').stage ≡ changed (world_of s).stage r t
       → request_of t ≡ request_of ((world_of s).stage r) → (j : ℕ)
-      → request_of ((world_of s).stage j) ≡ request_of ((world_of s').stage j)
-  requests_staged s' r t is same j =
-      changed_all (λ k v. request_of ((world_of s).stage k) ≡ request_of v) (world_of s).stage r t (sym same)
-      (λ k _. refl) j ∙ ap (λ (f : ℕ → Stage). request_of (f j)) (sym is)
+      → get_or s.journals j [] ≡ journal_of (done_in (get_or s.journals j [])) (request_of ((world_of s').stage j))
+  journals_stay s' r t is same j = m.journals_are j ∙ ap (journal_of (done_in (get_or s.journals j [])))
+      (changed_all (λ k v. request_of ((world_of s).stage k) ≡ request_of v) (world_of s).stage r t (sym same)
+      (λ k _. refl) j ∙ ap (λ (f : ℕ → Stage). request_of (f j)) (sym is))
 
   -- ---- the steps that write a stage, a holder or an end
 
@@ -131,18 +125,12 @@ module _ {contents : List Content} {s : State} (m : IsMachine contents s) (c : �
       → request_of (stage_of t) ≡ request_of ((world_of s).stage c)
       → Leaves contents s c w (record s { stages = set s.stages c t })
   staged_now t w takes same =
-      let s' : State = record s { stages = set s.stages c t } in
-      let is : world_of s' ≡ staged (world_of s) c (stage_of t) = world-staged s c t go.0 in
-      kept contents s' w
-      (assumption (length-set s.stages c t))
-      (subst (Takes s.kinds s.quota w (world_of s) c) (sym is) takes)
-      (record {
+      let is = world-staged s c t go.0 in kept w is takes (assumption (length-set s.stages c t)) (record {
         kinds = m.kinds;
         fits = m.fits;
         single = m.single;
-        journals_are = λ j. m.journals_are j
-            ∙ ap (journal_of (done_in (get_or s.journals j [])))
-            (requests_staged s' c (stage_of t) (ap (λ (z : World). z.stage) is) same j);
+        journals_are =
+            journals_stay (record s { stages = set s.stages c t }) c (stage_of t) (ap (λ (z : World). z.stage) is) same;
       })
 
   -- An object goes to another holder, or to none.
@@ -152,12 +140,7 @@ module _ {contents : List Content} {s : State} (m : IsMachine contents s) (c : �
       → changed (λ k. get_or s.holders k None) x h z ≡ Some d → y ≡ z)
       → Leaves contents s c w (record s { holders = set s.holders x h })
   held_now x h w low takes single =
-      let s' : State = record s { holders = set s.holders x h } in
-      let is : world_of s' ≡ held_by (world_of s) x h = world-held s x h low in
-      kept contents s' w
-      (assumption (length-set s.holders x h))
-      (subst (Takes s.kinds s.quota w (world_of s) c) (sym is) takes)
-      (record {
+      kept w (world-held s x h low) takes (assumption (length-set s.holders x h)) (record {
         kinds = m.kinds;
         fits = m.fits;
         journals_are = m.journals_are;
@@ -199,14 +182,9 @@ module _ {contents : List Content} {s : State} (m : IsMachine contents s) (c : �
   pub end_now : MayEnd ((world_of s).stage c) → HoldsNothing (world_of s) c
       → Leaves contents s c end (record s { ended = set s.ended c true })
   end_now may nothing =
-      let s' : State = record s { ended = set s.ended c true } in
-      let low = go.0 in let long = m.ended in let within : c < length s.ended = omega arith in
-      let is : world_of s' ≡ ended_by (world_of s) c = world-ended s c within in
-      kept contents s' end
-      (assumption (length-set s.ended c true))
-      (subst (Takes s.kinds s.quota end (world_of s) c) (sym is)
-      (record { may_end = may; holds_nothing = nothing; after = refl }))
-      assumption
+      let low = go.0 in let long = m.ended in
+      kept end (world-ended s c (omega arith)) (record { may_end = may; holds_nothing = nothing; after = refl })
+      (assumption (length-set s.ended c true)) assumption
 
   -- ---- the steps that draw a ticket
 
@@ -220,9 +198,7 @@ module _ {contents : List Content} {s : State} (m : IsMachine contents s) (c : �
       let s' : State = record s { clock = s.clock + 1; stages = set s.stages c t; journals = set s.journals c js } in
       let low = go.0 in let long = m.journals in let within : c < length s.journals = omega arith in
       let is : world_of s' ≡ ticked (world_of s) c (stage_of t) (done_in js) = world-ticked s c t js go.0 within in
-      kept contents s' w
-      (assumption (length-set s.stages c t, length-set s.journals c js))
-      (subst (Takes s.kinds s.quota w (world_of s) c) (sym is) takes)
+      kept w is takes (assumption (length-set s.stages c t, length-set s.journals c js))
       (record { kinds = m.kinds; fits = m.fits; single = m.single; journals_are = λ j. each s' is within j })
     where
       IsOwn : List AnyEvent → Stage → Type 0
@@ -293,18 +269,12 @@ module _ {contents : List Content} {s : State} (m : IsMachine contents s) (c : �
       → Leaves contents s c w (record s { hands = set s.hands x h; stages = set s.stages r t })
   handed_now x h r t w low within takes same =
       let s' : State = record s { hands = set s.hands x h; stages = set s.stages r t } in
-      let long = m.hands in
-      let is : world_of s' ≡ handed (world_of s) x h r (stage_of t) = world-handed s x h r t (omega arith) within in
-      kept contents s' w
-      (assumption (length-set s.hands x h, length-set s.stages r t))
-      (subst (Takes s.kinds s.quota w (world_of s) c) (sym is) takes)
-      (record {
+      let long = m.hands in let is = world-handed s x h r t (omega arith) within in
+      kept w is takes (assumption (length-set s.hands x h, length-set s.stages r t)) (record {
         kinds = m.kinds;
         fits = m.fits;
         single = m.single;
-        journals_are = λ j. m.journals_are j
-            ∙ ap (journal_of (done_in (get_or s.journals j [])))
-            (requests_staged s' r (stage_of t) (ap (λ (z : World). z.stage) is) same j);
+        journals_are = journals_stay s' r (stage_of t) (ap (λ (z : World). z.stage) is) same;
       })
 
   -- The client answers the request in hand: the object contains what the operation leaves, and the log has the answer.
@@ -332,14 +302,8 @@ module _ {contents : List Content} {s : State} (m : IsMachine contents s) (c : �
       -- the log of the object replays to what it contains
       let replays : Replays (empty (kind_at s.kinds x)) (get_or s.logs x []) before =
       subst (λ (k : Kind). Replays (empty k) (get_or s.logs x []) before) (sym kind) (m.fits x before at) in
-      kept (set contents x after) s' answer
-      (assumption (
-        length-set s.logs x (get_or s.logs x [] ++ logged r q a),
-        length-set s.hands x None,
-        length-set s.stages r (Answered q a),
-      ))
+      kept answer is
       -- the step is an answer to the request in hand
-      (subst (Takes s.kinds s.quota answer (world_of s) c) (sym is)
       (record {
         object = x;
         row = r;
@@ -351,18 +315,21 @@ module _ {contents : List Content} {s : State} (m : IsMachine contents s) (c : �
         possible = can;
         serves = serves;
         after = refl;
-      }))
+      })
+      (assumption (
+        length-set s.logs x (get_or s.logs x [] ++ logged r q a),
+        length-set s.hands x None,
+        length-set s.stages r (Answered q a),
+      ))
+      -- the new state keeps what a machine has to keep
       (record {
-        -- the new state keeps what a machine has to keep
         kinds = m.kinds ∙ sym (map-set_same_at kind_with contents x after before at same);
         fits = fits_served x r q before after a at there kind same
             (replays_more (empty (kind_with before)) before after (get_or s.logs x []) r q a
             (m.fits x before at) serves);
         single = m.single;
-        journals_are = λ j. m.journals_are j
-            ∙ ap (journal_of (done_in (get_or s.journals j [])))
-            (requests_staged s' r (world.answered q a) (ap (λ (z : World). z.stage) is)
-            (ap request_of (sym stage)) j);
+        journals_are = journals_stay s' r (world.answered q a) (ap (λ (z : World). z.stage) is)
+            (ap request_of (sym stage));
       })
     where
       fits_served : (x r : ℕ) (q : AnyRequest) (before after : Content) (a : AnyAnswer)

@@ -20,39 +20,40 @@ use Rattle.machine.proofs.WorldRuns.{run_sound}
 
 module _ {S O R : Type 0} (content : S → Content) (op_in : O → AnyOp) (reply_in : R → AnyReply) (m : Inside S O R)
     (is : IsMachine (map content m.objects.items) (state_in content op_in reply_in m)) where
-  journals_in : (c : ℕ) → map (event_in op_in reply_in) (get_or (items_of_each m.journals.items) c [])
-      ≡ journal_in (world_of (state_in content op_in reply_in m)) c
+  -- the state by the fields, and its journals and logs
+  abbrev fields : State
+  fields = state_in content op_in reply_in m
+
+  abbrev journals : ℕ → List AnyEvent
+  journals c = map (event_in op_in reply_in) (get_or (items_of_each m.journals.items) c [])
+
+  abbrev logs : ℕ → List AnyEntry
+  logs x = map (entry_in op_in reply_in) (get_or (items_of_each m.logs.items) x [])
+
+  journals_in : (c : ℕ) → journals c ≡ journal_in (world_of fields) c
   journals_in c = sym (ListN.get_or-map (map (event_in op_in reply_in)) (items_of_each m.journals.items) c [])
       ∙ is.journals_are c
 
-  logs_in : (x : ℕ) → map (entry_in op_in reply_in) (get_or (items_of_each m.logs.items) x [])
-      ≡ (world_of (state_in content op_in reply_in m)).log x
+  logs_in : (x : ℕ) → logs x ≡ (world_of fields).log x
   logs_in x = sym (ListN.get_or-map (map (entry_in op_in reply_in)) (items_of_each m.logs.items) x [])
 
-  sound_in : IsSoundRecord (state_in content op_in reply_in m).kinds (state_in content op_in reply_in m).quota
-      (λ c. map (event_in op_in reply_in) (get_or (items_of_each m.journals.items) c []))
-      (λ x. map (entry_in op_in reply_in) (get_or (items_of_each m.logs.items) x []))
+  sound_in : IsSoundRecord fields.kinds fields.quota journals logs
   sound_in =
-      let s = state_in content op_in reply_in m in
-      subst (λ (js : ℕ → List AnyEvent). IsSoundRecord s.kinds s.quota js
-      (λ x. map (entry_in op_in reply_in) (get_or (items_of_each m.logs.items) x []))) (λ i c. sym (journals_in c) i)
-      (subst (λ (ls : ℕ → List AnyEntry). IsSoundRecord s.kinds s.quota (journal_in (world_of s)) ls)
-      (λ i x. sym (logs_in x) i)
-      (sound_record s.kinds s.quota (world_of s) (run_sound s.kinds (clients_of s) s.quota (world_of s) is.run)))
+      subst (λ (js : ℕ → List AnyEvent). IsSoundRecord fields.kinds fields.quota js logs) (λ i c. sym (journals_in c) i)
+      (subst (IsSoundRecord fields.kinds fields.quota (journal_in (world_of fields))) (λ i x. sym (logs_in x) i)
+      (sound_record fields.kinds fields.quota (world_of fields)
+      (run_sound fields.kinds (clients_of fields) fields.quota (world_of fields) is.run)))
 
   pub is_record_in : IsRecordOf op_in reply_in (recorded m.journals.items m.logs.items)
   is_record_in =
-      let s = state_in content op_in reply_in m in
       let low = is.few_calls in
-      let long : length (items_of_each m.logs.items) ≡ length s.kinds =
+      let long : length (items_of_each m.logs.items) ≡ length fields.kinds =
       sym (length-map (items_of_each m.logs.items) (map (entry_in op_in reply_in))) ∙ is.logs in
-      subst (λ (n : ℕ). IsRecord n (λ c. map (event_in op_in reply_in) (get_or (items_of_each m.journals.items) c []))
-      (λ x. map (entry_in op_in reply_in) (get_or (items_of_each m.logs.items) x []))) (sym long)
-      (is_record s.kinds s.quota (λ c. map (event_in op_in reply_in) (get_or (items_of_each m.journals.items) c []))
-      (λ x. map (entry_in op_in reply_in) (get_or (items_of_each m.logs.items) x [])) sound_in low)
+      subst (λ (n : ℕ). IsRecord n journals logs) (sym long)
+      (is_record fields.kinds fields.quota journals logs sound_in low)
 
   -- the same of the state under another name, and of the record that was made
-  module _ (now : State) (same : state_in content op_in reply_in m ≡ now) (r : Recorded O R)
+  module _ {now : State} (same : fields ≡ now) {r : Recorded O R}
       (made : r ≡ record { journals = items_of_each m.journals.items; logs = items_of_each m.logs.items }) where
     pub journals_are : (c : ℕ) → map (event_in op_in reply_in) (journal_at r c) ≡ journal_in (world_of now) c
     journals_are c = ap (λ (z : Recorded O R). map (event_in op_in reply_in) (journal_at z c)) made ∙ journals_in c

@@ -113,14 +113,13 @@ kinds_twice content (o ∷ os) = ap (λ ks. kind_with (content o) ∷ ks) (kinds
 
 -- the fields of a new machine are those of the start
 pub made_start : {S O R : Type 0} (content : S → Content) (op_in : O → AnyOp) (reply_in : R → AnyReply)
-    (objects : List S) (n m quota : ℕ)
-    (logs : List (List (LogEntry O R))) (holders hands : List (Option ℕ)) (stages : List (Stage O R))
-    (journals : List (List (JournalEvent O R))) (ended : List Bool)
+    (objects : List S) (n m quota : ℕ) {logs : List (List (LogEntry O R))} {holders hands : List (Option ℕ)}
+    {stages : List (Stage O R)} {journals : List (List (JournalEvent O R))} {ended : List Bool}
     → logs ≡ replicate n [] → holders ≡ replicate n None → hands ≡ replicate n None → stages ≡ replicate m Idle
     → journals ≡ replicate m [] → ended ≡ replicate m false
     → state_of content op_in reply_in objects logs holders hands stages journals ended 0 quota
     ≡ start_state (map kind_with (map content objects)) n m quota
-made_start content op_in reply_in objects n m quota logs holders hands stages journals ended l h a s j e = λ i. record {
+made_start content op_in reply_in objects n m quota l h a s j e = λ i. record {
   kinds = kinds_twice content objects i;
   logs = (ap (map (map (entry_in op_in reply_in))) l ∙ map-copies (map (entry_in op_in reply_in)) n []) i;
   holders = h i;

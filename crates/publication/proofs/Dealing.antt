@@ -8,10 +8,11 @@ use Rattle.std.specs.declared.vec.Vec.{Vec}
 use Rattle.std.proofs.lemmas.List.{map-append}
 use Rattle.atomic_table.specs.Seated.{TableId}
 use Rattle.atomic_table.proofs.Lists.{at_map}
+use Rattle.model.specs.declared.Kind.{Kind}
 use Rattle.publication_list.specs.declared.list_table.Enlist.{Enlist}
 use Rattle.publication_list.specs.Calls.{PlaceSeen, WalkerSeen}
 use Rattle.publication_list.specs.Dealing.{AreGrown, HaveRoom}
-use Rattle.publication.specs.Handles.{trying, fresh_places, ArePlacesOf}
+use Rattle.publication.specs.Handles.{DeskId, trying, fresh_places, ArePlacesOf}
 use Rattle.publication.specs.Making.{HasPlaces, AreDealt, rosters_of}
 use Rattle.publication.proofs.Growing.{there}
 
@@ -46,6 +47,14 @@ pub still_own : (c i : ℕ) (e : Enlist) (lists : List TableId) (ps : List Place
     → ArePlacesOf c lists (trying i e ps)
 still_own c i e lists ps k = record
     { rows = same_map (λ p. p.row) (λ p ts. refl) i e ps ∙ k.rows; lists_are = same_rosters i e ps ∙ k.lists_are }
+
+abbrev desk_of : TableId → ℕ → List Kind → List PlaceSeen → DeskId
+desk_of table quota kinds places = record { table = table; quota = quota; kinds = kinds; lists = rosters places }
+
+-- a desk of the same table, quota, kinds and places is the same
+pub same_desk : {d : DeskId} {t t' : TableId} {n n' : ℕ} {ks ks' : List Kind} {ps ps' : List PlaceSeen} → t' ≡ t
+    → n' ≡ n → ks' ≡ ks → ps' ≡ ps → desk_of t n ks ps ≡ d → desk_of t' n' ks' ps' ≡ d
+same_desk table quota kinds places is = (λ i. desk_of (table i) (quota i) (kinds i) (places i)) ∙ is
 
 -- the same lists under another name
 pub own_still : (c : ℕ) (ls ls' : List TableId) (ps : List PlaceSeen) → ls' ≡ ls → ArePlacesOf c ls ps

@@ -13,7 +13,7 @@ use Rattle.desk_invariant.specs.declared.board.DeskView.{DeskView}
 use Rattle.desk_invariant.specs.Views.{seen_of, after_meet, IsAccount}
 use Rattle.publication.specs.Handles.{DeskId, Known, IsClient}
 use Rattle.publication.specs.Calls.{HaveBothMet}
-use Rattle.publication.proofs.Holds.{agrees_light, agrees_seeing}
+use Rattle.publication.proofs.Holds.{agrees_seeing}
 
 module _ {S O R : Type 0} (op_in : O → AnyOp) (reply_in : R → AnyReply) (number calls quota : ℕ) (outstanding : Bool)
     (j : Journal O R) where
@@ -27,7 +27,7 @@ module _ {S O R : Type 0} (op_in : O → AnyOp) (reply_in : R → AnyReply) (num
       → d ≡ (after_meet x l (record m.0 { received = h }), m.1) → TheClient d
   met_ok x l h m d k low legal account e =
       rw e record {
-        agrees = agrees_seeing x l low legal account (agrees_light k.agrees);
+        agrees = assumption (agrees_seeing x l low legal account k.agrees);
         free = k.free;
         in_hand = k.in_hand;
       }

@@ -15,7 +15,6 @@ use Rattle.desk_invariant.specs.Views.{after_end_seen, after_end_unset}
 use Rattle.publication.specs.Handles.{DeskSeen, Known, IsClient}
 use Rattle.publication.specs.Calls.{IsStillThere}
 use Rattle.publication.specs.Closing.{HaveEnded, HasLearntEnds}
-use Rattle.publication.proofs.Holds.{agrees_light}
 
 -- one of two views, as the word was 1 or not
 pub either_view : (found d : ℕ) (v v' w : DeskView) → v ≡ v' → (found ≡ 1 → w ≡ after_end_seen d v)
@@ -60,7 +59,7 @@ module _ {S O R : Type 0} (op_in : O → AnyOp) (reply_in : R → AnyReply) wher
       → m' ≡ (record m.0 { retired = retired; still_there = still_there }, m.1)
       → IsClient op_in reply_in number calls quota outstanding j m'
   watching number calls quota outstanding j m m' retired still_there k e =
-      rw e record { agrees = agrees_light k.agrees; free = k.free; in_hand = k.in_hand }
+      rw e record { agrees = assumption k.agrees; free = k.free; in_hand = k.in_hand }
 
   pub watching_ok : (number calls quota : ℕ) (outstanding : Bool) (j : Journal O R) (found d : ℕ)
       (m m' : Me (Slot S O R) DeskView) → IsClient op_in reply_in number calls quota outstanding j m

@@ -2,7 +2,7 @@
 use mathlib.Core.Option as maybe
 use mathlib.Core.Option.{some}
 use lib.ListN.{get_elem?, length-map}
-use Rattle.std.proofs.Common.{◌≡◌, ℕ, ◌+◌, ◌-◌, ◌<◌, ◌≤◌, Bool, List, [], ◌∷◌, ◌++◌, length, length-append, get_or}
+use Rattle.std.proofs.Common.{◌≡◌, ℕ, ◌+◌, ◌-◌, ◌<◌, ◌≤◌, Bool, List, ◌∷◌, ◌++◌, length, length-append}
 use Rattle.std.proofs.Common.{vec_len, vec_capacity, refl, sym, ap, ◌∙◌, arith, length-set}
 use Rattle.atomic_table.specs.Table.{rest, Me}
 use Rattle.atomic_table.specs.Seated.{TableId}
@@ -18,11 +18,8 @@ use Rattle.desk_model.specs.Images.{request_in, answer_in, entry_in}
 use Rattle.desk_model.proofs.Entries.{replays_more}
 use Rattle.desk_invariant.specs.declared.board.Core.{Core}
 use Rattle.desk_invariant.specs.declared.board.Journal.{Journal}
-use Rattle.desk_invariant.specs.declared.board.Leaving.{Leaving}
-use Rattle.desk_invariant.specs.declared.board.PutBack.{PutBack}
 use Rattle.desk_invariant.specs.declared.board.Slot.{Slot}
 use Rattle.desk_invariant.specs.declared.board.Slot.TheVariants as slot
-use Rattle.desk_invariant.specs.declared.board.Held.{Held}
 use Rattle.desk_invariant.specs.declared.board.Held.TheVariants as held
 use Rattle.desk_invariant.specs.declared.board.Role.TheVariants as role
 use Rattle.desk_invariant.specs.declared.board.DeskView.{DeskView}
@@ -34,55 +31,18 @@ use Rattle.publication.specs.Handles.{Agrees, log_of, IsClient, IsPass, IsHand}
 
 -- ---- what may change in a view with which the fields agree
 
-module _ {O R : Type 0} {op_in : O → AnyOp} {reply_in : R → AnyReply} {number calls quota : ℕ} {outstanding : Bool}
-    {j : Journal O R} {v : DeskView} where
-  -- the client has seen other lists
-  agrees_seen : {seen received : List (List AnyEntry)} {h : Held} {back : List PutBack} {left : List Leaving}
-      {missed retired still_there : List ℕ}
-      {won : ℕ} {ready : Bool} → length seen ≡ 16 → ((x : ℕ) → IsLegalLog (kind_at v.kinds x) (get_or seen x []))
-      → ((x : ℕ) → IsAccount x v (get_or seen x [])) → Agrees op_in reply_in number calls quota outstanding j v
-      → Agrees op_in reply_in number calls quota outstanding j
-      (record v {
-        seen = seen;
-        received = received;
-        held = h;
-        back = back;
-        left = left;
-        missed = missed;
-        won = won;
-        retired = retired;
-        still_there = still_there;
-        ready = ready;
-      })
-  agrees_seen wide legal accounts k = assumption (wide, legal, accounts, k)
-
-  -- what a client was told, holds, has put back, has missed, how often it won, and what it knows of ends and of its
-  -- row does not matter
-  pub agrees_light : {received : List (List AnyEntry)} {h : Held} {back : List PutBack} {left : List Leaving}
-      {missed retired still_there : List ℕ}
-      {won : ℕ} {ready : Bool} → Agrees op_in reply_in number calls quota outstanding j v
-      → Agrees op_in reply_in number calls quota outstanding j
-      (record v {
-        received = received;
-        held = h;
-        back = back;
-        left = left;
-        missed = missed;
-        won = won;
-        retired = retired;
-        still_there = still_there;
-        ready = ready;
-      })
-  agrees_light k = agrees_seen k.wide k.legal k.accounts k
-
-  -- the client sees the list l of x
-  pub agrees_seeing : (x : ℕ) (l : List AnyEntry) → x < 16 → IsLegalLog (kind_at v.kinds x) l → IsAccount x v l
-      → Agrees op_in reply_in number calls quota outstanding j v
-      → Agrees op_in reply_in number calls quota outstanding j (after_meet x l v)
-  agrees_seeing x l low legal account k = let wide = k.wide in
-      agrees_seen (length-set v.seen x l ∙ wide)
-      (seen_all (λ y z. IsLegalLog (kind_at v.kinds y) z) v.seen x l (omega arith) legal (λ y _. k.legal y))
-      (seen_all (λ y z. IsAccount y v z) v.seen x l (omega arith) account (λ y _. k.accounts y)) k
+-- The client sees the list l of x. `Agrees` says nothing of what it was told, holds, has put back or has missed, how
+-- often it won, and what it knows of ends and of its row: `assumption` proves it where only these change.
+pub agrees_seeing : {O R : Type 0} {op_in : O → AnyOp} {reply_in : R → AnyReply} {number calls quota : ℕ}
+    {outstanding : Bool} {j : Journal O R} {v : DeskView} (x : ℕ) (l : List AnyEntry) → x < 16
+    → IsLegalLog (kind_at v.kinds x) l → IsAccount x v l → Agrees op_in reply_in number calls quota outstanding j v
+    → Agrees op_in reply_in number calls quota outstanding j (after_meet x l v)
+agrees_seeing {v = v} x l low legal account k = let wide = k.wide in assumption (
+  length-set v.seen x l ∙ wide,
+  seen_all (λ y z. IsLegalLog (kind_at v.kinds y) z) v.seen x l (omega arith) legal (λ y _. k.legal y),
+  seen_all (λ y z. IsAccount y v z) v.seen x l (omega arith) account (λ y _. k.accounts y),
+  k,
+)
 
 -- ---- the core after one more request
 
@@ -120,6 +80,13 @@ module _ {S O R : Type 0} (content : S → Content) (op_in : O → AnyOp) (reply
     fits.2 ∙ ap (λ (l : WalkerSeen). some l.roster) (sym same),
   )
 
+-- after a miss the client's fields still agree with what it knows
+pub client_after_miss : {S O R : Type 0} {op_in : O → AnyOp} {reply_in : R → AnyReply} {number calls quota : ℕ}
+    {outstanding : Bool} {j : Journal O R} (i : ℕ) {m d : Me (Slot S O R) DeskView}
+    → IsClient op_in reply_in number calls quota outstanding j m → d ≡ (after_miss i m.0, m.1)
+    → IsClient op_in reply_in number calls quota outstanding j d
+client_after_miss i k e = rw e record { agrees = assumption k.agrees; free = k.free; in_hand = k.in_hand }
+
 module _ {S O R : Type 0} (content : S → Content) (op_in : O → AnyOp) (reply_in : R → AnyReply)
     (number calls quota : ℕ) (outstanding : Bool) (j : Journal O R) where
   abbrev M : Type 0
@@ -134,18 +101,14 @@ module _ {S O R : Type 0} (content : S → Content) (op_in : O → AnyOp) (reply
   abbrev TheHand : ℕ → Core S O R → ℕ → Request O → M → Type 0
   TheHand = IsHand content op_in reply_in number calls quota outstanding j
 
-  -- ---- a miss, a win and a release
-
-  -- after a miss the client's fields still agree with what it knows
-  pub client_after_miss : (i : ℕ) (m d : M) → TheClient m → d ≡ (after_miss i m.0, m.1) → TheClient d
-  client_after_miss i m d k e = rw e record { agrees = agrees_light k.agrees; free = k.free; in_hand = k.in_hand }
+  -- ---- a win and a release
 
   -- the core is out of its slot: m before, a after the win, b with nothing in the slot
-  pub pass_after_win : (x : ℕ) (k core : Core S O R) (l : List AnyEntry) (m a b : M) → TheClient m
+  pub pass_after_win : {x : ℕ} {k core : Core S O R} (l : List AnyEntry) {m a b : M} → TheClient m
       → a ≡ (after_win x l m.0, (x, slot.Core k) ∷ m.1) → b ≡ (a.0, (x, slot.Nothing) ∷ rest a.1) → core ≡ k
       → CoreFits content op_in reply_in (kind_at m.0.kinds x) (get_elem? m.0.lists x) k l → x < 16 → ThePass x core b
-  pass_after_win x k core l m a b c e f same fits low = rw (f, e, same) record {
-    agrees = agrees_light c.agrees;
+  pass_after_win {x} l c e f same fits low = rw (f, e, same) record {
+    agrees = assumption c.agrees;
     holds = ap (held.Pass x) (sym fits.0);
     in_hand = ap (λ z. (x, slot.Nothing) ∷ z) c.in_hand;
     fits = (refl, rw fits.0 fits.1, fits.2);
@@ -153,36 +116,37 @@ module _ {S O R : Type 0} (content : S → Content) (op_in : O → AnyOp) (reply
   }
 
   -- the client after its pass was put back: m before, a with the core in hand, b after the step
-  pub client_after_release : (x : ℕ) (core : Core S O R) (m a b : M) → ThePass x core m
+  pub client_after_release : {x : ℕ} {core : Core S O R} {m a b : M} → ThePass x core m
       → a ≡ (m.0, (x, slot.Core core) ∷ rest m.1) → b ≡ (after_release x (log_of op_in reply_in core) a.0, rest a.1)
       → IsAccount x a.0 (log_of op_in reply_in core) → TheClient b
-  client_after_release x core m a b p e f account = rw (f, e) record {
-    agrees = agrees_light
+  client_after_release {x} {core} p e f account = rw (f, e) record {
+    agrees = assumption
         (agrees_seeing x (log_of op_in reply_in core) p.low (content core.object, p.fits.1) (rw e at account) p.agrees);
     free = refl;
     in_hand = ap rest p.in_hand;
   }
 
   -- with the core in hand, the client may release
-  pub release_ready : (x : ℕ) (core : Core S O R) (m a : M) → ThePass x core m
+  pub release_ready : {x : ℕ} {core : Core S O R} {m a : M} → ThePass x core m
       → a ≡ (m.0, (x, slot.Core core) ∷ rest m.1)
       → (a.0.role ≡ role.Client) × (a.0.held ≡ held.Pass x (log_of op_in reply_in core))
       × (a.1 ≡ (x, slot.Core core) ∷ rest m.1)
       × CoreFits content op_in reply_in (kind_at a.0.kinds x) (get_elem? a.0.lists x) core (log_of op_in reply_in core)
       × IsAtRest a.0.own
-  release_ready x core m a p e = rw e (p.agrees.client_is, p.holds, refl, p.fits, p.agrees.at_rest)
+  release_ready p e = rw e (p.agrees.client_is, p.holds, refl, p.fits, p.agrees.at_rest)
 
   -- ---- misses at rows, and requests in hand
 
   -- with the request in hand again, the client may put it back
-  pub back_ready : (x : ℕ) (core : Core S O R) (r : ℕ) (p : Request O) (m b : M) → TheHand x core r p m
+  pub back_ready : {x : ℕ} {core : Core S O R} {r : ℕ} {p : Request O} {m b : M} → TheHand x core r p m
       → b ≡ (m.0, (16 + r, slot.Request p) ∷ rest m.1)
       → (b.0.role ≡ role.Client) × (b.0.held ≡ held.Hand x (log_of op_in reply_in core) r (request_in op_in p))
       × (b.1 ≡ (16 + r, slot.Request p) ∷ rest m.1)
-  back_ready x core r p m b h e = rw e (h.agrees.client_is, h.holds, refl)
+  back_ready h e = rw e (h.agrees.client_is, h.holds, refl)
 
   -- with the answer in hand, the client may answer
-  pub answer_ready : (x : ℕ) (k k' : Core S O R) (r : ℕ) (q : Request O) (a : Answer R) (m b : M) → TheHand x k r q m
+  pub answer_ready : {x : ℕ} {k : Core S O R} (k' : Core S O R) {r : ℕ} {q : Request O} {a : Answer R} {m b : M}
+      → TheHand x k r q m
       → b ≡ (m.0, (16 + r, slot.Answer a) ∷ rest m.1)
       → log_of op_in reply_in k' ≡ log_of op_in reply_in k ++ logged r (request_in op_in q) (answer_in reply_in a)
       → Serves (content k.object) (op_in q.op) (answer_in reply_in a) (content k'.object)
@@ -190,7 +154,7 @@ module _ {S O R : Type 0} (content : S → Content) (op_in : O → AnyOp) (reply
       × (b.1 ≡ (16 + r, slot.Answer a) ∷ rest m.1)
       × IsLegalLog (kind_at b.0.kinds x) (log_of op_in reply_in k
       ++ logged r (request_in op_in q) (answer_in reply_in a))
-  answer_ready x k k' r q a m b h e log did = rw e (
+  answer_ready {x} {k} k' {r} {q} {a} {m} h e log did = rw e (
     h.agrees.client_is,
     h.holds,
     refl,
@@ -202,11 +166,10 @@ module _ {S O R : Type 0} (content : S → Content) (op_in : O → AnyOp) (reply
   )
 
   -- a pass after a miss at a row
-  pub pass_after_row_miss : (x : ℕ) (core : Core S O R) (i : ℕ) (m b : M) → ThePass x core m
-      → b ≡ (after_row_miss i x m.0, m.1)
-      → ThePass x core b
-  pass_after_row_miss x core i m b p f = rw f record {
-    agrees = agrees_light p.agrees;
+  pub pass_after_row_miss : {x : ℕ} {core : Core S O R} (i : ℕ) {m b : M} → ThePass x core m
+      → b ≡ (after_row_miss i x m.0, m.1) → ThePass x core b
+  pass_after_row_miss i p f = rw f record {
+    agrees = assumption p.agrees;
     holds = p.holds;
     in_hand = p.in_hand;
     fits = p.fits;
@@ -214,12 +177,12 @@ module _ {S O R : Type 0} (content : S → Content) (op_in : O → AnyOp) (reply
   }
 
   -- the request q is out of its slot: a after the pick, b with nothing in the slot
-  pub hand_ok : (x : ℕ) (core : Core S O R) (r : ℕ) (q p : Request O) (m a b : M) → ThePass x core m
+  pub hand_ok : {x : ℕ} {core : Core S O R} (r : ℕ) {q p : Request O} {m a b : M} → ThePass x core m
       → a ≡ (after_pick x (log_of op_in reply_in core) r (request_in op_in q) m.0, (16 + r, slot.Request q) ∷ m.1)
       → b ≡ (a.0, (16 + r, slot.Nothing) ∷ rest a.1) → q ≡ p → q.object ≡ x
       → kind_of (op_in q.op) ≡ kind_at m.0.kinds x → r < 32 → TheHand x core r p b
-  hand_ok x core r q p m a b k e f same on of_kind low = rw (f, e, ← same) record {
-    agrees = agrees_light k.agrees;
+  hand_ok r k e f same on of_kind low = rw (f, e, ← same) record {
+    agrees = assumption k.agrees;
     holds = refl;
     in_hand = ap (λ z. (16 + r, slot.Nothing) ∷ z) k.in_hand;
     fits = k.fits;
@@ -230,11 +193,11 @@ module _ {S O R : Type 0} (content : S → Content) (op_in : O → AnyOp) (reply
   }
 
   -- the request is back in its row: b with the request in its slot, d after the step
-  pub back_ok : (x : ℕ) (core : Core S O R) (r : ℕ) (p : Request O) (m b d : M) → TheHand x core r p m
+  pub back_ok : {x : ℕ} {core : Core S O R} {r : ℕ} {p : Request O} {m b d : M} → TheHand x core r p m
       → b ≡ (m.0, (16 + r, slot.Request p) ∷ rest m.1)
       → d ≡ (after_put_back x (log_of op_in reply_in core) r (request_in op_in p) b.0, rest b.1) → ThePass x core d
-  back_ok x core r p m b d h e f = rw (f, e) record {
-    agrees = agrees_light h.agrees;
+  back_ok h e f = rw (f, e) record {
+    agrees = assumption h.agrees;
     holds = refl;
     in_hand = ap rest h.in_hand;
     fits = h.fits;
@@ -242,18 +205,19 @@ module _ {S O R : Type 0} (content : S → Content) (op_in : O → AnyOp) (reply
   }
 
   -- the pass after an answer: b with the answer in hand, d after the step
-  pub answered_ok : (x r : ℕ) (k k' : Core S O R) (q : Request O) (a : Answer R) (m b d : M) → TheHand x k r q m
-      → CoreFits content op_in reply_in (kind_at m.0.kinds x) (get_elem? m.0.lists x) k' (log_of op_in reply_in k')
+  pub answered_ok : {x r : ℕ} {k : Core S O R} (k' : Core S O R) {q : Request O} {a : Answer R} {m b d : M}
+      → TheHand x k r q m → k'.list ≡ k.list
+      → Serves (content k.object) (op_in q.op) (answer_in reply_in a) (content k'.object)
       → log_of op_in reply_in k' ≡ log_of op_in reply_in k ++ logged r (request_in op_in q) (answer_in reply_in a)
       → b ≡ (m.0, (16 + r, slot.Answer a) ∷ rest m.1)
       → d ≡ (
         after_answer r x (log_of op_in reply_in k ++ logged r (request_in op_in q) (answer_in reply_in a)) b.0,
         rest m.1,
       ) → ThePass x k' d
-  answered_ok x r k k' q a m b d h fits log e f = rw (f, e) record {
-    agrees = agrees_light h.agrees;
+  answered_ok {x} {r} {k} k' {q} {a} h same did log e f = rw (f, e) record {
+    agrees = assumption h.agrees;
     holds = ap (held.Pass x) (sym log);
     in_hand = ap rest h.in_hand;
-    fits = fits;
+    fits = core_grows content op_in reply_in _ _ r k k' q a same h.fits log did;
     low = h.low;
   }

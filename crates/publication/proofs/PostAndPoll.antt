@@ -63,71 +63,64 @@ length-journal_of (d ∷ ds) q = let n = length-journal_of ds q in omega arith
 
 -- ---- the vector of the journal, and its room
 
-module _ {O R : Type 0} (op_in : O → AnyOp) (reply_in : R → AnyReply) where
+module _ {O R : Type 0} {op_in : O → AnyOp} {reply_in : R → AnyReply} {number calls quota : ℕ} {j : Journal O R}
+    {v : DeskView} where
   -- the journal's vector is as long as the journal
-  pub length-events : (number calls quota : ℕ) (outstanding : Bool) (j : Journal O R) (v : DeskView)
-      → Agrees op_in reply_in number calls quota outstanding j v
+  length-events : {outstanding : Bool} → Agrees op_in reply_in number calls quota outstanding j v
       → vec_len j.events ≡ tickets_drawn v.done (own_request v.own)
-  length-events number calls quota outstanding j v k =
+  length-events k =
       j.events.ok.0 ∙ (sym (length-map j.events.items (event_in op_in reply_in))
       ∙ (ap length k.journal_is ∙ length-journal_of v.done (own_request v.own)))
 
   -- there is room for the return of the outstanding call
-  pub room_to_return : (number calls quota : ℕ) (j : Journal O R) (v : DeskView) (q : AnyRequest)
-      → Agrees op_in reply_in number calls quota true j v
+  pub room_to_return : {q : AnyRequest} → Agrees op_in reply_in number calls quota true j v
       → v.own ≡ own.Waiting q → vec_len j.events < vec_capacity j.events
-  room_to_return number calls quota j v q k is =
-      let n = length-events number calls quota true j v k in let room = k.room in let within = k.within in
-      let count = k.calls_is in
-      let tickets : tickets_drawn v.done (own_request v.own) ≡ tickets_drawn v.done (Some q) =
-      ap (λ o. tickets_drawn v.done (own_request o)) is in
-      let calls' : calls_made v.done (own_request v.own) ≡ calls_made v.done (Some q) =
-      ap (λ o. calls_made v.done (own_request o)) is in omega arith
+  room_to_return k is =
+      let n = rw is at (length-events k) in let count = rw is at k.calls_is in
+      let room = k.room in let within = k.within in omega arith
 
   -- there is room for one call more
-  pub room_to_call : (number calls quota : ℕ) (j : Journal O R) (v : DeskView)
-      → Agrees op_in reply_in number calls quota false j v → calls < quota → vec_len j.events < vec_capacity j.events
-  room_to_call number calls quota j v k few =
-      let n = length-events number calls quota false j v k in let room = k.room in let is =
-      own_idle v.own k.at_rest (sym k.outstanding_is) in let count = k.calls_is in
-      let tickets : tickets_drawn v.done (own_request v.own) ≡ tickets_drawn v.done None =
-      ap (λ o. tickets_drawn v.done (own_request o)) is in
-      let calls' : calls_made v.done (own_request v.own) ≡ calls_made v.done None =
-      ap (λ o. calls_made v.done (own_request o)) is in omega arith
+  pub room_to_call : Agrees op_in reply_in number calls quota false j v → calls < quota
+      → vec_len j.events < vec_capacity j.events
+  room_to_call k few =
+      let is = own_idle v.own k.at_rest (sym k.outstanding_is) in
+      let n = rw is at (length-events k) in let count = rw is at k.calls_is in let room = k.room in omega arith
 
-  -- a journal after one event more
-  journal_grows : (j j' : Journal O R) (e : JournalEvent O R) (l : List AnyEvent)
-      → map (event_in op_in reply_in) j.events.items ≡ l
-      → j'.events.items ≡ j.events.items ++ e ∷ []
-      → map (event_in op_in reply_in) j'.events.items ≡ l ++ event_in op_in reply_in e ∷ []
-  journal_grows j j' e l is more =
-      ap (map (event_in op_in reply_in)) more
-      ∙ (map-append (event_in op_in reply_in) j.events.items (e ∷ [])
-      ∙ ap (λ z. z ++ event_in op_in reply_in e ∷ []) is)
+-- a journal after one event more
+journal_grows : {O R : Type 0} (op_in : O → AnyOp) (reply_in : R → AnyReply) (j j' : Journal O R) (e : JournalEvent O R)
+    (l : List AnyEvent)
+    → map (event_in op_in reply_in) j.events.items ≡ l → j'.events.items ≡ j.events.items ++ e ∷ []
+    → map (event_in op_in reply_in) j'.events.items ≡ l ++ event_in op_in reply_in e ∷ []
+journal_grows op_in reply_in j j' e l is more =
+    ap (map (event_in op_in reply_in)) more
+    ∙ (map-append (event_in op_in reply_in) j.events.items (e ∷ []) ∙ ap (λ z. z ++ event_in op_in reply_in e ∷ []) is)
 
 -- ---- a whole post
 
-module _ {S O R : Type 0} (op_in : O → AnyOp) (reply_in : R → AnyReply) where
-  -- After a whole post the client waits for its request, and has the empty slot of its journal in hand (a: after the
-  -- request is in the slot; b: after the draw; c: after the request has its ticket; d: after the post).
-  pub post_turn : (number calls quota : ℕ) (j : Journal O R) (p q : Request O) (m a b c d : Me (Slot S O R) DeskView)
-      → IsClient op_in reply_in number calls quota false j m → a ≡ (m.0, (16 + number, slot.Request p) ∷ rest m.1)
-      → b ≡ (with_own (own.Drawn (request_in op_in q)) a.0, a.1) → c ≡ (b.0, (16 + number, slot.Request q) ∷ rest b.1)
-      → d ≡ (with_own (own.Waiting (request_in op_in q)) c.0, rest c.1)
-      → d ≡ (with_own (own.Waiting (request_in op_in q)) m.0, (48 + number, slot.Nothing) ∷ [])
-  post_turn number calls quota j p q m a b c d k ea eb ec ed =
+module _ {S O R : Type 0} {op_in : O → AnyOp} {reply_in : R → AnyReply} {number calls quota : ℕ} {j : Journal O R}
+    {m : Me (Slot S O R) DeskView} where
+  -- After a whole post the client waits for its request, and has the empty slot of its journal in hand. The last step
+  -- names each seat: the slot was filled, the ticket drawn, the request in the slot stamped with it, and posted.
+  pub post_turn : {p q : Request O} {filled drawn stamped posted : Me (Slot S O R) DeskView}
+      → IsClient op_in reply_in number calls quota false j m
+      → filled ≡ (m.0, (16 + number, slot.Request p) ∷ rest m.1)
+      → drawn ≡ (with_own (own.Drawn (request_in op_in q)) filled.0, filled.1)
+      → stamped ≡ (drawn.0, (16 + number, slot.Request q) ∷ rest drawn.1)
+      → posted ≡ (with_own (own.Waiting (request_in op_in q)) stamped.0, rest stamped.1)
+      → posted ≡ (with_own (own.Waiting (request_in op_in q)) m.0, (48 + number, slot.Nothing) ∷ [])
+  post_turn {q = q} k fill draw stamp post =
       let is = own_idle m.0.own k.agrees.at_rest (sym k.agrees.outstanding_is) in
-      rw (ed, ec, eb, ea) (ap (λ z. (with_own (own.Waiting (request_in op_in q)) m.0, rest z))
+      rw (post, stamp, draw, fill) (ap (λ z. (with_own (own.Waiting (request_in op_in q)) m.0, rest z))
       (k.in_hand ∙ ap (at_hand number) is))
 
   -- the client after a post
-  pub client_after_post : (number calls quota : ℕ) (j j' : Journal O R) (q : Request O) (m d : Me (Slot S O R) DeskView)
+  pub client_after_post : {j' : Journal O R} (q : Request O) {d : Me (Slot S O R) DeskView}
       → IsClient op_in reply_in number calls quota false j m
       → d ≡ (with_own (own.Waiting (request_in op_in q)) m.0, (48 + number, slot.Nothing) ∷ [])
       → q.object < 16 → calls < quota → j'.events.items ≡ j.events.items ++ Invoked q.ticket q.object q.op ∷ []
       → vec_capacity j'.events ≡ vec_capacity j.events
       → IsClient op_in reply_in number (calls + 1) quota true j' d
-  client_after_post number calls quota j j' q m d k e low few more same =
+  client_after_post {j' = j'} q k e low few more same =
       let h = k.agrees in let w : AnyRequest = request_in op_in q in let is =
       own_idle m.0.own h.at_rest (sym h.outstanding_is) in let n = h.calls_is in
       let count : calls_made m.0.done (own_request m.0.own) ≡ length m.0.done + 0 =
@@ -149,13 +142,13 @@ module _ {S O R : Type 0} (op_in : O → AnyOp) (reply_in : R → AnyReply) wher
       }
 
   -- what a post says
-  pub posted : (number calls quota x t : ℕ) (j : Journal O R) (op : O) (v : DeskView) (m d : Me (Slot S O R) DeskView)
+  pub posted : {x t : ℕ} (op : O) {v : DeskView} {d : Me (Slot S O R) DeskView}
       → IsClient op_in reply_in number calls quota false j m → v ≡ m.0
       → d ≡ (
         with_own (own.Waiting record { object = x; ticket = t; op = op_in op }) m.0,
         (48 + number, slot.Nothing) ∷ [],
       ) → IsPosted v x (op_in op) d.0
-  posted number calls quota x t j op v m d k is e =
+  posted {x} {t} op k is e =
       let same = own_idle m.0.own k.agrees.at_rest (sym k.agrees.outstanding_is) in
       let q : AnyRequest = record { object = x; ticket = t; op = op_in op } in rw (is, e) record {
         ticket = t;
@@ -166,25 +159,25 @@ module _ {S O R : Type 0} (op_in : O → AnyOp) (reply_in : R → AnyReply) wher
 
   -- ---- a whole poll that takes the answer
 
-  -- After a whole poll the client has taken the answer and drawn its return, and has two empty slots in hand (a: after
-  -- the take; b: with nothing in the slot; d: after the draw of the return).
-  pub poll_turn : (number calls quota t : ℕ) (j : Journal O R) (q : AnyRequest) (e : Answer R) (l : List AnyEntry)
-      (m a b d : Me (Slot S O R) DeskView) → IsClient op_in reply_in number calls quota true j m
+  -- After a whole poll the client has taken the answer and drawn its return, and has two empty slots in hand. The last
+  -- step names each seat: the answer was taken, its slot emptied, and the call is over.
+  pub poll_turn : (t : ℕ) {q : AnyRequest} {e : Answer R} (l : List AnyEntry)
+      {taken emptied over : Me (Slot S O R) DeskView} → IsClient op_in reply_in number calls quota true j m
       → m.0.own ≡ own.Waiting q
-      → a ≡ (after_take q (answer_in reply_in e) l m.0, (16 + number, slot.Answer e) ∷ m.1)
-      → b ≡ (a.0, (16 + number, slot.Nothing) ∷ rest a.1) → d ≡ (after_return q (answer_in reply_in e) t b.0, b.1)
-      → d ≡ (
+      → taken ≡ (after_take q (answer_in reply_in e) l m.0, (16 + number, slot.Answer e) ∷ m.1)
+      → emptied ≡ (taken.0, (16 + number, slot.Nothing) ∷ rest taken.1)
+      → over ≡ (after_return q (answer_in reply_in e) t emptied.0, emptied.1)
+      → over ≡ (
         after_return q (answer_in reply_in e) t (after_take q (answer_in reply_in e) l m.0),
         (16 + number, slot.Nothing) ∷ (48 + number, slot.Nothing) ∷ [],
       )
-  poll_turn number calls quota t j q e l m a b d k is ea eb ed = let w : AnyAnswer = answer_in reply_in e in
-      rw (ed, eb, ea) (ap (λ z. (after_return q w t (after_take q w l m.0), (16 + number, slot.Nothing) ∷ z))
+  poll_turn t {q} {e} l k is take empty return = let w : AnyAnswer = answer_in reply_in e in
+      rw (return, empty, take) (ap (λ z. (after_return q w t (after_take q w l m.0), (16 + number, slot.Nothing) ∷ z))
       (k.in_hand ∙ ap (at_hand number) is))
 
   -- the client after a poll that took the answer
-  pub client_after_poll : (number calls quota t : ℕ) (j j' : Journal O R) (q : AnyRequest) (e : Answer R)
-      (l : List AnyEntry)
-      (m d : Me (Slot S O R) DeskView)
+  pub client_after_poll : (t : ℕ) {j' : Journal O R} {q : AnyRequest} (e : Answer R) (l : List AnyEntry)
+      {d : Me (Slot S O R) DeskView}
       → IsClient op_in reply_in number calls quota true j m → m.0.own ≡ own.Waiting q → q.object < 16
       → IsLegalLog (kind_at m.0.kinds q.object) l
       → entries_of_client m.0.number l ≡ served q.object m.0.number m.0.done
@@ -195,7 +188,7 @@ module _ {S O R : Type 0} (op_in : O → AnyOp) (reply_in : R → AnyReply) wher
       )
       → j'.events.items ≡ j.events.items ++ Returned t e ∷ [] → vec_capacity j'.events ≡ vec_capacity j.events
       → IsClient op_in reply_in number calls quota false j' d
-  client_after_poll number calls quota t j j' q e l m d k is low legal counted f more same =
+  client_after_poll t {j'} {q} e l k is low legal counted f more same =
       let h = k.agrees in let n = h.calls_is in let w : AnyAnswer =
       answer_in reply_in e in let room = h.room in let wide = h.wide in
       let ds : List AnyDone = m.0.done ++ record { request = q; answer = w; returned = t } ∷ [] in
@@ -250,9 +243,8 @@ module _ {S O R : Type 0} (op_in : O → AnyOp) (reply_in : R → AnyReply) wher
       }
 
   -- what a poll that took the answer says
-  pub polled : (number calls quota t : ℕ) (j : Journal O R) (q : AnyRequest) (e : Answer R) (l : List AnyEntry)
-      (v u : DeskView)
-      (m d : Me (Slot S O R) DeskView) → IsClient op_in reply_in number calls quota true j m → v ≡ m.0
+  pub polled : {t : ℕ} {q : AnyRequest} (e : Answer R) (l : List AnyEntry) {v u : DeskView}
+      {d : Me (Slot S O R) DeskView} → IsClient op_in reply_in number calls quota true j m → v ≡ m.0
       → m.0.own ≡ own.Waiting q → q.object < 16
       → IsLegalLog (kind_at m.0.kinds q.object) l → StartsWith l (seen_of m.0 q.object)
       → entries_of_client m.0.number l ≡ served q.object m.0.number m.0.done
@@ -262,7 +254,7 @@ module _ {S O R : Type 0} (op_in : O → AnyOp) (reply_in : R → AnyReply) wher
         after_return q (answer_in reply_in e) t (after_take q (answer_in reply_in e) l m.0),
         (16 + number, slot.Nothing) ∷ (48 + number, slot.Nothing) ∷ [],
       ) → IsPollAnswer v (answer_in reply_in e) d.0
-  polled number calls quota t j q e l v u m d k is waits low legal begins counted took later f =
+  polled {t} {q} e l {u = u} k is waits low legal begins counted took later f =
       let w : AnyAnswer = answer_in reply_in e in let wide = k.agrees.wide in
       let now : seen_of u q.object ≡ l =
       ap (λ z. seen_of z q.object) took ∙ get_or-set_same m.0.seen q.object l [] (omega arith) in rw (is, f) record {

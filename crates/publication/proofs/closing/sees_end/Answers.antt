@@ -1,11 +1,10 @@
 -- `sees_end`: the last client knows of the end of the client that it found, or that it was not set. The look keeps
 -- the rule of the table (`look_at_end_keeps_rule`); the two outcomes are told apart by the word.
-use Rattle.std.proofs.Common.{map, ◌≡◌, ◌≢◌, All, arith, refl, sym, ap, subst, eq-eqb, ◌∙◌}
-use Rattle.publication.proofs.Dealing.{own_still}
+use Rattle.std.proofs.Common.{◌≡◌, ◌≢◌, All, arith, refl, sym, ap, subst, eq-eqb, ◌∙◌}
+use Rattle.publication.proofs.Dealing.{own_still, same_desk}
 use Rattle.publication.specs.Handles.{Known}
 use mathlib.Core.Logic.{dite}
 use native.Mathlib.Decide.{ℕ_discrete}
-use Rattle.publication_list.specs.Calls.{PlaceSeen}
 use Rattle.desk_invariant.proofs.Ends.{look_at_end_keeps_rule}
 use Rattle.publication.proofs.Endings.{either_view, watching_ok}
 use Rattle.publication.proofs.closing.sees_end.Goals as goal
@@ -35,15 +34,9 @@ returns-clause-seen g c = let t = c.load.ensures.2 c.args.client refl in
 
 pub returns-clause-desk : goal.returns-clause-desk
 returns-clause-desk g c = let t = c.load.ensures.2 c.args.client refl in
-    let kinds : c.load.new.seat.me.0.kinds ≡ c.last.inside.seat.me.0.kinds =
-    dite (ℕ_discrete c.load.result 1) (λ e. ap (λ m. m.0.kinds) (t.0 e)) (λ n. ap (λ m. m.0.kinds) (t.1 n).0) in
-    (λ i. record {
-      table = (c.load.ensures.0) i;
-      quota = c.last.inside.member.quota;
-      kinds = kinds i;
-      lists =
-          map (λ (p : PlaceSeen). p.roster) c.last.inside.member.places;
-    }) ∙ ap (λ k. k.desk) c.last.view_is
+    same_desk c.load.ensures.0 refl
+    (dite (ℕ_discrete c.load.result 1) (λ e. ap (λ m. m.0.kinds) (t.0 e)) (λ n. ap (λ m. m.0.kinds) (t.1 n).0)) refl
+    (ap (λ k. k.desk) c.last.view_is)
 
 pub returns-clause-untold : goal.returns-clause-untold
 returns-clause-untold g c = let t = c.load.ensures.2 c.args.client refl in

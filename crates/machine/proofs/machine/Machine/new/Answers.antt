@@ -15,10 +15,9 @@ invariant_of-result g c =
     let long : length contents ≡ c.len-count.result = mapped ∙ sym counted in
     let few = c.requires.objects.1 in
     subst (IsMachine contents) (sym
-    (made_start g.S.SeqObject.content g.S.SeqObject.op_in g.S.SeqObject.reply_in c.args.objects.items
-    c.len-count.result c.args.clients c.args.quota
-    _ _ _ _ _ _ c.in_ok-logs.ensures c.in_ok-holders.ensures c.in_ok-hands.ensures c.in_ok-stages.ensures
-    c.in_ok-journals.ensures c.in_ok-ended.ensures))
+    (made_start _ _ _ c.args.objects.items c.len-count.result c.args.clients c.args.quota c.in_ok-logs.ensures
+    c.in_ok-holders.ensures c.in_ok-hands.ensures c.in_ok-stages.ensures c.in_ok-journals.ensures
+    c.in_ok-ended.ensures))
     (subst (λ (n : ℕ). IsMachine contents (start_state (map kind_with contents) n c.args.clients c.args.quota)) long
     (machine_start contents c.args.clients c.args.quota (omega arith) c.requires.clients.1 c.requires.quota
     (empties_at g.S.SeqObject.content c.args.objects.items c.requires.objects.2)))
@@ -26,8 +25,7 @@ invariant_of-result g c =
 pub returns-clause-start : goal.returns-clause-start
 returns-clause-start g c = ap world_of
     (made_start g.S.SeqObject.content g.S.SeqObject.op_in g.S.SeqObject.reply_in c.args.objects.items
-    c.len-count.result c.args.clients c.args.quota _
-    _ _ _ _ _ c.in_ok-logs.ensures c.in_ok-holders.ensures c.in_ok-hands.ensures c.in_ok-stages.ensures
-    c.in_ok-journals.ensures
-    c.in_ok-ended.ensures) ∙ world-start
-    (map kind_with (map g.S.SeqObject.content c.args.objects.items)) c.len-count.result c.args.clients c.args.quota
+    c.len-count.result c.args.clients c.args.quota c.in_ok-logs.ensures c.in_ok-holders.ensures
+    c.in_ok-hands.ensures c.in_ok-stages.ensures c.in_ok-journals.ensures c.in_ok-ended.ensures)
+    ∙ world-start (map kind_with (map g.S.SeqObject.content c.args.objects.items)) c.len-count.result c.args.clients
+    c.args.quota

@@ -1,10 +1,10 @@
 -- `answer`: the row has the answer, and the log is longer by the operation if that was done. `answer_ready` gives
 -- what the store needs to keep the rule of the row, and `core_grows` that the core still fits what the pass knows.
-use Rattle.std.proofs.Common.{map, ◌≡◌, ◌+◌, ◌-◌, ◌<◌, length, vec_len, vec_capacity, rules, arith, sym, ap, subst, ◌∙◌}
+use Rattle.std.proofs.Common.{refl, ◌≡◌, ◌+◌, ◌-◌, ◌<◌, length, vec_len, vec_capacity, rules, arith, sym, ap, subst}
+use Rattle.std.proofs.Common.{◌∙◌}
 use Rattle.desk_model.specs.World.{logged}
 use Rattle.desk_model.specs.Images.{answer_in}
-use Rattle.publication_list.specs.Calls.{PlaceSeen}
-use Rattle.publication.proofs.Dealing.{own_still}
+use Rattle.publication.proofs.Dealing.{own_still, same_desk}
 use Rattle.publication.specs.Handles.{Handling}
 use Rattle.desk_invariant.proofs.Rows.{answer_keeps_rule}
 use Rattle.publication.proofs.Holds.{answer_ready, room_taken, core_grows, answered_ok}
@@ -19,9 +19,7 @@ pub store-requires : goal.store-requires
 store-requires g c =
     let h = c.self.invariant.0 in let low = h.row_low in let wide = c.desk.invariant.0.0 in
     let e = c.serve-answer.ensures in
-    let r = answer_ready g.S.SeqObject.content g.S.SeqObject.op_in g.S.SeqObject.reply_in _ _ _ _ _ _
-    c.self.inside.core c.serve-answer.new.core _
-    c.self.inside.request c.serve-answer.result _ _ h c.exchange.ensures.3 e.log e.content in (
+    let r = answer_ready _ _ _ _ _ _ _ _ c.serve-answer.new.core h c.exchange.ensures.3 e.log e.content in (
       search rules,
       omega arith,
       answer_keeps_rule _ _ _ _ _ _ _ _ _ _ _ _ _ _ _ r.0 r.1 r.2 h.on r.3,
@@ -29,23 +27,15 @@ store-requires g c =
 
 pub invariant_of-result : goal.invariant_of-result
 invariant_of-result g c = let h = c.self.invariant.0 in let e = c.serve-answer.ensures in
-    let r = answer_ready g.S.SeqObject.content g.S.SeqObject.op_in g.S.SeqObject.reply_in _ _ _ _ _ _
-    c.self.inside.core c.serve-answer.new.core _
-    c.self.inside.request c.serve-answer.result _ _ h c.exchange.ensures.3 e.log e.content in
+    let r = answer_ready _ _ _ _ _ _ _ _ c.serve-answer.new.core h c.exchange.ensures.3 e.log e.content in
     let t = c.store.ensures.2 _ _ _ _ _ _ _ r.1 r.2 in (
-      answered_ok g.S.SeqObject.content g.S.SeqObject.op_in g.S.SeqObject.reply_in _ _ _ _ _ _ _ c.self.inside.core
-          c.serve-answer.new.core c.self.inside.request c.serve-answer.result _ _ _ h
-          (core_grows g.S.SeqObject.content g.S.SeqObject.op_in g.S.SeqObject.reply_in _ _ _ c.self.inside.core
-          c.serve-answer.new.core
-          c.self.inside.request c.serve-answer.result e.state.1 h.fits e.log e.content) e.log c.exchange.ensures.3 t,
+      answered_ok _ _ _ _ _ _ _ _ c.serve-answer.new.core h e.state.1 e.content e.log c.exchange.ensures.3 t,
       own_still _ _ _ _ (ap (λ m. m.0.lists) t ∙ ap (λ m. m.0.lists) c.exchange.ensures.3) c.self.invariant.1,
     )
 
 pub returns-clause-answered : goal.returns-clause-answered
 returns-clause-answered g c = let h = c.self.invariant.0 in let e = c.serve-answer.ensures in
-    let r = answer_ready g.S.SeqObject.content g.S.SeqObject.op_in g.S.SeqObject.reply_in _ _ _ _ _ _
-    c.self.inside.core c.serve-answer.new.core _
-    c.self.inside.request c.serve-answer.result _ _ h c.exchange.ensures.3 e.log e.content in
+    let r = answer_ready _ _ _ _ _ _ _ _ c.serve-answer.new.core h c.exchange.ensures.3 e.log e.content in
     let fits = core_grows g.S.SeqObject.content g.S.SeqObject.op_in g.S.SeqObject.reply_in _ _ _ c.self.inside.core
     c.serve-answer.new.core
     c.self.inside.request c.serve-answer.result e.state.1 h.fits e.log e.content in
@@ -54,18 +44,10 @@ returns-clause-answered g c = let h = c.self.invariant.0 in let e = c.serve-answ
 
 pub returns-clause-desk : goal.returns-clause-desk
 returns-clause-desk g c = let h = c.self.invariant.0 in let e = c.serve-answer.ensures in
-    let r = answer_ready g.S.SeqObject.content g.S.SeqObject.op_in g.S.SeqObject.reply_in _ _ _ _ _ _
-    c.self.inside.core c.serve-answer.new.core _
-    c.self.inside.request c.serve-answer.result _ _ h c.exchange.ensures.3 e.log e.content in
-    let kinds : c.store.new.seat.me.0.kinds ≡ c.self.inside.seat.me.0.kinds =
-    ap (λ m. m.0.kinds) (c.store.ensures.2 _ _ _ _ _ _ _ r.1 r.2) ∙ ap (λ m. m.0.kinds) c.exchange.ensures.3 in
-    (λ i. record {
-      table = (c.store.ensures.0 ∙ c.exchange.ensures.0) i;
-      quota = c.self.inside.member.quota;
-      kinds = kinds i;
-      lists =
-          map (λ (p : PlaceSeen). p.roster) c.self.inside.member.places;
-    }) ∙ ap (λ k. k.desk) c.self.view_is
+    let r = answer_ready _ _ _ _ _ _ _ _ c.serve-answer.new.core h c.exchange.ensures.3 e.log e.content in
+    same_desk (c.store.ensures.0 ∙ c.exchange.ensures.0) refl
+    (ap (λ m. m.0.kinds) (c.store.ensures.2 _ _ _ _ _ _ _ r.1 r.2) ∙ ap (λ m. m.0.kinds) c.exchange.ensures.3) refl
+    (ap (λ k. k.desk) c.self.view_is)
 
 pub returns-clause-room : goal.returns-clause-room
 returns-clause-room g c = let e = c.serve-answer.ensures in

@@ -1,17 +1,15 @@
 -- `put_back`: the row has its request again, and the pass knows that. `back_ready` gives what the store needs to
 -- keep the rule of the row (`put_back_keeps_rule`), and `back_ok` that the pass stays sound.
-use Rattle.std.proofs.Common.{map, ◌≡◌, rules, arith, refl, sym, ap, ◌∙◌}
-use Rattle.publication_list.specs.Calls.{PlaceSeen}
+use Rattle.std.proofs.Common.{rules, arith, refl, sym, ap, ◌∙◌}
 use Rattle.desk_invariant.proofs.Rows.{put_back_keeps_rule}
-use Rattle.publication.proofs.Dealing.{own_still}
+use Rattle.publication.proofs.Dealing.{own_still, same_desk}
 use Rattle.publication.proofs.Holds.{back_ready, back_ok}
 use Rattle.publication.proofs.CallClauses.{is_put_back}
 use Rattle.publication.proofs.client.Hand.put_back.Goals as goal
 
 pub store-requires : goal.store-requires
 store-requires g c = let h = c.self.invariant.0 in let low = h.row_low in let wide = c.desk.invariant.0.0 in let r =
-    back_ready g.S.SeqObject.content g.S.SeqObject.op_in g.S.SeqObject.reply_in _ _ _ _ _ _ c.self.inside.core _
-    c.self.inside.request _ _ h c.exchange.ensures.3 in (
+    back_ready _ _ _ _ _ _ _ _ h c.exchange.ensures.3 in (
       search rules,
       omega arith,
       put_back_keeps_rule _ _ _ _ _ _ _ _ _ _ _ _ _ _ c.self.inside.request _ r.0 r.1 r.2 refl h.on refl,
@@ -19,30 +17,20 @@ store-requires g c = let h = c.self.invariant.0 in let low = h.row_low in let wi
 
 pub invariant_of-result : goal.invariant_of-result
 invariant_of-result g c = let h = c.self.invariant.0 in let r =
-    back_ready g.S.SeqObject.content g.S.SeqObject.op_in g.S.SeqObject.reply_in _ _ _ _ _ _ c.self.inside.core _
-    c.self.inside.request _ _ h c.exchange.ensures.3 in
+    back_ready _ _ _ _ _ _ _ _ h c.exchange.ensures.3 in
     let t = c.store.ensures.2 _ _ _ _ r.1 in (
-      back_ok g.S.SeqObject.content g.S.SeqObject.op_in g.S.SeqObject.reply_in _ _ _ _ _ _ _ _ _ _ _ _ h
-          c.exchange.ensures.3 t,
+      back_ok _ _ _ _ _ _ _ _ h c.exchange.ensures.3 t,
       own_still _ _ _ _ (ap (λ m. m.0.lists) t ∙ ap (λ m. m.0.lists) c.exchange.ensures.3) c.self.invariant.1,
     )
 
 pub returns-clause-put_back : goal.returns-clause-put_back
 returns-clause-put_back g c = let h = c.self.invariant.0 in let r =
-    back_ready g.S.SeqObject.content g.S.SeqObject.op_in g.S.SeqObject.reply_in _ _ _ _ _ _ c.self.inside.core _
-    c.self.inside.request _ _ h c.exchange.ensures.3 in
+    back_ready _ _ _ _ _ _ _ _ h c.exchange.ensures.3 in
     is_put_back c.args.self _ _ _ _ _ _ _ _ (sym c.self.view_is) c.exchange.ensures.3 (c.store.ensures.2 _ _ _ _ r.1)
 
 pub returns-clause-desk : goal.returns-clause-desk
 returns-clause-desk g c = let h = c.self.invariant.0 in let r =
-    back_ready g.S.SeqObject.content g.S.SeqObject.op_in g.S.SeqObject.reply_in _ _ _ _ _ _ c.self.inside.core _
-    c.self.inside.request _ _ h c.exchange.ensures.3 in
-    let kinds : c.store.new.seat.me.0.kinds ≡ c.self.inside.seat.me.0.kinds =
-    ap (λ m. m.0.kinds) (c.store.ensures.2 _ _ _ _ r.1) ∙ ap (λ m. m.0.kinds) c.exchange.ensures.3 in
-    (λ i. record {
-      table = (c.store.ensures.0 ∙ c.exchange.ensures.0) i;
-      quota = c.self.inside.member.quota;
-      kinds = kinds i;
-      lists =
-          map (λ (p : PlaceSeen). p.roster) c.self.inside.member.places;
-    }) ∙ ap (λ k. k.desk) c.self.view_is
+    back_ready _ _ _ _ _ _ _ _ h c.exchange.ensures.3 in
+    same_desk (c.store.ensures.0 ∙ c.exchange.ensures.0) refl
+    (ap (λ m. m.0.kinds) (c.store.ensures.2 _ _ _ _ r.1) ∙ ap (λ m. m.0.kinds) c.exchange.ensures.3) refl
+    (ap (λ k. k.desk) c.self.view_is)

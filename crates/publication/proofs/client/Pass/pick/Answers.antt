@@ -1,10 +1,9 @@
 -- `pick`: what is got is the request that the row had posted for this object, and else there was none. The look and
 -- the exchange keep the rule of the row (`look_at_row_keeps_rule`, `pick_keeps_rule`), so the slot has a request.
-use Rattle.std.proofs.Common.{map, ◌≡◌, ◌+◌, rules, refl, sym, ap, ◌∙◌}
-use Rattle.publication_list.specs.Calls.{PlaceSeen}
+use Rattle.std.proofs.Common.{◌+◌, rules, refl, sym, ap, ◌∙◌}
 use Rattle.desk_invariant.proofs.Locks.{held_object}
 use Rattle.desk_invariant.proofs.Rows.{look_at_row_keeps_rule, pick_keeps_rule}
-use Rattle.publication.proofs.Dealing.{own_still}
+use Rattle.publication.proofs.Dealing.{own_still, same_desk}
 use Rattle.publication.proofs.Slots.{came_out, same_request, can_exchange}
 use Rattle.publication.proofs.Holds.{pass_after_row_miss, hand_ok}
 use Rattle.publication.proofs.CallClauses.{pick_gives, pick_misses}
@@ -31,9 +30,7 @@ pub invariant_of-result : goal.invariant_of-result
 invariant_of-result g c =
     let t = ((c.look_and_exchange-found.ensures.tried _ c.args.row _ c.self.invariant.0.holds refl).1
     (search rules)).0 in (
-      pass_after_row_miss g.S.SeqObject.content g.S.SeqObject.op_in g.S.SeqObject.reply_in _ _ _ _ _ _ _ _ _ _
-          c.self.invariant.0
-          t,
+      pass_after_row_miss _ _ _ _ _ _ _ _ _ c.self.invariant.0 t,
       own_still _ _ _ _ (ap (λ m. m.0.lists) t) c.self.invariant.1,
     )
 
@@ -50,8 +47,7 @@ exchange-requires g c =
 pub invariant_of-result-in-Request : goal.invariant_of-result-in-Request
 invariant_of-result-in-Request g c =
     let t = (c.look_and_exchange-found.ensures.tried _ c.args.row _ c.self.invariant.0.holds refl).0 (search rules) in (
-      hand_ok g.S.SeqObject.content g.S.SeqObject.op_in g.S.SeqObject.reply_in _ _ _ _ _ _ _ _ t.0 _ _ _ _
-          c.self.invariant.0 t.3 c.exchange.ensures.3
+      hand_ok _ _ _ _ _ _ _ _ _ c.self.invariant.0 t.3 c.exchange.ensures.3
           (same_request _ _ (sym (came_out _ _ _ _ _ (ap (λ m. m.1) t.3) c.exchange.ensures.2)
           ∙ c.in-Request.is)) t.1 t.2
           c.requires.row,
@@ -74,25 +70,11 @@ returns-clause-got g c =
 pub returns-then-found-posted-clause-desk : goal.returns-then-found-posted-clause-desk
 returns-then-found-posted-clause-desk g c =
     let t = (c.look_and_exchange-found.ensures.tried _ c.args.row _ c.self.invariant.0.holds refl).1 (search rules) in
-    let kinds : c.look_and_exchange-found.new.seat.me.0.kinds ≡ c.self.inside.seat.me.0.kinds =
-    ap (λ m. m.0.kinds) t.0 in
-    (λ i. record {
-      table = (c.look_and_exchange-found.ensures.table.0) i;
-      quota = c.self.inside.member.quota;
-      kinds = kinds i;
-      lists =
-          map (λ (p : PlaceSeen). p.roster) c.self.inside.member.places;
-    }) ∙ ap (λ k. k.desk) c.self.view_is
+    same_desk c.look_and_exchange-found.ensures.table.0 refl (ap (λ m. m.0.kinds) t.0) refl
+    (ap (λ k. k.desk) c.self.view_is)
 
 pub returns-clause-desk : goal.returns-clause-desk
 returns-clause-desk g c =
     let t = (c.look_and_exchange-found.ensures.tried _ c.args.row _ c.self.invariant.0.holds refl).0 (search rules) in
-    let kinds : c.exchange.new.seat.me.0.kinds ≡ c.self.inside.seat.me.0.kinds =
-    ap (λ m. m.0.kinds) c.exchange.ensures.3 ∙ ap (λ m. m.0.kinds) t.3 in
-    (λ i. record {
-      table = (c.exchange.ensures.0 ∙ c.look_and_exchange-found.ensures.table.0) i;
-      quota = c.self.inside.member.quota;
-      kinds =
-          kinds i;
-      lists = map (λ (p : PlaceSeen). p.roster) c.self.inside.member.places;
-    }) ∙ ap (λ k. k.desk) c.self.view_is
+    same_desk (c.exchange.ensures.0 ∙ c.look_and_exchange-found.ensures.table.0) refl
+    (ap (λ m. m.0.kinds) c.exchange.ensures.3 ∙ ap (λ m. m.0.kinds) t.3) refl (ap (λ k. k.desk) c.self.view_is)

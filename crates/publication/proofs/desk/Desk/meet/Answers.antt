@@ -59,14 +59,13 @@ load-requires-2 g c =
     ∙ ap (λ z. after_message c.one.inside.seat.me.0 z.0) c.split_seat-message.ensures.4 in
     let back = ap (λ z. z.0) c.join_seat-2.ensures.2
     ∙ ((λ i. after_message (c.split_seat-message.ensures.2 i).0 (c.split_seat-message-2.ensures.4 i).0)) in
-    let is = told_back c.args.object c.one.inside.seat.me.0 c.other.inside.seat.me.0 c.join_seat.new.seat.me.0
-    c.load.new.seat.me.0
-    c.join_seat-2.new.seat.me.0 t.0 low' received (ap (λ z. z.0) t.1) t.5 back in (
+    let is = told_back c.args.object c.one.inside.seat.me.0 c.other.inside.seat.me.0 _ _ _ t.0 low' received
+    (ap (λ z. z.0) t.1) t.5 back in (
       search rules,
       omega arith,
       adopt_keeps_rule _ _ _ _ _ _ _ _ _ _ (ap (λ z. z.role) back ∙ k.client_is) low'
           (subst (λ l. StartsWith l (seen_of c.join_seat-2.new.seat.me.0 c.args.object)) (sym is)
-          (begins_there c.args.object c.one.inside.seat.me.0 c.other.inside.seat.me.0 c.join_seat.new.seat.me.0
+          (begins_there c.args.object c.one.inside.seat.me.0 c.other.inside.seat.me.0 _
           c.join_seat-2.new.seat.me.0 t.0 received (ap (λ z. z.seen) back) t.4))
           (subst (λ (v : DeskView). IsAtRest v.own) (sym back) k.at_rest),
     )
@@ -96,8 +95,8 @@ invariant_of-result-2 g c =
     ∙ ap (λ z. after_message c.one.inside.seat.me.0 z.0) c.split_seat-message.ensures.4 in
     let back = ap (λ z. z.0) c.join_seat-2.ensures.2
     ∙ ((λ i. after_message (c.split_seat-message.ensures.2 i).0 (c.split_seat-message-2.ensures.4 i).0)) in
-    let is = told_back x c.one.inside.seat.me.0 c.other.inside.seat.me.0 c.join_seat.new.seat.me.0 c.load.new.seat.me.0
-    c.join_seat-2.new.seat.me.0 t.0 low' received (ap (λ z. z.0) t.1) t.5 back in
+    let is = told_back x c.one.inside.seat.me.0 c.other.inside.seat.me.0 _ _ _ t.0 low' received
+    (ap (λ z. z.0) t.1) t.5 back in
     let whole = c.join_seat-2.ensures.2
     ∙ ap (λ z. (after_message z.0 c.split_seat-message-2.result.me.0, z.1)) c.split_seat-message.ensures.2 in
     let u = c.load-2.ensures.2 in let second = u.0 ∙ (λ i. (after_meet x (is i) (whole i).0, (whole i).1)) in (
@@ -125,13 +124,13 @@ returns-clause-met g c =
     ∙ ap (λ z. after_message c.one.inside.seat.me.0 z.0) c.split_seat-message.ensures.4 in
     let back = ap (λ z. z.0) c.join_seat-2.ensures.2
     ∙ ((λ i. after_message (c.split_seat-message.ensures.2 i).0 (c.split_seat-message-2.ensures.4 i).0)) in
-    let is = told_back x c.one.inside.seat.me.0 c.other.inside.seat.me.0 c.join_seat.new.seat.me.0 c.load.new.seat.me.0
-    c.join_seat-2.new.seat.me.0 t.0 low' received (ap (λ z. z.0) t.1) t.5 back in
+    let is = told_back x c.one.inside.seat.me.0 c.other.inside.seat.me.0 _ _ _ t.0 low' received
+    (ap (λ z. z.0) t.1) t.5 back in
     let whole = c.join_seat-2.ensures.2
     ∙ ap (λ z. (after_message z.0 c.split_seat-message-2.result.me.0, z.1)) c.split_seat-message.ensures.2 in
     let u = c.load-2.ensures.2 in let second = u.0 ∙ (λ i. (after_meet x (is i) (whole i).0, (whole i).1)) in
-    let there = begins_there x c.one.inside.seat.me.0 c.other.inside.seat.me.0 c.join_seat.new.seat.me.0
-    c.join_seat-2.new.seat.me.0 t.0 received (ap (λ z. z.seen) back) t.4 in
+    let there = begins_there x c.one.inside.seat.me.0 c.other.inside.seat.me.0 _ c.join_seat-2.new.seat.me.0
+    t.0 received (ap (λ z. z.seen) back) t.4 in
     met x c.args.one c.args.other _ _ _ _ c.one.inside.seat.me.0 c.other.inside.seat.me.0 _ _ t.0
     c.split_seat-message.result.me.0.seen c.split_seat-message-2.result.me.0.seen
     (sym (ap (λ k. k.desk.kinds) c.one.view_is)) (sym (ap (λ k. k.knows) c.one.view_is))

@@ -1,13 +1,12 @@
 -- `poll`: the client takes an answer and draws the ticket of its return, or has missed, as `IsPollMiss` says. Its
 -- call is outstanding, so its own row waits; each step on the table keeps the rules of its play.
-use Rattle.std.proofs.Common.{map, ◌≡◌, rules, arith, refl, ℕ, ◌∷◌, ◌++◌, [], inr, sym, ap, ◌∙◌, subst}
-use Rattle.publication_list.specs.Calls.{PlaceSeen}
+use Rattle.std.proofs.Common.{rules, arith, refl, ℕ, ◌∷◌, ◌++◌, [], inr, sym, ap, ◌∙◌, subst}
 use Rattle.desk_invariant.specs.declared.board.DeskView.{DeskView}
 use Rattle.desk_invariant.specs.Views.{row_place, after_miss}
 use Rattle.desk_invariant.proofs.Calls.{look_for_answer_keeps_rule, take_keeps_rule, return_keeps_rule}
 use Rattle.desk_model.specs.declared.JournalEvent.TheVariants.{Returned}
 use Rattle.desk_model.specs.Images.{answer_in}
-use Rattle.publication.proofs.Dealing.{own_still}
+use Rattle.publication.proofs.Dealing.{own_still, same_desk}
 use Rattle.publication.specs.Handles.{IsClient, ArePlacesOf}
 use Rattle.publication.specs.Calls.{IsPollAnswer, IsPollMiss}
 use Rattle.publication.proofs.Slots.{can_exchange, came_out, same_answer}
@@ -42,7 +41,7 @@ invariant_of-client g c =
     let o = (outstanding (sym c.is_outstanding.ensures ∙ c.if-not-is_outstanding.false) k).1 in
     let t = ((c.look_and_exchange-found.ensures.tried c.client.inside.number o.0 k.agrees.number_is refl o.1).1
     (search rules)).0 in (
-      client_after_miss g.S.SeqObject.content _ _ _ _ _ _ _ _ _ _ k t,
+      client_after_miss _ k t,
       own_still _ _ _ _ (ap (λ m. m.0.lists) t) c.client.invariant.1,
     )
 
@@ -85,10 +84,7 @@ note_returned-requires g c =
     let k = own.0 in let o = own.1 in
     let t = (c.look_and_exchange-found.ensures.tried c.client.inside.number o.0 k.agrees.number_is refl o.1).0
     c.if-found-ne-ANSWERED.false in
-    record {
-      room = room_to_return g.S.SeqObject.op_in g.S.SeqObject.reply_in _ _ _ c.client.inside.member.journal _
-          o.0 k.agrees o.1;
-    }
+    record { room = room_to_return k.agrees o.1 }
 
 pub invariant_of-client-in-Answer : goal.invariant_of-client-in-Answer
 invariant_of-client-in-Answer g c =
@@ -99,11 +95,8 @@ invariant_of-client-in-Answer g c =
     let f = (c.fetch_add-ticket.ensures.2 _ _ (ap (λ z. z.0.own) c.exchange.ensures.3 ∙ ap (λ z. z.0.own) t.2)).0 in
     let p = c.note_returned.ensures in
     let same = same_answer _ _ (sym (came_out _ _ _ _ _ (ap (λ m. m.1) t.2) c.exchange.ensures.2) ∙ c.in-Answer.is) in
-    let turn = poll_turn g.S.SeqObject.op_in g.S.SeqObject.reply_in _ _ _ _ _ o.0 t.0 t.1 _ _ _ _ k o.1 t.2
-    c.exchange.ensures.3 f in
-    let ok = client_after_poll g.S.SeqObject.op_in g.S.SeqObject.reply_in _ _ _ _ c.client.inside.member.journal _
-    o.0 t.0
-    t.1 _ _ k o.1 o.2 t.3 t.5 turn
+    let turn = poll_turn _ t.1 k o.1 t.2 c.exchange.ensures.3 f in
+    let ok = client_after_poll _ t.0 t.1 k o.1 o.2 t.3 t.5 turn
     (p.events ∙ ap (λ a. c.client.inside.member.journal.events.items ++ Returned c.fetch_add-ticket.result a ∷ [])
     (sym same)) p.capacity in
     subst (λ z. IsClient g.S.SeqObject.op_in g.S.SeqObject.reply_in c.client.inside.number z.calls z.quota
@@ -119,12 +112,10 @@ returns-clause-polled g c =
     c.if-found-ne-ANSWERED.false in
     let f = c.fetch_add-ticket.ensures.2 _ _ (ap (λ z. z.0.own) c.exchange.ensures.3 ∙ ap (λ z. z.0.own) t.2) in
     let same = same_answer _ _ (sym (came_out _ _ _ _ _ (ap (λ m. m.1) t.2) c.exchange.ensures.2) ∙ c.in-Answer.is) in
-    let turn = poll_turn g.S.SeqObject.op_in g.S.SeqObject.reply_in _ _ _ _ _ o.0 t.0 t.1 _ _ _ _ k o.1 t.2
-    c.exchange.ensures.3 f.0 in
+    let turn = poll_turn _ t.1 k o.1 t.2 c.exchange.ensures.3 f.0 in
     subst (λ a. IsPollAnswer c.args.client.now.knows
     (answer_in g.S.SeqObject.reply_in a) c.fetch_add-ticket.new.seat.me.0) same
-    (polled g.S.SeqObject.op_in g.S.SeqObject.reply_in _ _ _ _ _ o.0 t.0 t.1 _ _ _ _ k
-    (sym (ap (λ v. v.knows) c.client.view_is)) o.1 o.2 t.3 t.4 t.5
+    (polled t.0 t.1 k (sym (ap (λ v. v.knows) c.client.view_is)) o.1 o.2 t.3 t.4 t.5
     (ap (λ z. z.0) c.exchange.ensures.3 ∙ ap (λ z. z.0) t.2) f.1 turn)
 
 pub returns-clause-desk : goal.returns-clause-desk
@@ -134,14 +125,10 @@ returns-clause-desk g c =
     let t = (c.look_and_exchange-found.ensures.tried c.client.inside.number o.0 k.agrees.number_is refl o.1).0
     c.if-found-ne-ANSWERED.false in
     let f = c.fetch_add-ticket.ensures.2 _ _ (ap (λ z. z.0.own) c.exchange.ensures.3 ∙ ap (λ z. z.0.own) t.2) in
-    let kinds : c.fetch_add-ticket.new.seat.me.0.kinds ≡ c.client.inside.seat.me.0.kinds =
-    ap (λ m. m.0.kinds) f.0 ∙ (ap (λ m. m.0.kinds) c.exchange.ensures.3 ∙ ap (λ m. m.0.kinds) t.2) in
-    (λ i. record {
-      table = (c.fetch_add-ticket.ensures.0 ∙ (c.exchange.ensures.0 ∙ c.look_and_exchange-found.ensures.table.0)) i;
-      quota = (c.note_returned.ensures.same i).quota;
-      kinds = kinds i;
-      lists = map (λ (p : PlaceSeen). p.roster) (c.note_returned.ensures.same i).places;
-    }) ∙ ap (λ k. k.desk) c.client.view_is
+    same_desk (c.fetch_add-ticket.ensures.0 ∙ (c.exchange.ensures.0 ∙ c.look_and_exchange-found.ensures.table.0))
+    (ap (λ z. z.quota) c.note_returned.ensures.same)
+    (ap (λ m. m.0.kinds) f.0 ∙ (ap (λ m. m.0.kinds) c.exchange.ensures.3 ∙ ap (λ m. m.0.kinds) t.2))
+    (ap (λ z. z.places) c.note_returned.ensures.same) (ap (λ k. k.desk) c.client.view_is)
 
 pub returns-then-found-ne-ANSWERED-clause-desk : goal.returns-then-found-ne-ANSWERED-clause-desk
 returns-then-found-ne-ANSWERED-clause-desk g c =
@@ -149,15 +136,8 @@ returns-then-found-ne-ANSWERED-clause-desk g c =
     let o = (outstanding (sym c.is_outstanding.ensures ∙ c.if-not-is_outstanding.false) k).1 in
     let t = (c.look_and_exchange-found.ensures.tried c.client.inside.number o.0 k.agrees.number_is refl o.1).1
     (search rules) in
-    let kinds : c.look_and_exchange-found.new.seat.me.0.kinds ≡ c.client.inside.seat.me.0.kinds =
-    ap (λ m. m.0.kinds) t.0 in
-    (λ i. record {
-      table = (c.look_and_exchange-found.ensures.table.0) i;
-      quota = c.client.inside.member.quota;
-      kinds = kinds i;
-      lists =
-          map (λ (p : PlaceSeen). p.roster) c.client.inside.member.places;
-    }) ∙ ap (λ k. k.desk) c.client.view_is
+    same_desk c.look_and_exchange-found.ensures.table.0 refl (ap (λ m. m.0.kinds) t.0) refl
+    (ap (λ k. k.desk) c.client.view_is)
 
 pub unreachable-requires : goal.unreachable-requires
 unreachable-requires g c =

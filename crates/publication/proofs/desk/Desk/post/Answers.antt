@@ -1,16 +1,15 @@
 -- `post`: the call is posted with the ticket that was drawn, and its invocation is the last event of the journal.
 -- The client is idle, so each step keeps the rules of its play, and `post_turn` says what it then knows.
-use Rattle.std.proofs.Common.{map, rules, arith, ◌≡◌, ◌<◌, ◌+◌, ◌++◌, ◌∷◌, [], true, List, length, refl, sym, ap, ◌∙◌}
+use Rattle.std.proofs.Common.{rules, arith, ◌≡◌, ◌<◌, ◌+◌, ◌++◌, ◌∷◌, [], true, List, length, refl, sym, ap, ◌∙◌}
 use Rattle.std.proofs.Common.{subst, false}
 use Rattle.atomic_table.specs.Table.{rest}
 use Rattle.model.specs.declared.Kind.{Kind}
 use Rattle.desk_model.specs.declared.JournalEvent.TheVariants.{Invoked}
 use Rattle.desk_model.specs.World.{kind_at, calls_made}
-use Rattle.publication_list.specs.Calls.{PlaceSeen}
 use Rattle.desk_invariant.specs.Views.{own_request, is_waiting}
 use Rattle.publication.specs.Handles.{Known, IsClient, ArePlacesOf}
 use Rattle.desk_invariant.proofs.Calls.{draw_keeps_rule, post_keeps_rule}
-use Rattle.publication.proofs.Dealing.{own_still}
+use Rattle.publication.proofs.Dealing.{own_still, same_desk}
 use Rattle.publication.proofs.Slots.{came_out, can_exchange, in_slot}
 use Rattle.publication.proofs.PostAndPoll.{own_idle, outstanding_is, post_turn, client_after_post, posted, room_to_call}
 use Rattle.publication.proofs.desk.Desk.post.Goals as goal
@@ -70,7 +69,6 @@ set_ticket-requires g c =
 
 pub store-requires : goal.store-requires
 store-requires g c = let k = before g (goal.at.store-requires g c).After-exchange in
-    let is = own_idle _ k.agrees.at_rest (sym k.agrees.outstanding_is) in
     let wide = c.self.invariant.0.0 in let low = k.agrees.number_low in let e = c.exchange.ensures.3 in let f =
     c.fetch_add-ticket.ensures.2 _ _ _ (ap (λ z. z.1) e) in let h =
     in_slot c.fetch_add-ticket.new.seat.me.0 (16 + c.client.inside.number) _ _ (rest c.fetch_add-ticket.new.seat.me.1)
@@ -88,10 +86,9 @@ store-requires g c = let k = before g (goal.at.store-requires g c).After-exchang
 pub note_invoked-requires-clause-room : goal.note_invoked-requires-clause-room
 note_invoked-requires-clause-room g c = let k = before g (goal.at.note_invoked-requires-clause-room g c).After-exchange
     in
-    let is = own_idle _ k.agrees.at_rest (sym k.agrees.outstanding_is) in let count = k.agrees.calls_is in
+    let count = k.agrees.calls_is in
     let left = calls_left g (goal.at.note_invoked-requires-clause-room g c).After-exchange in
-    room_to_call g.S.SeqObject.op_in g.S.SeqObject.reply_in _ _ _ c.client.inside.member.journal _ k.agrees
-    (omega arith)
+    room_to_call k.agrees (omega arith)
 
 pub note_invoked-requires-clause-calls : goal.note_invoked-requires-clause-calls
 note_invoked-requires-clause-calls g c = let count = c.client.invariant.0.agrees.calls_is in
@@ -99,7 +96,6 @@ note_invoked-requires-clause-calls g c = let count = c.client.invariant.0.agrees
 
 pub invariant_of-client : goal.invariant_of-client
 invariant_of-client g c = let k = before g (goal.at.invariant_of-client g c).After-exchange in
-    let is = own_idle _ k.agrees.at_rest (sym k.agrees.outstanding_is) in
     let e = c.exchange.ensures.3 in let f = c.fetch_add-ticket.ensures.2 _ _ _ (ap (λ z. z.1) e) in let h =
     in_slot c.fetch_add-ticket.new.seat.me.0 (16 + c.client.inside.number) _ _ (rest c.fetch_add-ticket.new.seat.me.1)
     (c.set_ticket.ensures _ (came_out _ _ _ _ _ (ap (λ z. z.1) f ∙ ap (λ z. z.1) e) c.slot_mut.ensures.value)) in
@@ -107,13 +103,11 @@ invariant_of-client g c = let k = before g (goal.at.invariant_of-client g c).Aft
     let written : c.note_invoked.new.self.journal.events.items
     ≡ c.client.inside.member.journal.events.items ++ Invoked c.fetch_add-ticket.result c.args.object
     c.args.op ∷ [] = p.events in let few = c.self.invariant.0.5 in let ok = c.in_default.ensures.there in
-    let turn = post_turn g.S.SeqObject.op_in g.S.SeqObject.reply_in _ _ _ _ _
-    (record { object = c.args.object; ticket = c.fetch_add-ticket.result; op = c.args.op }) _ _ _ _ _ k e f h
+    let turn = post_turn k e f h
     (c.store.ensures.2 _ (ap (λ z. z.0.own) h ∙ ap (λ z. z.0.own) f)) in
     let low : c.args.object < length c.self.inside.kinds.items = search rules in
-    let ok = client_after_post g.S.SeqObject.op_in g.S.SeqObject.reply_in _ _ _ c.client.inside.member.journal _ _ _ _
-    k turn
-    (omega arith)
+    let ok = client_after_post
+    (record { object = c.args.object; ticket = c.fetch_add-ticket.result; op = c.args.op }) k turn (omega arith)
     (let count = k.agrees.calls_is in
     let left = calls_left g (goal.at.invariant_of-client g c).After-exchange in omega arith) written p.capacity in
     subst (λ z. IsClient g.S.SeqObject.op_in g.S.SeqObject.reply_in c.client.inside.number z.calls z.quota
@@ -126,15 +120,12 @@ invariant_of-client g c = let k = before g (goal.at.invariant_of-client g c).Aft
 
 pub returns-clause-posted : goal.returns-clause-posted
 returns-clause-posted g c = let k = before g (goal.at.returns-clause-posted g c).After-exchange in
-    let is = own_idle _ k.agrees.at_rest (sym k.agrees.outstanding_is) in
     let e = c.exchange.ensures.3 in let f = c.fetch_add-ticket.ensures.2 _ _ _ (ap (λ z. z.1) e) in let h =
     in_slot c.fetch_add-ticket.new.seat.me.0 (16 + c.client.inside.number) _ _ (rest c.fetch_add-ticket.new.seat.me.1)
     (c.set_ticket.ensures _ (came_out _ _ _ _ _ (ap (λ z. z.1) f ∙ ap (λ z. z.1) e) c.slot_mut.ensures.value)) in
-    let turn = post_turn g.S.SeqObject.op_in g.S.SeqObject.reply_in _ _ _ _ _
-    (record { object = c.args.object; ticket = c.fetch_add-ticket.result; op = c.args.op }) _ _ _ _ _ k e f h
+    let turn = post_turn k e f h
     (c.store.ensures.2 _ (ap (λ z. z.0.own) h ∙ ap (λ z. z.0.own) f)) in
-    posted g.S.SeqObject.op_in g.S.SeqObject.reply_in _ _ _ _ _ _ _ _ _ _ k
-    (sym (ap (λ v. v.knows) c.client.view_is)) turn
+    posted c.args.op k (sym (ap (λ v. v.knows) c.client.view_is)) turn
 
 pub returns-clause-desk : goal.returns-clause-desk
 returns-clause-desk g c =
@@ -142,11 +133,7 @@ returns-clause-desk g c =
     in_slot c.fetch_add-ticket.new.seat.me.0 (16 + c.client.inside.number) _ _ (rest c.fetch_add-ticket.new.seat.me.1)
     (c.set_ticket.ensures _ (came_out _ _ _ _ _ (ap (λ z. z.1) f ∙ ap (λ z. z.1) e) c.slot_mut.ensures.value)) in
     let d = c.store.ensures.2 _ (ap (λ z. z.0.own) h ∙ ap (λ z. z.0.own) f) in
-    let kinds : c.store.new.seat.me.0.kinds ≡ c.client.inside.seat.me.0.kinds =
-    ap (λ m. m.0.kinds) d ∙ (ap (λ m. m.0.kinds) h ∙ (ap (λ m. m.0.kinds) f ∙ ap (λ m. m.0.kinds) e)) in
-    (λ i. record {
-      table = (c.store.ensures.0 ∙ (c.fetch_add-ticket.ensures.0 ∙ c.exchange.ensures.0)) i;
-      quota = (c.note_invoked.ensures.same i).quota;
-      kinds = kinds i;
-      lists = map (λ (p : PlaceSeen). p.roster) (c.note_invoked.ensures.same i).places;
-    }) ∙ ap (λ k. k.desk) c.client.view_is
+    same_desk (c.store.ensures.0 ∙ (c.fetch_add-ticket.ensures.0 ∙ c.exchange.ensures.0))
+    (ap (λ z. z.quota) c.note_invoked.ensures.same)
+    (ap (λ m. m.0.kinds) d ∙ (ap (λ m. m.0.kinds) h ∙ (ap (λ m. m.0.kinds) f ∙ ap (λ m. m.0.kinds) e)))
+    (ap (λ z. z.places) c.note_invoked.ensures.same) (ap (λ k. k.desk) c.client.view_is)

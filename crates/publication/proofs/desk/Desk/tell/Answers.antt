@@ -2,7 +2,6 @@ use Rattle.std.proofs.Common.{arith, sym, ap, subst, ◌∙◌}
 use Rattle.desk_invariant.proofs.Notices.{notice_keeps_rule}
 use Rattle.publication.proofs.Dealing.{own_still}
 use Rattle.publication.specs.Handles.{IsClient}
-use Rattle.publication.proofs.Holds.{agrees_light}
 use Rattle.publication.proofs.desk.Desk.tell.Goals as goal
 
 pub join_seat-requires : goal.join_seat-requires
@@ -18,6 +17,6 @@ pub invariant_of-client : goal.invariant_of-client
 invariant_of-client g c = let k = c.client.invariant.0 in (
   subst (IsClient g.S.SeqObject.op_in g.S.SeqObject.reply_in _ _ _ _ c.client.inside.member.journal)
       (sym c.join_seat.ensures.2)
-      record { agrees = agrees_light k.agrees; free = k.free; in_hand = k.in_hand },
+      record { agrees = assumption k.agrees; free = k.free; in_hand = k.in_hand },
   own_still _ _ _ _ (ap (λ m. m.0.lists) c.join_seat.ensures.2) c.client.invariant.1,
 )

@@ -6,17 +6,23 @@ use Rattle.publication.proofs.Dealing.{own_still}
 use Rattle.publication.proofs.Slots.{came_out, same_core, can_exchange}
 use Rattle.publication.proofs.Holds.{client_after_miss, pass_after_win}
 use Rattle.publication.proofs.CallClauses.{win_gives}
+use Rattle.publication.proofs.desk.Desk.win.Given.{Over}
 use Rattle.publication.proofs.desk.Desk.win.Goals as goal
+use Rattle.publication.proofs.desk.Desk.win.Goals.{After-client}
+
+-- the client knows of the object
+there : (g : Over) (c : After-client g) → c.args.object < length c.client.inside.seat.me.0.kinds
+there g c = subst (λ z. c.args.object < length z)
+    (sym (ap (λ k. k.desk.kinds) c.client.view_is ∙ ap (λ d. d.kinds) c.requires.desk)) c.requires.object
 
 pub look_and_exchange-found-requires-clause-look : goal.look_and_exchange-found-requires-clause-look
 look_and_exchange-found-requires-clause-look g c =
     look_at_lock_keeps_rule _ _ _ _ _ _ _ _ _ _ c.client.invariant.0.agrees.client_is
 
 pub look_and_exchange-found-requires-clause-found : goal.look_and_exchange-found-requires-clause-found
-look_and_exchange-found-requires-clause-found g c = let there =
-    subst (λ z. c.args.object < length z)
-    (sym (ap (λ k. k.desk.kinds) c.client.view_is ∙ ap (λ d. d.kinds) c.requires.desk)) c.requires.object in
-    λ m told. (told there).0 refl
+look_and_exchange-found-requires-clause-found g c =
+    let low = there g (goal.at.look_and_exchange-found-requires-clause-found g c).After-client in
+    λ m told. (told low).0 refl
 
 pub look_and_exchange-found-requires-clause-missed : goal.look_and_exchange-found-requires-clause-missed
 look_and_exchange-found-requires-clause-missed g c = λ n m miss told below. ((λ hit. absurd (miss hit)), (told below).1)
@@ -32,45 +38,39 @@ look_and_exchange-found-requires-clause-exchange g c = let d = c.self.invariant 
 
 pub invariant_of-result : goal.invariant_of-result
 invariant_of-result g c =
-    let there = subst (λ z. c.args.object < length z)
-    (sym (ap (λ k. k.desk.kinds) c.client.view_is ∙ ap (λ d. d.kinds) c.requires.desk)) c.requires.object in
-    let t = (c.look_and_exchange-found.ensures.tried there).1 c.if-found-ne0.true in (
-      client_after_miss g.S.SeqObject.content _ _ _ _ _ _ _ _ _ _ c.client.invariant.0 t,
+    let low = there g (goal.at.invariant_of-result g c).After-client in
+    let t = (c.look_and_exchange-found.ensures.tried low).1 c.if-found-ne0.true in (
+      client_after_miss _ c.client.invariant.0 t,
       own_still _ _ _ _ (ap (λ m. m.0.lists) t) c.client.invariant.1,
     )
 
 pub exchange-requires : goal.exchange-requires
 exchange-requires g c =
-    let there = subst (λ z. c.args.object < length z)
-    (sym (ap (λ k. k.desk.kinds) c.client.view_is ∙ ap (λ d. d.kinds) c.requires.desk)) c.requires.object in
-    let t = (c.look_and_exchange-found.ensures.tried there).0 (search rules) in
+    let low = there g (goal.at.exchange-requires g c).After-client in
+    let t = (c.look_and_exchange-found.ensures.tried low).0 (search rules) in
     (search rules, can_exchange _ _ _ _ (ap (λ m. m.1) t.2))
 
 pub invariant_of-result-in-Core : goal.invariant_of-result-in-Core
 invariant_of-result-in-Core g c =
-    let there = subst (λ z. c.args.object < length z)
-    (sym (ap (λ k. k.desk.kinds) c.client.view_is ∙ ap (λ d. d.kinds) c.requires.desk)) c.requires.object in
-    let t = (c.look_and_exchange-found.ensures.tried there).0 c.if-found-ne0.false in let e = c.exchange.ensures in
+    let low = there g (goal.at.invariant_of-result-in-Core g c).After-client in
+    let t = (c.look_and_exchange-found.ensures.tried low).0 c.if-found-ne0.false in let e = c.exchange.ensures in
     let few = c.self.invariant.0.5 in
     let low : c.args.object < length c.self.inside.kinds.items = search rules in (
-      pass_after_win g.S.SeqObject.content g.S.SeqObject.op_in g.S.SeqObject.reply_in _ _ _ _ _ _ t.0 _ _ _ _ _
-          c.client.invariant.0 t.2 e.3
+      pass_after_win _ _ _ _ _ _ _ _ _ c.client.invariant.0 t.2 e.3
           (same_core _ _ (sym c.in-Core.is ∙ came_out _ _ _ _ _ (ap (λ m. m.1) t.2) e.2)) t.3 (omega arith),
       own_still _ _ _ _ (ap (λ m. m.0.lists) e.3 ∙ ap (λ m. m.0.lists) t.2) c.client.invariant.1,
     )
 
 pub unreachable-requires : goal.unreachable-requires
 unreachable-requires g c =
-    let there = subst (λ z. c.args.object < length z)
-    (sym (ap (λ k. k.desk.kinds) c.client.view_is ∙ ap (λ d. d.kinds) c.requires.desk)) c.requires.object in
-    let t = (c.look_and_exchange-found.ensures.tried there).0 c.if-found-ne0.false in
+    let low = there g (goal.at.unreachable-requires g c).After-client in
+    let t = (c.look_and_exchange-found.ensures.tried low).0 c.if-found-ne0.false in
     c.in_default.not-Core t.0 (came_out _ _ _ _ _ (ap (λ m. m.1) t.2) c.exchange.ensures.2)
 
 pub returns-clause-won : goal.returns-clause-won
 returns-clause-won g c =
-    let there = subst (λ z. c.args.object < length z)
-    (sym (ap (λ k. k.desk.kinds) c.client.view_is ∙ ap (λ d. d.kinds) c.requires.desk)) c.requires.object in
-    let t = (c.look_and_exchange-found.ensures.tried there).0 c.if-found-ne0.false in let e = c.exchange.ensures in
+    let low = there g (goal.at.returns-clause-won g c).After-client in
+    let t = (c.look_and_exchange-found.ensures.tried low).0 c.if-found-ne0.false in let e = c.exchange.ensures in
     let same = same_core _ _ (sym c.in-Core.is ∙ came_out _ _ _ _ _ (ap (λ m. m.1) t.2) e.2) in
     win_gives g.S.SeqObject.content g.S.SeqObject.op_in g.S.SeqObject.reply_in c.args.client c.args.object t.0
     c.in-Core.core t.1
