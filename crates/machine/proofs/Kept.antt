@@ -14,8 +14,7 @@ use Rattle.desk_model.specs.declared.JournalEvent.TheVariants.{Returned}
 use Rattle.desk_model.specs.World.{AnyRequest, AnyAnswer, AnyDone, AnyEvent, World, Stage, AnyEntry, kind_at, logged}
 use Rattle.desk_model.specs.World.{Serves, request_of, invoked, calls_made, journal_of, journal_in, Replays}
 use Rattle.desk_model.specs.Transitions.{Step, Takes, Transition, MayEnd, HoldsNothing, changed, staged, ticked}
-use Rattle.desk_model.specs.Transitions.{held_by, handed, served_by, draw_call, draw_return, answer, win}
-use Rattle.desk_model.specs.Transitions.{release, end}
+use Rattle.desk_model.specs.Transitions.{held_by, handed, served_by, draw_call, draw_return, answer, win, release, end}
 use Rattle.desk_model.proofs.Changed.{changed_here, changed_else, changed_all}
 use Rattle.machine.specs.declared.step.Stage.TheVariants.{Idle, Drawn, Answered}
 use Rattle.machine.specs.Machines.{State, AnyStage, HasRun, IsMachine, clients_of, world_of, stage_of, done_in}
