@@ -26,7 +26,7 @@ invariant_of-result g c = let h = c.self.invariant.0 in let r =
 pub returns-clause-put_back : goal.returns-clause-put_back
 returns-clause-put_back g c = let h = c.self.invariant.0 in let r =
     back_ready _ _ _ _ _ _ _ _ h c.exchange.ensures.3 in
-    is_put_back c.args.self _ _ _ _ _ _ _ _ (sym c.self.view_is) c.exchange.ensures.3 (c.store.ensures.2 _ _ _ _ r.1)
+    is_put_back _ _ (sym c.self.view_is) c.exchange.ensures.3 (c.store.ensures.2 _ _ _ _ r.1)
 
 pub returns-clause-desk : goal.returns-clause-desk
 returns-clause-desk g c = let h = c.self.invariant.0 in let r =

@@ -25,12 +25,12 @@ invariant_of-result g c = let p = c.self.invariant.0 in let r =
 pub returns-clause-released : goal.returns-clause-released
 returns-clause-released g c = let p = c.self.invariant.0 in let r =
     release_ready _ _ _ _ _ _ _ _ p c.exchange.ensures.3 in let t = c.store.ensures.2 _ r.1 in
-    is_released c.args.self _ _ _ _ _ _ (sym c.self.view_is) c.exchange.ensures.3 t.0
+    is_released (sym c.self.view_is) c.exchange.ensures.3 t.0
 
 pub returns-clause-seen : goal.returns-clause-seen
 returns-clause-seen g c = let p = c.self.invariant.0 in let r =
     release_ready _ _ _ _ _ _ _ _ p c.exchange.ensures.3 in let t = c.store.ensures.2 _ r.1 in
-    log_is_seen c.args.self _ _ _ _ _ _ (sym c.self.view_is) c.exchange.ensures.3 t.0 p.low p.agrees.wide
+    log_is_seen (sym c.self.view_is) c.exchange.ensures.3 t.0 p.low p.agrees.wide
 
 pub returns-clause-desk : goal.returns-clause-desk
 returns-clause-desk g c = let p = c.self.invariant.0 in let r =
