@@ -86,7 +86,8 @@ may_serve h v content is replays can = does (kind_held v) v.log v.request.op con
 
 -- After `put_back` the request is back in its row: the slot was filled with the request, and the row returned.
 pub is_put_back : {S O R : Type 0} (z : DeskId) (n : PassState) {h v : Handling}
-    {filled returned : Me (Slot S O R) DeskView} {i : ℕ} {s : Slot S O R} {tl : List (ℕ × Slot S O R)} → h ≡ v → filled ≡ (v.knows, (i, s) ∷ tl)
+    {filled returned : Me (Slot S O R) DeskView} {i : ℕ} {s : Slot S O R} {tl : List (ℕ × Slot S O R)} → h ≡ v
+    → filled ≡ (v.knows, (i, s) ∷ tl)
     → returned ≡ (after_put_back v.object v.log v.row v.request filled.0, rest filled.1)
     → IsPutBack h (record { desk = z; knows = returned.0; object = v.object; log = v.log; state = n })
 is_put_back z n is e f = rw (is, f, e) assumption
