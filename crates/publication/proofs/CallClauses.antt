@@ -26,36 +26,36 @@ use Rattle.publication.specs.Calls.{IsWon, IsPicked, IsPickMiss, CanDoAfter, kin
 
 -- ---- a miss, a release and an answer
 
--- A miss at the row r tells that the pass got no request there (w: the view after the miss).
-pub pick_misses : (p : Holding) (d : DeskId) (n : PassState) (r : ℕ) (w : DeskView) (v : Holding) → p ≡ v
-    → w ≡ after_row_miss (row_place r) v.object v.knows → All (λ b. b.row ≢ r) v.knows.back
-    → IsPickMiss p r (record { desk = d; knows = w; object = v.object; log = v.log; state = n })
-pick_misses p d n r w v is e none_back = rw is (assumption (e, none_back))
+-- A miss at the row r tells that the pass got no request there.
+pub pick_misses : (d : DeskId) (n : PassState) (r : ℕ) {p v : Holding} {missed : DeskView} → p ≡ v
+    → missed ≡ after_row_miss (row_place r) v.object v.knows → All (λ b. b.row ≢ r) v.knows.back
+    → IsPickMiss p r (record { desk = d; knows = missed; object = v.object; log = v.log; state = n })
+pick_misses d n r is e none_back = rw is (assumption (e, none_back))
 
--- After `release` the client knows the log that it left (b: with the core in its slot; d: after the step).
-pub is_released : {S O R : Type 0} (p : Holding) (b d : Me (Slot S O R) DeskView) (v : Holding) (i : ℕ)
-    (s : Slot S O R) (tl : List (ℕ × Slot S O R))
-    → p ≡ v → b ≡ (v.knows, (i, s) ∷ tl) → d ≡ (after_release v.object v.log b.0, rest b.1)
-    → d.0 ≡ after_release p.object p.log p.knows
-is_released p b d v i s tl is e f = rw (f, e, is)
+-- After `release` the client knows the log that it left: the slot was filled with the core, and the object released.
+pub is_released : {S O R : Type 0} {p v : Holding} {filled released : Me (Slot S O R) DeskView} {i : ℕ} {s : Slot S O R}
+    {tl : List (ℕ × Slot S O R)} → p ≡ v → filled ≡ (v.knows, (i, s) ∷ tl)
+    → released ≡ (after_release v.object v.log filled.0, rest filled.1)
+    → released.0 ≡ after_release p.object p.log p.knows
+is_released is e f = rw (f, e, is)
 
--- After `release` the client has seen the log that it left (b: with the core in its slot; d: after the step).
-pub log_is_seen : {S O R : Type 0} (p : Holding) (b d : Me (Slot S O R) DeskView) (v : Holding) (i : ℕ)
-    (s : Slot S O R) (tl : List (ℕ × Slot S O R))
-    → p ≡ v → b ≡ (v.knows, (i, s) ∷ tl) → d ≡ (after_release v.object v.log b.0, rest b.1)
-    → v.object < 16 → length v.knows.seen ≡ 16 → seen_of d.0 p.object ≡ p.log
-log_is_seen p b d v i s tl is e f low wide = rw (f, e, is)
+-- After `release` the client has seen the log that it left.
+pub log_is_seen : {S O R : Type 0} {p v : Holding} {filled released : Me (Slot S O R) DeskView} {i : ℕ} {s : Slot S O R}
+    {tl : List (ℕ × Slot S O R)} → p ≡ v → filled ≡ (v.knows, (i, s) ∷ tl)
+    → released ≡ (after_release v.object v.log filled.0, rest filled.1)
+    → v.object < 16 → length v.knows.seen ≡ 16 → seen_of released.0 p.object ≡ p.log
+log_is_seen {p} {v} is e f low wide = rw (f, e, is)
     (get_or-set_same v.knows.seen v.object v.log [] (omega arith))
 
--- After `answer` the request has this answer, and the log has its entry, if it is a reply (b: with the answer in its
--- slot; d: after the step).
-pub answer_gives : {S O R : Type 0} (h : Handling) (z : DeskId) (n : PassState) (a : AnyAnswer)
-    (b d : Me (Slot S O R) DeskView) (v : Handling)
-    (log : List AnyEntry) (i : ℕ) (s : Slot S O R) (tl : List (ℕ × Slot S O R)) → h ≡ v → b ≡ (v.knows, (i, s) ∷ tl)
-    → d ≡ (after_answer v.row v.object (v.log ++ logged v.row v.request a) b.0, tl)
+-- After `answer` the request has this answer, and the log has its entry, if it is a reply: the slot was filled with the
+-- answer, and the row answered.
+pub answer_gives : {S O R : Type 0} (z : DeskId) (n : PassState) (a : AnyAnswer) {h v : Handling}
+    {filled answered : Me (Slot S O R) DeskView} {log : List AnyEntry} {i : ℕ} {s : Slot S O R}
+    {tl : List (ℕ × Slot S O R)} → h ≡ v → filled ≡ (v.knows, (i, s) ∷ tl)
+    → answered ≡ (after_answer v.row v.object (v.log ++ logged v.row v.request a) filled.0, tl)
     → log ≡ v.log ++ logged v.row v.request a → IsLegalLog (kind_at v.knows.kinds v.object) log
-    → IsAnsweredCall h a (record { desk = z; knows = d.0; object = v.object; log = log; state = n })
-answer_gives h z n a b d v log i s tl is e f grown legal =
+    → IsAnsweredCall h a (record { desk = z; knows = answered.0; object = v.object; log = log; state = n })
+answer_gives z n a {v = v} is e f grown legal =
     rw (is, f, e) (assumption (grown, legal, ap (λ z. after_answer v.row v.object z v.knows) (sym grown)))
 
 -- ---- what the object can do
@@ -84,25 +84,25 @@ may_serve h v content is replays can = does (kind_held v) v.log v.request.op con
 
 -- ---- a request put back, an object opened, a request got
 
--- After `put_back` the request is back in its row (b: with the request in its slot; d: after the step).
-pub is_put_back : {S O R : Type 0} (h : Handling) (z : DeskId) (n : PassState) (b d : Me (Slot S O R) DeskView)
-    (v : Handling) (i : ℕ)
-    (s : Slot S O R) (tl : List (ℕ × Slot S O R)) → h ≡ v → b ≡ (v.knows, (i, s) ∷ tl)
-    → d ≡ (after_put_back v.object v.log v.row v.request b.0, rest b.1)
-    → IsPutBack h (record { desk = z; knows = d.0; object = v.object; log = v.log; state = n })
-is_put_back h z n b d v i s tl is e f = rw (is, f, e) assumption
+-- After `put_back` the request is back in its row: the slot was filled with the request, and the row returned.
+pub is_put_back : {S O R : Type 0} (z : DeskId) (n : PassState) {h v : Handling}
+    {filled returned : Me (Slot S O R) DeskView} {i : ℕ} {s : Slot S O R} {tl : List (ℕ × Slot S O R)} → h ≡ v
+    → filled ≡ (v.knows, (i, s) ∷ tl)
+    → returned ≡ (after_put_back v.object v.log v.row v.request filled.0, rest filled.1)
+    → IsPutBack h (record { desk = z; knows = returned.0; object = v.object; log = v.log; state = n })
+is_put_back z n is e f = rw (is, f, e) assumption
 
 module _ {S O R : Type 0} (content : S → Content) (op_in : O → AnyOp) (reply_in : R → AnyReply) where
-  -- After a win the client has opened the object x, whose log goes on from what it had seen (m: before; a: after the
-  -- win; b: with nothing in the slot).
-  pub win_gives : (c : Known) (x : ℕ) (k core : Core S O R) (l : List AnyEntry) (m a b : Me (Slot S O R) DeskView)
-      (d : DeskId) (n : PassState)
-      → c.desk.kinds ≡ m.0.kinds → c.knows ≡ m.0 → a ≡ (after_win x l m.0, (x, slot.Core k) ∷ m.1)
-      → b ≡ (a.0, (x, slot.Nothing) ∷ rest a.1)
+  -- After a win the client has opened the object x, whose log goes on from what it had seen: the object was won, and
+  -- its slot emptied.
+  pub win_gives : (c : Known) (x : ℕ) (k core : Core S O R) (l : List AnyEntry)
+      (m won emptied : Me (Slot S O R) DeskView) (d : DeskId) (n : PassState)
+      → c.desk.kinds ≡ m.0.kinds → c.knows ≡ m.0 → won ≡ (after_win x l m.0, (x, slot.Core k) ∷ m.1)
+      → emptied ≡ (won.0, (x, slot.Nothing) ∷ rest won.1)
       → core ≡ k → CoreFits content op_in reply_in (kind_at m.0.kinds x) (get_elem? m.0.lists x) k l
       → StartsWith l (seen_of m.0 x)
-      → IsWon c x (record { desk = d; knows = b.0; object = x; log = log_of op_in reply_in core; state = n })
-  win_gives c x k core l m a b d n kinds is e f same fits begins = rw (f, e, same) record {
+      → IsWon c x (record { desk = d; knows = emptied.0; object = x; log = log_of op_in reply_in core; state = n })
+  win_gives c x k core l m won emptied d n kinds is e f same fits begins = rw (f, e, same) record {
     object = refl;
     knows = λ i. after_win x (sym fits.0 i) (sym is i);
     legal = rw (kinds, fits.0) (content k.object, fits.1);
@@ -110,22 +110,21 @@ module _ {S O R : Type 0} (content : S → Content) (op_in : O → AnyOp) (reply
   }
 
 module _ {S O R : Type 0} (op_in : O → AnyOp) where
-  -- After a pick the client has got the request of the row r (a: after the pick; b: with nothing in the slot).
-  pub pick_gives : (p : Holding) (d : DeskId) (n : PassState) (r : ℕ) (q q' : Request O) (tl : List (ℕ × Slot S O R))
-      (a b : Me (Slot S O R) DeskView)
-      (v : Holding) → p ≡ v → a
-      ≡ (after_pick v.object v.log r (request_in op_in q) v.knows, (16 + r, slot.Request q) ∷ tl)
-      → b ≡ (a.0, (16 + r, slot.Nothing) ∷ rest a.1) → q ≡ q' → q.object ≡ v.object
+  -- After a pick the client has got the request of the row r: it was picked, and its slot emptied.
+  pub pick_gives : (d : DeskId) (n : PassState) (r : ℕ) {p v : Holding} {q q' : Request O} {tl : List (ℕ × Slot S O R)}
+      {picked emptied : Me (Slot S O R) DeskView} → p ≡ v
+      → picked ≡ (after_pick v.object v.log r (request_in op_in q) v.knows, (16 + r, slot.Request q) ∷ tl)
+      → emptied ≡ (picked.0, (16 + r, slot.Nothing) ∷ rest picked.1) → q ≡ q' → q.object ≡ v.object
       → kind_of (op_in q.op) ≡ kind_at v.knows.kinds v.object
       → All (λ b. b.row ≡ r → b.request ≡ request_in op_in q) v.knows.back
       → ((p : AnyRequest) → r ≡ v.knows.number → v.knows.own ≡ own.Waiting p → request_in op_in q ≡ p)
       → IsPicked p r (record {
         desk = d;
-        knows = b.0;
+        knows = emptied.0;
         object = v.object;
         log = v.log;
         state = n;
         row = r;
         request = request_in op_in q';
       })
-  pick_gives p d n r q q' tl a b v is e f same on of_kind again is_own = rw (is, f, e, ← same) assumption
+  pick_gives d n r is e f same on of_kind again is_own = rw (is, f, e, ← same) assumption

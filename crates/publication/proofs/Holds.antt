@@ -82,9 +82,9 @@ module _ {S O R : Type 0} (content : S → Content) (op_in : O → AnyOp) (reply
 
 -- after a miss the client's fields still agree with what it knows
 pub client_after_miss : {S O R : Type 0} {op_in : O → AnyOp} {reply_in : R → AnyReply} {number calls quota : ℕ}
-    {outstanding : Bool} {j : Journal O R} (i : ℕ) {m d : Me (Slot S O R) DeskView}
-    → IsClient op_in reply_in number calls quota outstanding j m → d ≡ (after_miss i m.0, m.1)
-    → IsClient op_in reply_in number calls quota outstanding j d
+    {outstanding : Bool} {j : Journal O R} (i : ℕ) {m missed : Me (Slot S O R) DeskView}
+    → IsClient op_in reply_in number calls quota outstanding j m → missed ≡ (after_miss i m.0, m.1)
+    → IsClient op_in reply_in number calls quota outstanding j missed
 client_after_miss i k e = rw e record { agrees = assumption k.agrees; free = k.free; in_hand = k.in_hand }
 
 module _ {S O R : Type 0} (content : S → Content) (op_in : O → AnyOp) (reply_in : R → AnyReply)
@@ -103,10 +103,11 @@ module _ {S O R : Type 0} (content : S → Content) (op_in : O → AnyOp) (reply
 
   -- ---- a win and a release
 
-  -- the core is out of its slot: m before, a after the win, b with nothing in the slot
-  pub pass_after_win : {x : ℕ} {k core : Core S O R} (l : List AnyEntry) {m a b : M} → TheClient m
-      → a ≡ (after_win x l m.0, (x, slot.Core k) ∷ m.1) → b ≡ (a.0, (x, slot.Nothing) ∷ rest a.1) → core ≡ k
-      → CoreFits content op_in reply_in (kind_at m.0.kinds x) (get_elem? m.0.lists x) k l → x < 16 → ThePass x core b
+  -- the core is out of its slot
+  pub pass_after_win : {x : ℕ} {k core : Core S O R} (l : List AnyEntry) {m won emptied : M} → TheClient m
+      → won ≡ (after_win x l m.0, (x, slot.Core k) ∷ m.1) → emptied ≡ (won.0, (x, slot.Nothing) ∷ rest won.1) → core ≡ k
+      → CoreFits content op_in reply_in (kind_at m.0.kinds x) (get_elem? m.0.lists x) k l → x < 16
+      → ThePass x core emptied
   pass_after_win {x} l c e f same fits low = rw (f, e, same) record {
     agrees = assumption c.agrees;
     holds = ap (held.Pass x) (sym fits.0);
@@ -115,10 +116,11 @@ module _ {S O R : Type 0} (content : S → Content) (op_in : O → AnyOp) (reply
     low = low;
   }
 
-  -- the client after its pass was put back: m before, a with the core in hand, b after the step
-  pub client_after_release : {x : ℕ} {core : Core S O R} {m a b : M} → ThePass x core m
-      → a ≡ (m.0, (x, slot.Core core) ∷ rest m.1) → b ≡ (after_release x (log_of op_in reply_in core) a.0, rest a.1)
-      → IsAccount x a.0 (log_of op_in reply_in core) → TheClient b
+  -- the client after its pass was put back: its slot was filled with the core, and the object released
+  pub client_after_release : {x : ℕ} {core : Core S O R} {m filled released : M} → ThePass x core m
+      → filled ≡ (m.0, (x, slot.Core core) ∷ rest m.1)
+      → released ≡ (after_release x (log_of op_in reply_in core) filled.0, rest filled.1)
+      → IsAccount x filled.0 (log_of op_in reply_in core) → TheClient released
   client_after_release {x} {core} p e f account = rw (f, e) record {
     agrees = assumption
         (agrees_seeing x (log_of op_in reply_in core) p.low (content core.object, p.fits.1) (rw e at account) p.agrees);
@@ -127,32 +129,34 @@ module _ {S O R : Type 0} (content : S → Content) (op_in : O → AnyOp) (reply
   }
 
   -- with the core in hand, the client may release
-  pub release_ready : {x : ℕ} {core : Core S O R} {m a : M} → ThePass x core m
-      → a ≡ (m.0, (x, slot.Core core) ∷ rest m.1)
-      → (a.0.role ≡ role.Client) × (a.0.held ≡ held.Pass x (log_of op_in reply_in core))
-      × (a.1 ≡ (x, slot.Core core) ∷ rest m.1)
-      × CoreFits content op_in reply_in (kind_at a.0.kinds x) (get_elem? a.0.lists x) core (log_of op_in reply_in core)
-      × IsAtRest a.0.own
+  pub release_ready : {x : ℕ} {core : Core S O R} {m filled : M} → ThePass x core m
+      → filled ≡ (m.0, (x, slot.Core core) ∷ rest m.1)
+      → (filled.0.role ≡ role.Client) × (filled.0.held ≡ held.Pass x (log_of op_in reply_in core))
+      × (filled.1 ≡ (x, slot.Core core) ∷ rest m.1)
+      × CoreFits content op_in reply_in (kind_at filled.0.kinds x) (get_elem? filled.0.lists x)
+      core (log_of op_in reply_in core)
+      × IsAtRest filled.0.own
   release_ready p e = rw e (p.agrees.client_is, p.holds, refl, p.fits, p.agrees.at_rest)
 
   -- ---- misses at rows, and requests in hand
 
   -- with the request in hand again, the client may put it back
-  pub back_ready : {x : ℕ} {core : Core S O R} {r : ℕ} {p : Request O} {m b : M} → TheHand x core r p m
-      → b ≡ (m.0, (16 + r, slot.Request p) ∷ rest m.1)
-      → (b.0.role ≡ role.Client) × (b.0.held ≡ held.Hand x (log_of op_in reply_in core) r (request_in op_in p))
-      × (b.1 ≡ (16 + r, slot.Request p) ∷ rest m.1)
+  pub back_ready : {x : ℕ} {core : Core S O R} {r : ℕ} {p : Request O} {m filled : M} → TheHand x core r p m
+      → filled ≡ (m.0, (16 + r, slot.Request p) ∷ rest m.1)
+      → (filled.0.role ≡ role.Client)
+      × (filled.0.held ≡ held.Hand x (log_of op_in reply_in core) r (request_in op_in p))
+      × (filled.1 ≡ (16 + r, slot.Request p) ∷ rest m.1)
   back_ready h e = rw e (h.agrees.client_is, h.holds, refl)
 
   -- with the answer in hand, the client may answer
-  pub answer_ready : {x : ℕ} {k : Core S O R} (k' : Core S O R) {r : ℕ} {q : Request O} {a : Answer R} {m b : M}
+  pub answer_ready : {x : ℕ} {k : Core S O R} (k' : Core S O R) {r : ℕ} {q : Request O} {a : Answer R} {m filled : M}
       → TheHand x k r q m
-      → b ≡ (m.0, (16 + r, slot.Answer a) ∷ rest m.1)
+      → filled ≡ (m.0, (16 + r, slot.Answer a) ∷ rest m.1)
       → log_of op_in reply_in k' ≡ log_of op_in reply_in k ++ logged r (request_in op_in q) (answer_in reply_in a)
       → Serves (content k.object) (op_in q.op) (answer_in reply_in a) (content k'.object)
-      → (b.0.role ≡ role.Client) × (b.0.held ≡ held.Hand x (log_of op_in reply_in k) r (request_in op_in q))
-      × (b.1 ≡ (16 + r, slot.Answer a) ∷ rest m.1)
-      × IsLegalLog (kind_at b.0.kinds x) (log_of op_in reply_in k
+      → (filled.0.role ≡ role.Client) × (filled.0.held ≡ held.Hand x (log_of op_in reply_in k) r (request_in op_in q))
+      × (filled.1 ≡ (16 + r, slot.Answer a) ∷ rest m.1)
+      × IsLegalLog (kind_at filled.0.kinds x) (log_of op_in reply_in k
       ++ logged r (request_in op_in q) (answer_in reply_in a))
   answer_ready {x} {k} k' {r} {q} {a} {m} h e log did = rw e (
     h.agrees.client_is,
@@ -166,8 +170,8 @@ module _ {S O R : Type 0} (content : S → Content) (op_in : O → AnyOp) (reply
   )
 
   -- a pass after a miss at a row
-  pub pass_after_row_miss : {x : ℕ} {core : Core S O R} (i : ℕ) {m b : M} → ThePass x core m
-      → b ≡ (after_row_miss i x m.0, m.1) → ThePass x core b
+  pub pass_after_row_miss : {x : ℕ} {core : Core S O R} (i : ℕ) {m missed : M} → ThePass x core m
+      → missed ≡ (after_row_miss i x m.0, m.1) → ThePass x core missed
   pass_after_row_miss i p f = rw f record {
     agrees = assumption p.agrees;
     holds = p.holds;
@@ -176,11 +180,11 @@ module _ {S O R : Type 0} (content : S → Content) (op_in : O → AnyOp) (reply
     low = p.low;
   }
 
-  -- the request q is out of its slot: a after the pick, b with nothing in the slot
-  pub hand_ok : {x : ℕ} {core : Core S O R} (r : ℕ) {q p : Request O} {m a b : M} → ThePass x core m
-      → a ≡ (after_pick x (log_of op_in reply_in core) r (request_in op_in q) m.0, (16 + r, slot.Request q) ∷ m.1)
-      → b ≡ (a.0, (16 + r, slot.Nothing) ∷ rest a.1) → q ≡ p → q.object ≡ x
-      → kind_of (op_in q.op) ≡ kind_at m.0.kinds x → r < 32 → TheHand x core r p b
+  -- the request q is out of its slot: it was picked, and the slot emptied
+  pub hand_ok : {x : ℕ} {core : Core S O R} (r : ℕ) {q p : Request O} {m picked emptied : M} → ThePass x core m
+      → picked ≡ (after_pick x (log_of op_in reply_in core) r (request_in op_in q) m.0, (16 + r, slot.Request q) ∷ m.1)
+      → emptied ≡ (picked.0, (16 + r, slot.Nothing) ∷ rest picked.1) → q ≡ p → q.object ≡ x
+      → kind_of (op_in q.op) ≡ kind_at m.0.kinds x → r < 32 → TheHand x core r p emptied
   hand_ok r k e f same on of_kind low = rw (f, e, ← same) record {
     agrees = assumption k.agrees;
     holds = refl;
@@ -192,10 +196,11 @@ module _ {S O R : Type 0} (content : S → Content) (op_in : O → AnyOp) (reply
     of_kind = of_kind;
   }
 
-  -- the request is back in its row: b with the request in its slot, d after the step
-  pub back_ok : {x : ℕ} {core : Core S O R} {r : ℕ} {p : Request O} {m b d : M} → TheHand x core r p m
-      → b ≡ (m.0, (16 + r, slot.Request p) ∷ rest m.1)
-      → d ≡ (after_put_back x (log_of op_in reply_in core) r (request_in op_in p) b.0, rest b.1) → ThePass x core d
+  -- the request is back in its row: the slot was filled with the request, and the row returned
+  pub back_ok : {x : ℕ} {core : Core S O R} {r : ℕ} {p : Request O} {m filled returned : M} → TheHand x core r p m
+      → filled ≡ (m.0, (16 + r, slot.Request p) ∷ rest m.1)
+      → returned ≡ (after_put_back x (log_of op_in reply_in core) r (request_in op_in p) filled.0, rest filled.1)
+      → ThePass x core returned
   back_ok h e f = rw (f, e) record {
     agrees = assumption h.agrees;
     holds = refl;
@@ -204,16 +209,16 @@ module _ {S O R : Type 0} (content : S → Content) (op_in : O → AnyOp) (reply
     low = h.low;
   }
 
-  -- the pass after an answer: b with the answer in hand, d after the step
-  pub answered_ok : {x r : ℕ} {k : Core S O R} (k' : Core S O R) {q : Request O} {a : Answer R} {m b d : M}
+  -- the pass after an answer: the slot was filled with the answer, and the row answered
+  pub answered_ok : {x r : ℕ} {k : Core S O R} (k' : Core S O R) {q : Request O} {a : Answer R} {m filled answered : M}
       → TheHand x k r q m → k'.list ≡ k.list
       → Serves (content k.object) (op_in q.op) (answer_in reply_in a) (content k'.object)
       → log_of op_in reply_in k' ≡ log_of op_in reply_in k ++ logged r (request_in op_in q) (answer_in reply_in a)
-      → b ≡ (m.0, (16 + r, slot.Answer a) ∷ rest m.1)
-      → d ≡ (
-        after_answer r x (log_of op_in reply_in k ++ logged r (request_in op_in q) (answer_in reply_in a)) b.0,
+      → filled ≡ (m.0, (16 + r, slot.Answer a) ∷ rest m.1)
+      → answered ≡ (
+        after_answer r x (log_of op_in reply_in k ++ logged r (request_in op_in q) (answer_in reply_in a)) filled.0,
         rest m.1,
-      ) → ThePass x k' d
+      ) → ThePass x k' answered
   answered_ok {x} {r} {k} k' {q} {a} h same did log e f = rw (f, e) record {
     agrees = assumption h.agrees;
     holds = ap (held.Pass x) (sym log);

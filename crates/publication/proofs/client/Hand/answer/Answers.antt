@@ -39,7 +39,7 @@ returns-clause-answered g c = let h = c.self.invariant.0 in let e = c.serve-answ
     let fits = core_grows g.S.SeqObject.content g.S.SeqObject.op_in g.S.SeqObject.reply_in _ _ _ c.self.inside.core
     c.serve-answer.new.core
     c.self.inside.request c.serve-answer.result e.state.1 h.fits e.log e.content in
-    answer_gives c.args.self _ _ _ _ _ _ _ _ _ _ (sym c.self.view_is) c.exchange.ensures.3
+    answer_gives _ _ _ (sym c.self.view_is) c.exchange.ensures.3
     (c.store.ensures.2 _ _ _ _ _ _ _ r.1 r.2) e.log (_, fits.1)
 
 pub returns-clause-desk : goal.returns-clause-desk

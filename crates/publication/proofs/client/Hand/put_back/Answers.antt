@@ -8,29 +8,28 @@ use Rattle.publication.proofs.CallClauses.{is_put_back}
 use Rattle.publication.proofs.client.Hand.put_back.Goals as goal
 
 pub store-requires : goal.store-requires
-store-requires g c = let h = c.self.invariant.0 in let low = h.row_low in let wide = c.desk.invariant.0.0 in let r =
-    back_ready _ _ _ _ _ _ _ _ h c.exchange.ensures.3 in (
+store-requires g c = let h = c.self.invariant.0 in let low = h.row_low in let wide = c.desk.invariant.0.0 in
+    let r = back_ready _ _ _ _ _ _ _ _ h c.exchange.ensures.3 in (
       search rules,
       omega arith,
       put_back_keeps_rule _ _ _ _ _ _ _ _ _ _ _ _ _ _ c.self.inside.request _ r.0 r.1 r.2 refl h.on refl,
     )
 
 pub invariant_of-result : goal.invariant_of-result
-invariant_of-result g c = let h = c.self.invariant.0 in let r =
-    back_ready _ _ _ _ _ _ _ _ h c.exchange.ensures.3 in
-    let t = c.store.ensures.2 _ _ _ _ r.1 in (
+invariant_of-result g c = let h = c.self.invariant.0 in
+    let r = back_ready _ _ _ _ _ _ _ _ h c.exchange.ensures.3 in let t = c.store.ensures.2 _ _ _ _ r.1 in (
       back_ok _ _ _ _ _ _ _ _ h c.exchange.ensures.3 t,
       own_still _ _ _ _ (ap (λ m. m.0.lists) t ∙ ap (λ m. m.0.lists) c.exchange.ensures.3) c.self.invariant.1,
     )
 
 pub returns-clause-put_back : goal.returns-clause-put_back
-returns-clause-put_back g c = let h = c.self.invariant.0 in let r =
-    back_ready _ _ _ _ _ _ _ _ h c.exchange.ensures.3 in
-    is_put_back c.args.self _ _ _ _ _ _ _ _ (sym c.self.view_is) c.exchange.ensures.3 (c.store.ensures.2 _ _ _ _ r.1)
+returns-clause-put_back g c = let h = c.self.invariant.0 in
+    let r = back_ready _ _ _ _ _ _ _ _ h c.exchange.ensures.3 in
+    is_put_back _ _ (sym c.self.view_is) c.exchange.ensures.3 (c.store.ensures.2 _ _ _ _ r.1)
 
 pub returns-clause-desk : goal.returns-clause-desk
-returns-clause-desk g c = let h = c.self.invariant.0 in let r =
-    back_ready _ _ _ _ _ _ _ _ h c.exchange.ensures.3 in
+returns-clause-desk g c = let h = c.self.invariant.0 in
+    let r = back_ready _ _ _ _ _ _ _ _ h c.exchange.ensures.3 in
     same_desk (c.store.ensures.0 ∙ c.exchange.ensures.0) refl
     (ap (λ m. m.0.kinds) (c.store.ensures.2 _ _ _ _ r.1) ∙ ap (λ m. m.0.kinds) c.exchange.ensures.3) refl
     (ap (λ k. k.desk) c.self.view_is)

@@ -37,7 +37,7 @@ invariant_of-result g c =
 pub returns-then-found-posted-clause-missed : goal.returns-then-found-posted-clause-missed
 returns-then-found-posted-clause-missed g c =
     let t = (c.look_and_exchange-found.ensures.tried _ c.args.row _ c.self.invariant.0.holds refl).1 (search rules) in
-    pick_misses c.args.self _ _ c.args.row _ _ (sym c.self.view_is) (ap (λ m. m.0) t.0) t.1
+    pick_misses _ _ c.args.row (sym c.self.view_is) (ap (λ m. m.0) t.0) t.1
 
 pub exchange-requires : goal.exchange-requires
 exchange-requires g c =
@@ -62,8 +62,7 @@ unreachable-requires g c =
 pub returns-clause-got : goal.returns-clause-got
 returns-clause-got g c =
     let t = (c.look_and_exchange-found.ensures.tried _ c.args.row _ c.self.invariant.0.holds refl).0 (search rules) in
-    pick_gives g.S.SeqObject.op_in c.args.self _ _ c.args.row t.0 c.in-Request.request _ _ _ _
-    (sym c.self.view_is) t.3 c.exchange.ensures.3
+    pick_gives g.S.SeqObject.op_in _ _ c.args.row (sym c.self.view_is) t.3 c.exchange.ensures.3
     (same_request _ _ (sym (came_out _ _ _ _ _ (ap (λ m. m.1) t.3) c.exchange.ensures.2) ∙ c.in-Request.is)) t.1
     t.2 t.4 t.5
 
