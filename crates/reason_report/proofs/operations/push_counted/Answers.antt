@@ -7,7 +7,7 @@ use Rattle.reason_report.proofs.operations.push_counted.Goals as goal
 
 pub returns : goal.returns
 returns c =
-    let other : same_invocation c.args.told.now c.args.counted.now ≡ false = sym c.is_same.ensures
+    let other : same_invocation c.args.recorded.now c.args.counted.now ≡ false = sym c.is_same.ensures
     ∙ c.if-is_same.false in
     let said = call_text c.args.counted.now in
     on_ok_weaker c.push_call.result (λ k.

@@ -7,4 +7,4 @@ pub returns : goal.returns
 returns c =
     subst (λ told. OnOk c.push_said.result
     (c.push_said.new.text.items ≡ c.args.text.now.items ++ said_text told c.args.operation.now))
-    c.operation_in-told.ensures c.push_said.ensures
+    c.operation_in-recorded.ensures c.push_said.ensures
