@@ -16,12 +16,12 @@ use Rattle.cuts.specs.declared.cutting.Cut.TheVariants.{From, Until, Without, Ke
 use Rattle.refutation.specs.declared.reason.Basis.{Basis}
 use Rattle.refutation.specs.declared.reason.Basis.TheVariants.{Search, Counting, Ahead}
 use Rattle.refutation.specs.declared.reason.Reason.{Reason}
-use Rattle.refutation.specs.declared.writer.Pairs.{Pairs}
+use Rattle.refutation.specs.declared.writer.MapBuilder.{MapBuilder}
 use Rattle.refutation.specs.Denotes.{max_number}
 use Rattle.refutation.specs.Lines.{datum_of}
 
 -- the pairs of a map that is being made
-abbrev pub pairs_in : Pairs → List (List ℕ × Datum)
+abbrev pub pairs_in : MapBuilder → List (List ℕ × Datum)
 pairs_in p = pair_views p.pairs.items
 
 -- the keys of a set of integers

@@ -29,23 +29,23 @@ fn number(n: u32) -> Form
 
 /// The pairs of a map that is being made.
 #[derive(Drop)]
-struct Pairs {
+struct MapBuilder {
     alloc: Global,
     pairs: Vec<(Name, Form)>,
 }
 
-impl Pairs {
-    fn new(alloc: Global) -> Pairs
+impl MapBuilder {
+    fn new(alloc: Global) -> MapBuilder
         ensures { pairs_in result ≡ [] }
     {
-        Pairs {
+        MapBuilder {
             alloc,
             pairs: Vec::new(alloc),
         }
     }
 
     /// Puts this pair after the others.
-    fn with(mut self, key: &[u8], value: Form) -> Result<Pairs, AllocError>
+    fn with(mut self, key: &[u8], value: Form) -> Result<MapBuilder, AllocError>
         requires { is_name key.now ≡ true }
         ensures { IfOk result (λ p. pairs_in p ≡ pairs_in self ++ (key.now, view value) ∷ []) }
     {
@@ -59,12 +59,12 @@ impl Pairs {
     fn into_form(self) -> Form
         ensures { view result ≡ spec.map_datum (pairs_in self) }
     {
-        let Pairs { alloc: _, pairs } = self;
+        let MapBuilder { alloc: _, pairs } = self;
         Form::Map(pairs)
     }
 
     /// Puts the pair `:numbers` after the others, unless there are no numbers.
-    fn with_numbers(self, numbers: &BTreeSet<u32>) -> Result<Pairs, AllocError>
+    fn with_numbers(self, numbers: &BTreeSet<u32>) -> Result<MapBuilder, AllocError>
         ensures pairs { IfOk result (λ p. pairs_in p
             ≡ pairs_in self ++ spec.numbers_pairs numbers.now.keys) }
         ensures keys { OnOk result (AreNumberKeys numbers.now.keys) }
@@ -77,7 +77,7 @@ impl Pairs {
     }
 
     /// Puts the pair of a search after the others, unless it is the default.
-    fn with_search(self, trial: Trial) -> Result<Pairs, AllocError>
+    fn with_search(self, trial: Trial) -> Result<MapBuilder, AllocError>
         ensures pairs { IfOk result (λ p. pairs_in p
             ≡ pairs_in self ++ spec.search_pairs trial.first trial.steps) }
         ensures typed { OnOk result (AreTypedSteps trial.steps) }
@@ -90,7 +90,7 @@ impl Pairs {
     }
 
     /// Puts the pair of a count or of a search after the others.
-    fn with_basis(self, basis: Basis) -> Result<Pairs, AllocError>
+    fn with_basis(self, basis: Basis) -> Result<MapBuilder, AllocError>
         ensures pairs { IfOk result (λ p. pairs_in p ≡ pairs_in self ++ spec.basis_pairs basis) }
         ensures typed { OnOk result (IsTypedBasis basis) }
     {
@@ -152,11 +152,11 @@ fn values_form(alloc: Global, values: &Values) -> Result<Form, AllocError>
 }
 
 /// The pairs of a cut.
-fn cut_pairs(alloc: Global, cut: &Cut) -> Result<Pairs, AllocError>
+fn cut_pairs(alloc: Global, cut: &Cut) -> Result<MapBuilder, AllocError>
     ensures pairs { IfOk result (λ p. pairs_in p ≡ spec.cut_pairs cut.now) }
     ensures typed { OnOk result (IsTypedCut cut.now) }
 {
-    let none = Pairs::new(alloc);
+    let none = MapBuilder::new(alloc);
     match cut {
         Cut::From(n) => none.with(b"from", number(*n)),
         Cut::Until(n) => none.with(b"until", number(*n)),
@@ -205,7 +205,7 @@ fn count_form(alloc: Global, count: Count) -> Result<Form, AllocError>
         ≡ spec.map_datum (spec.count_pairs count.counted count.from)) }
     ensures in_range { count.from ≤ max_number }
 {
-    let none = Pairs::new(alloc);
+    let none = MapBuilder::new(alloc);
     let counted = match count.counted {
         Counted::Value(value) => none.with(b"value", Form::Int(value))?,
         Counted::Entry { key, value } => none
@@ -223,7 +223,7 @@ fn ahead_form(alloc: Global, removal: u32, from: u32) -> Result<Form, AllocError
     ensures form { IfOk result (λ f. view f ≡ spec.map_datum (spec.ahead_pairs removal from)) }
     ensures in_range { (removal ≤ max_number) × (from ≤ max_number) }
 {
-    let ahead = Pairs::new(alloc).with(b"ahead", number(removal))?;
+    let ahead = MapBuilder::new(alloc).with(b"ahead", number(removal))?;
     if from == 0 {
         return Ok(ahead.into_form());
     }
@@ -245,7 +245,7 @@ fn search_form(alloc: Global, trial: Trial) -> Result<Form, AllocError>
     ensures form { IfOk result (λ f. view f ≡ spec.search_datum trial.first trial.steps) }
     ensures typed { OnOk result (AreTypedSteps trial.steps) }
 {
-    let first = Pairs::new(alloc).with(b"first", first_form(alloc, trial.first)?)?;
+    let first = MapBuilder::new(alloc).with(b"first", first_form(alloc, trial.first)?)?;
     match trial.steps {
         None => Ok(first.into_form()),
         Some(steps) => Ok(first.with(b"steps", number(steps))?.into_form()),
@@ -257,7 +257,7 @@ fn reason_form(alloc: Global, reason: &Reason) -> Result<Form, AllocError>
     ensures form { IfOk result (λ f. view f ≡ spec.datum_of reason.now) }
     ensures typed { OnOk result (IsTypedReason reason.now) }
 {
-    let pairs = Pairs::new(alloc)
+    let pairs = MapBuilder::new(alloc)
         .with(b"object", number(reason.object))?
         .with(b"cuts", cuts_form(alloc, &reason.cuts)?)?
         .with_basis(reason.basis)?;

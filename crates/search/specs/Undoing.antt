@@ -11,8 +11,8 @@ use Rattle.model.specs.Objects.{count, owner, next}
 use Rattle.search.specs.declared.reversible.Reversible.{Reversible}
 use Rattle.search.specs.declared.reversible.Reversible.TheVariants.{Queue, Stack, Heap, Register}
 use Rattle.search.specs.declared.reversible.Reversible.TheVariants.{Map, Mutex, Set, Counter, Lock}
-use Rattle.search.specs.declared.kept.Kept.{Kept}
-use Rattle.search.specs.declared.kept.Kept.TheVariants as kept
+use Rattle.search.specs.declared.kept.KeptContent.{KeptContent}
+use Rattle.search.specs.declared.kept.KeptContent.TheVariants as kept
 use Rattle.search.specs.declared.step.Undo.{Undo}
 use Rattle.search.specs.declared.step.Undo.TheVariants.{Nothing, TakeFirst, TakeLast, TakeAt}
 use Rattle.search.specs.declared.step.Undo.TheVariants.{PutFirst, SetRegister, SetKey, SetHeld}
@@ -32,7 +32,7 @@ reversible_content (Counter n) = count n
 reversible_content (Lock o) = owner o
 
 -- what an object contained when its content was kept with a remembered pair
-abbrev pub content_kept : Kept → Content
+abbrev pub content_kept : KeptContent → Content
 content_kept (kept.Queue vs) = queue vs.items
 content_kept (kept.Stack vs) = stack vs.items
 content_kept (kept.Heap vs) = heap vs.items

@@ -12,7 +12,7 @@ const BYTES_OF_A_SMALL_VALUE: usize = 4;
 /// What an object contained. `Queue`, `Stack` and `Heap` have the values as integers of 32 bits, if
 /// each fits. Any other content is a `Whole`.
 #[derive(Drop)]
-pub enum Kept {
+pub enum KeptContent {
     Queue(Vec<i32>),
     Stack(Vec<i32>),
     Heap(Vec<i32>),
@@ -50,22 +50,22 @@ fn are_values(narrow: &[i32], values: &VecDeque<i64>) -> bool
     true
 }
 
-impl Kept {
+impl KeptContent {
     /// Keeps what the object contains now.
     ///
     /// An error: an allocation failed.
-    pub fn of(alloc: Global, object: &Reversible) -> Result<Kept, AllocError>
+    pub fn of(alloc: Global, object: &Reversible) -> Result<KeptContent, AllocError>
         ensures { IfOk result (λ kept. content_kept kept ≡ reversible_content object.now) }
     {
         let narrow = match object {
-            Reversible::Queue(values) => narrowed(alloc, values)?.map(Kept::Queue),
-            Reversible::Stack(values) => narrowed(alloc, values)?.map(Kept::Stack),
-            Reversible::Heap(values) => narrowed(alloc, values)?.map(Kept::Heap),
+            Reversible::Queue(values) => narrowed(alloc, values)?.map(KeptContent::Queue),
+            Reversible::Stack(values) => narrowed(alloc, values)?.map(KeptContent::Stack),
+            Reversible::Heap(values) => narrowed(alloc, values)?.map(KeptContent::Heap),
             _ => None,
         };
         match narrow {
             Some(kept) => Ok(kept),
-            None => Ok(Kept::Whole(object.try_copy()?)),
+            None => Ok(KeptContent::Whole(object.try_copy()?)),
         }
     }
 
@@ -74,10 +74,10 @@ impl Kept {
         ensures { IsTrue result ↔ (content_kept self.now ≡ reversible_content object.now) }
     {
         match (self, object) {
-            (Kept::Queue(narrow), Reversible::Queue(values)) => are_values(narrow, values),
-            (Kept::Stack(narrow), Reversible::Stack(values)) => are_values(narrow, values),
-            (Kept::Heap(narrow), Reversible::Heap(values)) => are_values(narrow, values),
-            (Kept::Whole(kept), _) => kept.same(object),
+            (KeptContent::Queue(narrow), Reversible::Queue(values)) => are_values(narrow, values),
+            (KeptContent::Stack(narrow), Reversible::Stack(values)) => are_values(narrow, values),
+            (KeptContent::Heap(narrow), Reversible::Heap(values)) => are_values(narrow, values),
+            (KeptContent::Whole(kept), _) => kept.same(object),
             _ => false,
         }
     }
@@ -86,10 +86,10 @@ impl Kept {
     /// another kind does not use it.
     pub(crate) fn bytes(&self, keys: usize) -> usize {
         match self {
-            Kept::Queue(values) | Kept::Stack(values) | Kept::Heap(values) => {
+            KeptContent::Queue(values) | KeptContent::Stack(values) | KeptContent::Heap(values) => {
                 values.len().saturating_mul(BYTES_OF_A_SMALL_VALUE)
             }
-            Kept::Whole(object) => object.bytes(keys),
+            KeptContent::Whole(object) => object.bytes(keys),
         }
     }
 }

@@ -24,7 +24,7 @@ mod walk;
 
 pub use all::{search_all, search_all_by};
 pub use certificate_search::{CertificateOutcome, Search};
-pub use kept::Kept;
+pub use kept::KeptContent;
 pub use object::{search, search_by};
 pub use order_search::{OrderOutcome, OrderSearch, find_order, find_order_of_any_size};
 pub use reversible::Reversible;

@@ -6,7 +6,7 @@ ghost use Rattle.search.specs.Links.{LeadsThrough};
 ghost use Rattle.search.specs.Remembered.{HasPair};
 
 use crate::not_done::NotDone;
-use crate::{Kept, Reversible};
+use crate::{KeptContent, Reversible};
 use std::alloc::{AllocError, Global};
 
 /// A pair: the operations below `high` except for those listed are done, and none above.
@@ -15,7 +15,7 @@ pub(crate) struct Pair {
     pub hash: u64,
     pub high: u32,
     pub not_done: Vec<u32>,
-    pub content: Kept,
+    pub content: KeptContent,
 }
 
 /// Pairs, found by hash. `heads` has for each slot the number of a pair plus one, or 0; `links`

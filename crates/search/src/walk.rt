@@ -20,7 +20,7 @@ use crate::level::{Level, Window};
 use crate::not_done::NotDone;
 use crate::pairs::Pair;
 use crate::trials::Trials;
-use crate::{Kept, Reversible, Step};
+use crate::{KeptContent, Reversible, Step};
 use events::{End, Invocation};
 use std::alloc::{AllocError, Global};
 
@@ -256,7 +256,7 @@ impl State {
             hash: self.digest.hash(),
             high: self.high,
             not_done: self.not_done.below(alloc, self.high)?,
-            content: Kept::of(alloc, &self.object)?,
+            content: KeptContent::of(alloc, &self.object)?,
         }))
     }
 

@@ -113,7 +113,7 @@ impl Content {
 }
 
 /// A content that is kept to compare with.
-pub enum Kept {
+pub enum KeptContent {
     /// The values of a container, in four bytes each if all are small.
     Small(Box<[i32]>),
     Whole(Content),
@@ -126,25 +126,25 @@ fn small_values(bag: &Bag<i64>) -> Option<Box<[i32]>> {
     are_small.then(|| small.into_boxed_slice())
 }
 
-impl Kept {
-    pub fn of(content: &Content) -> Kept {
+impl KeptContent {
+    pub fn of(content: &Content) -> KeptContent {
         let small = match content {
             Content::Values(values) => small_values(values),
             Content::Cell(_) | Content::Cells(_) | Content::Token(_) | Content::Number(_) => None,
         };
-        small.map_or_else(|| Kept::Whole(content.clone()), Kept::Small)
+        small.map_or_else(|| KeptContent::Whole(content.clone()), KeptContent::Small)
     }
 
     /// Whether this is the content.
     pub fn is(&self, content: &Content) -> bool {
         match (self, content) {
-            (Kept::Whole(kept), content) => kept == content,
-            (Kept::Small(small), Content::Values(values)) => {
+            (KeptContent::Whole(kept), content) => kept == content,
+            (KeptContent::Small(small), Content::Values(values)) => {
                 let mut small = small.iter().copied().map(i64::from);
                 values.all(|value| small.next() == Some(value)) && small.next().is_none()
             }
-            (Kept::Small(_), Content::Cell(_) | Content::Cells(_)) => false,
-            (Kept::Small(_), Content::Token(_) | Content::Number(_)) => false,
+            (KeptContent::Small(_), Content::Cell(_) | Content::Cells(_)) => false,
+            (KeptContent::Small(_), Content::Token(_) | Content::Number(_)) => false,
         }
     }
 
@@ -152,10 +152,10 @@ impl Kept {
     /// whose nodes may be half full.
     pub fn bytes(&self, keys: usize) -> usize {
         match self {
-            Kept::Small(values) => values.len() * 4,
-            Kept::Whole(Content::Values(values)) => values.len() * 16,
-            Kept::Whole(Content::Cells(_)) => keys * 64,
-            Kept::Whole(Content::Cell(_) | Content::Token(_) | Content::Number(_)) => 0,
+            KeptContent::Small(values) => values.len() * 4,
+            KeptContent::Whole(Content::Values(values)) => values.len() * 16,
+            KeptContent::Whole(Content::Cells(_)) => keys * 64,
+            KeptContent::Whole(Content::Cell(_) | Content::Token(_) | Content::Number(_)) => 0,
         }
     }
 }
@@ -185,7 +185,7 @@ mod tests {
             let mut content = Content::empty(kind);
             let mut before = Vec::new();
             for text in ops {
-                let kept = Kept::of(&content);
+                let kept = KeptContent::of(&content);
                 let (_, undo) = content.apply(op(text)).expect("a possible operation");
                 before.push((kept, undo));
             }

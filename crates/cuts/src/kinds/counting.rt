@@ -7,7 +7,7 @@ use crate::counting::Counted;
 use seq_objects::{AnyOp, AnyReply, Kind};
 
 /// Whether the reply is this value.
-fn is_value(value: i64, reply: Option<AnyReply>) -> bool
+fn is_reply(value: i64, reply: Option<AnyReply>) -> bool
     ensures { result ≡ spec.is_reply value reply }
 {
     match reply {
@@ -65,17 +65,17 @@ pub(crate) fn takes(counted: Counted, op: AnyOp, reply: AnyReply) -> bool
 {
     match (counted, op) {
         (Counted::Value(value), AnyOp::Dequeue | AnyOp::Pop | AnyOp::ExtractMin) => {
-            is_value(value, Some(reply))
+            is_reply(value, Some(reply))
         }
         (Counted::Value(value), AnyOp::Cas(expected, _)) => match reply {
             AnyReply::Swapped(..) => expected == value,
             _ => false,
         },
         (Counted::Entry { key, value }, AnyOp::Put(at, _)) => {
-            at == key && is_value(value, Some(reply))
+            at == key && is_reply(value, Some(reply))
         }
         (Counted::Entry { key, value }, AnyOp::Del(at)) => {
-            at == key && is_value(value, Some(reply))
+            at == key && is_reply(value, Some(reply))
         }
         (Counted::Entry { key, value }, AnyOp::Replace(at, old, _)) => match reply {
             AnyReply::Flag(true) => at == key && old == value,

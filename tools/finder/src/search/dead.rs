@@ -3,7 +3,7 @@
 //! again.
 
 use super::not_done::NotDone;
-use crate::content::{Content, Kept};
+use crate::content::{Content, KeptContent};
 use std::collections::HashMap;
 
 /// How many bytes the pairs of one generation take at most, except for the last one.
@@ -19,13 +19,13 @@ const BYTES_OF_A_PLACE: usize = 8;
 pub(super) struct Pair {
     high: usize,
     not_done: Box<[u32]>,
-    content: Kept,
+    content: KeptContent,
 }
 
 impl Pair {
     pub fn new(high: usize, not_done: &NotDone, content: &Content) -> Pair {
         let not_done = not_done.below(high).map(|place| place as u32).collect();
-        Pair { high, not_done, content: Kept::of(content) }
+        Pair { high, not_done, content: KeptContent::of(content) }
     }
 
     fn is(&self, high: usize, not_done: &NotDone, content: &Content) -> bool {

@@ -5,7 +5,7 @@ use Rattle.std.proofs.lemmas.List.{get_or_default}
 use Rattle.model.specs.Objects.{empty}
 use Rattle.model.specs.Orders.{Call}
 use Rattle.search.specs.Undoing.{reversible_content}
-use Rattle.search.specs.declared.kept.Kept.TheVariants.{Whole}
+use Rattle.search.specs.declared.kept.KeptContent.TheVariants.{Whole}
 use Rattle.search.specs.declared.pairs.Pair.{Pair}
 use Rattle.search.specs.Arranged.{as_call, call_at}
 use Rattle.search.specs.Searching.{befores}
