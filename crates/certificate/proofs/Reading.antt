@@ -36,13 +36,14 @@ no_object es v n h k e =
     ap (λ x. reading_with x (order_in (value_at (codes "order") es)))
     (e ∙ ap object_in k ∙ ap (λ w. object_in (natural_in w)) h)
 
-pub both_keys : (es : Entries) (v w : Option Datum) (n x : Option ℕ) (o : Option (List ℤ))
-    → v ≡ value_at (codes "object") es → n ≡ natural_in v
-    → x ≡ object_in n → w ≡ value_at (codes "order") es → o ≡ order_in w
-    → reading_with x o ≡ certificate_of (dictionary es)
-both_keys es v w n x o h k e g q =
-    ap (λ y. reading_with y o) (e ∙ ap object_in k ∙ ap (λ u. object_in (natural_in u)) h)
-    ∙ ap (reading_with (object_in (natural_in (value_at (codes "object") es)))) (q ∙ ap order_in g)
+-- what is made of the values of both keys is the certificate that the map is
+pub both_keys : (es : Entries) (value second : Option Datum) (natural object : Option ℕ) (order : Option (List ℤ))
+    → value ≡ value_at (codes "object") es → natural ≡ natural_in value → object ≡ object_in natural
+    → second ≡ value_at (codes "order") es → order ≡ order_in second
+    → reading_with object order ≡ certificate_of (dictionary es)
+both_keys es value second natural object order value_is natural_is object_is second_is order_is =
+    ap (λ x. reading_with x order) (object_is ∙ ap object_in natural_is ∙ ap (λ v. object_in (natural_in v)) value_is)
+    ∙ ap (reading_with (object_in (natural_in (value_at (codes "object") es)))) (order_is ∙ ap order_in second_is)
 
 -- ---- the forms so far
 
@@ -83,12 +84,13 @@ list_any-some : (p : Certificate → Bool) (cs : List Certificate) → list_any 
 list_any-some p [] h = absurd cc
 list_any-some p (c ∷ cs) h = passes_first p c cs (p c) refl h (list_any-some p cs)
 
-pub one_more_read : (ds : List Datum) (cs : List Certificate) (among after : ℕ → Bool) (d : Datum) (c : Certificate)
-    → AreCertificatesRead ds cs among
+-- if the next form is a certificate of another object, the certificates up to it are read
+pub next_certificate_read : (ds : List Datum) (cs : List Certificate) (among after : ℕ → Bool) (d : Datum)
+    (c : Certificate) → AreCertificatesRead ds cs among
     → certificate_of d ≡ Some (reading_of c) → among c.object ≡ false
     → ((x : ℕ) → after x ≡ cond (c.object == x) true (among x))
     → AreCertificatesRead (ds ++ d ∷ []) (cs ++ c ∷ []) after
-one_more_read ds cs among after d c h own new more = record {
+next_certificate_read ds cs among after d c h own new more = record {
   denoted = record {
     each = map-append certificate_of ds (d ∷ []) ∙ ap (λ xs. xs ++ certificate_of d ∷ []) h.denoted.each
         ∙ ap (λ v. map (λ b. Some (reading_of b)) cs ++ v ∷ []) own
@@ -164,11 +166,13 @@ apart cs before later c b h split (k, lt, is) same =
     h k (length before) b lt (omega (arith, long))
     (ap (λ (x : Certificate). x.object) at_b ∙ same ∙ sym (ap (λ (x : Certificate). x.object) at_c))
 
-same_objects : (a b r s : Reading) → Some a ≡ Some r → Some b ≡ Some s → r.object ≡ s.object → a.object ≡ b.object
-same_objects a b r s p q e =
-    let p' : a ≡ r = cc in
-    let q' : b ≡ s = cc in
-    ap (λ (x : Reading). x.object) p' ∙ e ∙ sym (ap (λ (x : Reading). x.object) q')
+-- two that are read as others of one object are of one object
+same_objects : (a b read_a read_b : Reading) → Some a ≡ Some read_a → Some b ≡ Some read_b
+    → read_a.object ≡ read_b.object → a.object ≡ b.object
+same_objects a b read_a read_b a_is b_is same =
+    let first : a ≡ read_a = cc in
+    let second : b ≡ read_b = cc in
+    ap (λ (x : Reading). x.object) first ∙ same ∙ sym (ap (λ (x : Reading). x.object) second)
 
 pub no_fault : (ds : List Datum) (cs : List Certificate) → Denotes ds cs → HasNoCertFault ds
 no_fault ds cs h earlier later d NotACertificate split fault =

@@ -22,10 +22,10 @@ numbers_more [] z = refl
 numbers_more (y ∷ ys) z = ap (λ (ts : List Token). leaf (atom (integer y)) ∷ ts) (numbers_more ys z)
 
 -- one number more, perhaps after a space
-pub one_more : (zs : List ℤ) (z : ℤ) (text mid own tail : List ℕ) → BeginWith (numbers_tokens zs) text mid
+pub next_number : (zs : List ℤ) (z : ℤ) (text mid own tail : List ℕ) → BeginWith (numbers_tokens zs) text mid
     → (mid ≡ own) ⊎ (mid ≡ 32 ∷ own)
     → BeginWith (leaf (atom (integer z)) ∷ []) own tail → BeginWith (numbers_tokens (zs ++ z ∷ [])) text tail
-one_more zs z text mid own tail a s b =
+next_number zs z text mid own tail a s b =
     subst (λ (ts : List Token). BeginWith ts text tail) (sym (numbers_more zs z))
     (both_begin (numbers_tokens zs) (leaf (atom (integer z)) ∷ []) text mid tail a
     (after_one 32 (leaf (atom (integer z))) [] mid own tail refl s b))
@@ -47,6 +47,7 @@ small : (b : Bool) (n x : ℕ) → Some x ≡ cond b (Some n) None → b ≡ tru
 small true n x e = refl
 small false n x e = absurd cc
 
+-- a certificate in the usual order of its keys, of the object n, is read as its form
 pub usual_is : (n : ℕ) (c : Certificate) (text own from_n after_n from_o after_o rest : List ℕ) → IsUtf8 text
     → (text ≡ own) ⊎ (text ≡ 10 ∷ own) → own ≡ codes "{:object " ++ from_n
     → BeginWith (leaf (atom (integer (pos n))) ∷ []) from_n after_n

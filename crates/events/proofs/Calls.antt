@@ -1,5 +1,6 @@
 -- The operations of an object among proper events are its calls in what these denote: by induction along the events,
--- with the state of each process.
+-- with the state of each process. In the lemmas n is the number of an event, p its process, y its object and a its
+-- action; es are the events after it, and x is the object whose calls are meant.
 use Rattle.std.proofs.Common.{◌≡◌, ℕ, ◌==◌, ◌&&◌, Bool, true, false, cond, List, [], ◌∷◌, ◌++◌, map, filter, Option}
 use Rattle.std.proofs.Common.{Some, None, refl, ap, sym, ◌∙◌, subst}
 use Rattle.std.specs.List.{cons_option}
@@ -46,9 +47,11 @@ closed_silent p x (e ∷ es) h = go (e.process == p) refl (closed_silent p x es)
 abbrev Answered : ℕ → ℕ → List Event → Type 0
 Answered p x es = fails (next_event p es) ≡ false → response_of p x (denoted es) ≡ return_of (end_at (next_event p es))
 
+-- the next event of a process is the first one, if it is its own
 next_own : (n p y : ℕ) (a : Action) (es : List Event) → next_event p (event_at n p y a ∷ es) ≡ Some (event_at n p y a)
 next_own n p y a es = ap (λ b. cond b (Some (event_at n p y a)) (next_event p es)) (eq-eqb p p refl)
 
+-- the same if the first event is one of the process
 answered_own : (n p y : ℕ) (a : Action) (es : List Event) (x : ℕ) (op : AnyOp) → MayDo (busy x op) y a
     → Runs p (state_by y a) es → Answered p x (event_at n p y a ∷ es)
 answered_own n p y (Invoke o) es x op may rest = absurd may
@@ -120,6 +123,7 @@ call_kept n op (Some e) q = go e.action q
 abbrev calls_first : ℕ → Event → Option Event → List Call
 calls_first x e next = calls_of (cond (e.object == x) (begun e.number e.action (end_at next)) [])
 
+-- an invocation that does not fail is a call, if it is on the object
 invocation_calls : (n p y : ℕ) (op : AnyOp) (x : ℕ) (es : List Event) → Runs p (busy y op) es
     → calls_first x (event_at n p y (Invoke op)) (next_event p es) ++ calls_on x (denoted es)
     ≡ calls_on x (denoted (event_at n p y (Invoke op) ∷ es))
@@ -168,6 +172,7 @@ no_calls x e next none = go (e.object == x)
     go true = ap calls_of none
     go false = refl
 
+-- the first event's part of the calls is what its action makes it
 first_calls : (n p y : ℕ) (a : Action) (x : ℕ) (es : List Event) → AllRun (event_at n p y a ∷ es)
     → calls_first x (event_at n p y a) (next_event p es) ++ calls_on x (denoted es)
     ≡ calls_on x (denoted (event_at n p y a ∷ es))

@@ -68,10 +68,10 @@ ahead_begun ends ends' kept kept' e op o later h invokes is own_kept others_kept
         ∙ ap (λ (x : Invocation). x ∷ [])
         (ap (λ (n : End). record { number = e.number; op = op; «end» = n }) (sym (h.ahead e.process)) ∙ sym is)
 
-    one_more : (k : Option (List Invocation)) (ops : List Invocation) → IsGatheredObject k ops
+    pushed_operation : (k : Option (List Invocation)) (ops : List Invocation) → IsGatheredObject k ops
         → IsGatheredObject (Some (unwrap_or k [] ++ o ∷ [])) (o ∷ ops)
-    one_more None ops g = (ap (λ xs. reverse (o ∷ xs)) (sym g), λ q. cc q)
-    one_more (Some xs) ops g = (ap (λ ys. ys ++ o ∷ []) g.0 ∙ sym (reverse-append (o ∷ []) ops), λ q. cc q)
+    pushed_operation None ops g = (ap (λ xs. reverse (o ∷ xs)) (sym g), λ q. cc q)
+    pushed_operation (Some xs) ops g = (ap (λ ys. ys ++ o ∷ []) g.0 ∙ sym (reverse-append (o ∷ []) ops), λ q. cc q)
 
     go : (x : ℕ) (b : Bool) → (e.object == x) ≡ b
         → IsGatheredObject (kept' x) (cond b (begun e.number e.action (end_at (next_event e.process later))) []
@@ -79,7 +79,7 @@ ahead_begun ends ends' kept kept' e op o later h invokes is own_kept others_kept
     go x true q = subst (λ t. IsGatheredObject (kept' x) (t ++ operations_on x later)) (sym begins)
         (subst (λ n. IsGatheredObject (kept' n) (o ∷ operations_on n later)) (eqb-true e.object x q)
         (subst (λ k. IsGatheredObject k (o ∷ operations_on e.object later)) (sym own_kept)
-        (one_more (kept e.object) (operations_on e.object later) (h.gathered e.object))))
+        (pushed_operation (kept e.object) (operations_on e.object later) (h.gathered e.object))))
     go x false q = subst (λ k. IsGatheredObject k (operations_on x later))
         (sym (others_kept x (λ s. eqb-false e.object x q (sym s)))) (h.gathered x)
 

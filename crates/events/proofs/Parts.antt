@@ -76,7 +76,11 @@ operations_rising x [] h = tt
 operations_rising x (e ∷ es) h = go (e.object == x) (operations_rising x es h.1)
   where
     above : (o : Invocation) → In o (operations_on x es) → e.number < o.number
-    above o i = let b = operation_begins x es o i in let l = h.0 b.event b.stands in let q = b.number in omega arith
+    above o i =
+        let b = operation_begins x es o i in
+        let later = h.0 b.event b.stands in
+        let same = b.number in
+        omega arith
 
     begun_rising : (a : Action) → Pairs (λ a b. a.number < b.number) (operations_on x es)
         → Pairs (λ a b. a.number < b.number) (begun e.number a (end_at (next_event e.process es)) ++ operations_on x es)
@@ -98,10 +102,16 @@ same_event [] e f h i j q = absurd i
 same_event (d ∷ es) e f h i j q = elim i [
   | inl a ↦ elim j [
     | inl b ↦ a ∙ sym b
-    | inr k ↦ let l = h.0 f k in let m : e.number ≡ d.number = ap (λ (x : Event). x.number) a in absurd (omega arith)
+    | inr k ↦
+        let later = h.0 f k in
+        let same : e.number ≡ d.number = ap (λ (x : Event). x.number) a in
+        absurd (omega arith)
   ]
   | inr k ↦ elim j [
-    | inl b ↦ let l = h.0 e k in let m : f.number ≡ d.number = ap (λ (x : Event). x.number) b in absurd (omega arith)
+    | inl b ↦
+        let later = h.0 e k in
+        let same : f.number ≡ d.number = ap (λ (x : Event). x.number) b in
+        absurd (omega arith)
     | inr m ↦ same_event es e f h.1 k m q
   ]
 ]
@@ -181,6 +191,7 @@ ends_after x es o h i = go o.«end» refl
 abbrev SameKind : Event → Event → Type 0
 SameKind e f = (a b : AnyOp) → e.object ≡ f.object → e.action ≡ Invoke a → f.action ≡ Invoke b → kind_of a ≡ kind_of b
 
+-- an invocation after others on its object is of their kind
 kind_follows : (earlier : List Event) (p x : ℕ) (a : Action) (b : AnyOp) → Follows earlier p x a → a ≡ Invoke b
     → (e : Event) (c : AnyOp)
     → In e earlier → e.object ≡ x → e.action ≡ Invoke c → kind_of c ≡ kind_of b

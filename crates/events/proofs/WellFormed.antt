@@ -1,5 +1,6 @@
 -- Proper events denote a well-formed history (`denoted_is_history`): of each process it has an invocation, then its
--- response, in turn. By induction along the events, for each process by itself.
+-- response, in turn. By induction along the events, for each process by itself. In the lemmas n is the number of an
+-- event, p its process, x its object and a its action; es are the events after it, and s is the process's state.
 use Rattle.std.proofs.Common.{◌≡◌, ℕ, ◌==◌, ◌<◌, ◌&&◌, Bool, true, false, cond, IsTrue, ◌⊎◌, inl, inr, List, []}
 use Rattle.std.proofs.Common.{◌∷◌, ◌++◌, map, Some, refl, ap, sym, ◌∙◌, subst, arith}
 use Rattle.std.proofs.lemmas.Bool.{eqb-true, eq-eqb}
@@ -75,12 +76,14 @@ invoked p x op s (inr a) = subst (λ t. IsSequential (Inv p x op ∷ t)) (sym a.
 abbrev pub event_at : ℕ → ℕ → ℕ → Action → Event
 event_at n p x a = record { number = n; process = p; object = x; action = a }
 
+-- whether the next event of a process fails what it does is told by the first one, if it is its own
 next_is_own : (n p x : ℕ) (a : Action) (es : List Event) → fails (next_event p (event_at n p x a ∷ es)) ≡ is_fail a
 next_is_own n p x a es = ap (λ b. fails (cond b (Some (event_at n p x a)) (next_event p es))) (eq-eqb p p refl)
 
 own_invocation : (n p x : ℕ) (op : AnyOp) → own_first p (event_at n p x (Invoke op)) false ≡ Inv p x op ∷ []
 own_invocation n p x op = ap (λ b. cond b (Inv p x op ∷ []) []) (eq-eqb p p refl)
 
+-- a process's own part of a first event that is its return is that response
 own_response : (n p x : ℕ) (r : AnyReply) (failed : Bool) → own_first p (event_at n p x (Ok r)) failed ≡ Res p x r ∷ []
 own_response n p x r failed = ap (λ b. cond b (Res p x r ∷ []) []) (eq-eqb p p refl)
 
@@ -174,7 +177,11 @@ denoted_rising [] h = tt
 denoted_rising (e ∷ es) h = go e.action (fails (next_event e.process es)) (denoted_rising es h.1)
   where
     above : (m : Numbered) → In m (denoted es) → e.number < m.number
-    above m i = let d = denoted_number es m i in let l = h.0 d.0 d.1 in let q = d.2 in omega arith
+    above m i =
+        let d = denoted_number es m i in
+        let later = h.0 d.0 d.1 in
+        let same = d.2 in
+        omega arith
 
     go : (a : Action) (b : Bool) → Pairs (λ a b. a.number < b.number) (denoted es)
         → Pairs (λ a b. a.number < b.number) (denoted_by e.number e.process e.object a b ++ denoted es)

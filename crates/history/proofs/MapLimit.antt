@@ -87,8 +87,11 @@ pub faultless_within : (ds : List Datum) → IsFaultlessAtAnyLength ds → lengt
 faultless_within ds h few small earlier later d k q f =
     elim (fault_or_limit earlier d k (all_at IsSmall ds small d (subst (In d) (sym q) (in_middle d earlier later))) f) [
       | inl g ↦ h earlier later d k q g
-      | inr t ↦ let long = ap length q in let split = length-append earlier (d ∷ later) in let l = t.1 in absurd
-          (omega arith)
+      | inr t ↦
+          let long = ap length q in
+          let split = length-append earlier (d ∷ later) in
+          let many = t.1 in
+          absurd (omega arith)
     ]
 
 -- where no form has that many before it, there are no more forms than that

@@ -1,5 +1,6 @@
 -- If a piece of a text continues what was read before it, it also does with one more map (`continues_more`). By
--- cases: whether the map is the first of its process, and of its object, in the piece.
+-- cases: whether the map is the first of its process, and of its object, in the piece. In the lemmas m is the map that
+-- the form d is, f its function and a its action.
 use Rattle.std.proofs.Common.{◌≡◌, ◌≢◌, ℕ, ◌+◌, ◌≤◌, inl, inr, true, List, [], ◌∷◌, ◌++◌, map, length, Option, Some}
 use Rattle.std.proofs.Common.{None, All, refl, ap, sym, ◌∙◌, append_assoc, zero-add, arith}
 use Rattle.std.specs.Prelude.{Result, Ok, Err, is_ok, Contains, if◌then◌else◌}
@@ -228,11 +229,11 @@ part_skip old new ds d h none ignored same =
 -- ---- no maps
 
 -- what is kept is the same by other functions
-pub seen_same : (s t : ℕ → Option Process) (k l : ℕ → Option Kind) (ds : List Datum) → IsSeenBy s k ds
-    → ((p : ℕ) → t p ≡ s p) → ((x : ℕ) → l x ≡ k x) → IsSeenBy t l ds
-seen_same s t k l ds h sp kx = record {
-  processes = λ p. rw (sp p) (h.processes p);
-  kinds = λ x. rw (kx x) (h.kinds x);
+pub seen_same : (old new : ℕ → Option Process) (was now : ℕ → Option Kind) (ds : List Datum) → IsSeenBy old was ds
+    → ((p : ℕ) → new p ≡ old p) → ((x : ℕ) → now x ≡ was x) → IsSeenBy new now ds
+seen_same old new was now ds h same_processes same_kinds = record {
+  processes = λ p. rw (same_processes p) (h.processes p);
+  kinds = λ x. rw (same_kinds x) (h.kinds x);
   closed = h.closed;
 }
 
@@ -267,10 +268,10 @@ no_maps read seen count events =
     }
 
 -- a value that was pushed
-pub pushed : {T E X : Type 0} (r : Result T E) (x : T) (new a b : List X) → Some x ≡ result_ok r → new
-    ≡ (if is_ok r then a else b) → new ≡ a
-pushed (Ok y) x new a b q h = h
-pushed (Err e) x new a b q h = absurd (cc q)
+pub pushed : {T E X : Type 0} (result : Result T E) (value : T) (new longer old : List X)
+    → Some value ≡ result_ok result → new ≡ (if is_ok result then longer else old) → new ≡ longer
+pushed (Ok y) value new longer old is h = h
+pushed (Err e) value new longer old is h = absurd (cc is)
 
 -- ---- the forms of a text
 

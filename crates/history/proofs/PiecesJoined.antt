@@ -64,6 +64,7 @@ piece_first : (ds es : List Datum) (p : List ℕ) (ps : List (List ℕ)) → Spe
 piece_first ds es p [] h k = rw (← one_reading_of [] es [] nothing_spelled k, append-nil ds) h
 piece_first ds es p (q ∷ qs) h k = joined_spell ds es p (joined_by_feeds (q ∷ qs)) h k
 
+-- a piece more is joined: its forms follow those before it
 pub join_more : (text : List ℕ) (old new : Seams) (read : ReadPiece) (rest later : List (Option ReadPiece))
     → IsJoinedTo text old rest → rest ≡ Some read ∷ later
     → ((ds es : List Datum) → AreJoined old ds → IsOfForms read es → AreJoined new (ds ++ es))

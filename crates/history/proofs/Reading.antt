@@ -60,10 +60,10 @@ pub nothing_read : (seen : Seen) (es : List Event) → IsSeen seen [] → es ≡
 nothing_read seen es h e = record { kept = h; faultless = nothing_faulty IsHistoryFormFault; events = e; count = refl }
 
 -- one map more
-pub one_more : (old new : Seen) (number : ℕ) (ds : List Datum) (d : Datum) (es more : List Event)
+pub next_form_read : (old new : Seen) (number : ℕ) (ds : List Datum) (d : Datum) (es more : List Event)
     → AreEventsRead old number ds es → number < max_maps → IsSmall d
     → IsFormRead new ds d more → AreEventsRead new (number + 1) (ds ++ d ∷ []) (es ++ more)
-one_more old new number ds d es more h few small r =
+next_form_read old new number ds d es more h few small r =
     record {
       kept = r.seen;
       faultless = faultless_push IsHistoryFormFault ds d h.faultless (none_within ds d small r.no_fault
@@ -95,7 +95,7 @@ pub one_read : (old new : Seen) (fs : List Form) (i : ℕ) (f : Form) (es more :
     → AreEventsRead new (i + 1)
     (views (take (i + 1) fs)) (es ++ more)
 one_read old new fs i f es more l is few small h r =
-    rw (one_form fs i f l is) (one_more old new i (views (take i fs)) (view f) es more h few small r)
+    rw (one_form fs i f l is) (next_form_read old new i (views (take i fs)) (view f) es more h few small r)
 
 -- the fault of the next form is the first of all, if the forms before it have none
 pub first_fault : (seen : Seen) (fs : List Form) (i : ℕ) (f : Form) (es : List Event) (k : HistoryFaultKind)

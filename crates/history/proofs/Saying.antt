@@ -1,5 +1,6 @@
 -- What a form says by its entries is what it says by its tokens (`client_is`): the value by its first tokens, the
--- object and the keys by the walk over the pairs.
+-- object and the keys by the walk over the pairs. In the lemmas p is a process, t a type, f a function, x an object and
+-- v a value, each as the entries es have it.
 use Rattle.std.proofs.Common.{◌≡◌, ℕ, ℤ, true, false, Option, Some, None, IfSome, List, [], ◌∷◌, ◌++◌, codes, refl, sym}
 use Rattle.std.proofs.Common.{ap, ◌∙◌, arith}
 use Rattle.std.specs.Prelude.{option_map, option_and_then}
@@ -63,6 +64,7 @@ plain_is ps (Some d) h = ap plain_first h.1 ∙ plain_by d h.0
 
 -- ---- the map
 
+-- a map that is made of what the entries have is the map that the entries say
 pub client_is : (r : Option ClientMap) (p : Option ℕ) (t f : Option (List ℕ)) (x : Option ℕ) (v : Option Value)
     (es : Entries)
     → ((w : Datum) → option_map (λ c. client_map c w) r ≡ client_with p (option_and_then type_named t) f x w)

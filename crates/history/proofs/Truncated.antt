@@ -1,4 +1,5 @@
--- A form says what its truncated form says: no value that is looked at is cut, by cases on each.
+-- A form says what its truncated form says: no value that is looked at is cut, by cases on each. In the lemmas p is a
+-- process, t a type, f a function and x an object, as a map has them, and v and w are two values.
 use Rattle.std.proofs.Common.{arith, ◌≡◌, ℕ, Option, Some, None, List, codes, refl, sym, ap, subst, ◌∙◌}
 use Rattle.std.specs.Prelude.{option_map, is_some}
 use Rattle.edn_reader.specs.Truncation.{most_items, truncated_item, truncated_items, truncated_value, truncated_entries}
@@ -48,6 +49,7 @@ another (Some p) (Some t) (Some f) (Some x) v w c e (u, q, k) =
     )
 another p t f x v w c e h = absurd cc
 
+-- a map with another value is no client's map either
 no_other : (p : Option ℕ) (t : Option MapType) (f : Option (List ℕ)) (x : Option ℕ) (v w : Datum)
     → client_with p t f x v ≡ None → client_with p t f x w ≡ None
 no_other p t f x v w e = grind arith

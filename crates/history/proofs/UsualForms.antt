@@ -1,5 +1,6 @@
 -- A text in the usual form is read as the map that its parts say (`usual_is`). Each part begins with its tokens, and
--- pairs are put in front of the last ones one by one (`other_pair`, `object_pair`).
+-- pairs are put in front of the last ones one by one (`other_pair`, `object_pair`). In the lemmas n is the number of a
+-- process, t a type, f a function, x an object, v a value, d its form, and i and j are an index and a time.
 use Rattle.std.proofs.Common.{◌≡◌, ℕ, ◌⊎◌, true, false, Some, List, [], ◌∷◌, ◌++◌, codes, refl, sym}
 use Rattle.std.proofs.Common.{append_assoc, arith}
 use Rattle.std.specs.Prelude.{ℤ, pos}
@@ -206,11 +207,13 @@ form_with n t f d es =
 abbrev map_with : ℕ → MapType → Function → ℕ → Value → ClientMap
 map_with n t f x v = record { process = n; map_type = t; function = Some f; object = x; value = Some v }
 
+-- a map in the usual order is as deep as its value allows, and has no key twice
 fits_with : (n : ℕ) (t : MapType) (f : Function) (d : Datum) (es : Entries) → DatumFits 15 d
     → LackEach operation_keys es
     → EntriesFit 15 es → DatumFits 16 (form_with n t f d es)
 fits_with n t f d es h l e = grind arith
 
+-- it is a client's map
 client_is : (n : ℕ) (t : MapType) (f : Function) (x : ℕ) (v : Value) (d : Datum) (es : Entries)
     → object_at (value_at (codes "object") es) ≡ Some x
     → spec.client_of (form_with n t f d es) ≡ Some (client_map (map_with n t f x v) d)
@@ -262,10 +265,12 @@ indexed_with i j n t f d =
     (entry (codes "process") (atom (integer (pos n)))
     (entry (codes "f") (atom (keyword (name_of f))) (entry (codes "value") d no_entries)))))
 
+-- the same of a map that begins with its index
 indexed_fits : (i j : ℤ) (n : ℕ) (t : MapType) (f : Function) (d : Datum) → DatumFits 15 d
     → DatumFits 16 (dictionary (indexed_with i j n t f d))
 indexed_fits i j n t f d h = grind arith
 
+-- it is a client's map too
 indexed_client : (i j : ℤ) (n : ℕ) (t : MapType) (f : Function) (v : Value) (d : Datum)
     → spec.client_of (dictionary (indexed_with i j n t f d)) ≡ Some (client_map (map_with n t f 0 v) d)
 indexed_client i j n t f v d =

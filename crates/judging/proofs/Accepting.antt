@@ -26,8 +26,10 @@ same_readings : (xs ys : List Certificate) → map (λ c. Some (reading_of c)) x
 same_readings [] [] e = refl
 same_readings [] (y ∷ ys) e = cc
 same_readings (x ∷ xs) [] e = cc
-same_readings (x ∷ xs) (y ∷ ys) e = let rest = same_readings xs ys (tails e) in let first = heads e in rw
-    (first, rest) refl
+same_readings (x ∷ xs) (y ∷ ys) e =
+    let rest = same_readings xs ys (tails e) in
+    let first = heads e in
+    rw (first, rest) refl
   where
     heads : {x y : Reading} {xs ys : List (Option Reading)} → Some x ∷ xs ≡ Some y ∷ ys → x ≡ y
     heads e = cc

@@ -1,4 +1,4 @@
--- The text that was read so far is a beginning of what the source gives; one more piece keeps this (`one_more_piece`).
+-- The text that was read so far is a beginning of what the source gives; one more piece keeps this (`next_piece`).
 -- At the end of the source, or at the limit, it is all (`came_to_end`, `came_to_limit`).
 use Rattle.std.proofs.Common.{◌-◌, take, subst, ◌≡◌, ℕ, ◌+◌, ◌<◌, ◌≤◌, List, [], ◌++◌, length}
 use Rattle.std.proofs.Common.{Option, Some, None, false, Bool, refl, ap, sym, ◌∙◌, arith}
@@ -12,12 +12,12 @@ nothing_consumed None = tt
 nothing_consumed (Some xs) = refl
 
 -- two pieces, one after the other
-pub one_more_consumed : (old mid new : Option (List ℕ)) (xs ys : List ℕ) → Consumes old mid xs
+pub next_consumed : (old mid new : Option (List ℕ)) (xs ys : List ℕ) → Consumes old mid xs
     → Consumes mid new ys → Consumes old new (xs ++ ys)
-one_more_consumed None mid new xs ys h k = tt
-one_more_consumed (Some os) None new xs ys h k = absurd h
-one_more_consumed (Some os) (Some ms) None xs ys h k = absurd k
-one_more_consumed (Some os) (Some ms) (Some ns) xs ys h k = h ∙ (ap (λ z. xs ++ z) k ∙ sym (append_assoc xs ys ns))
+next_consumed None mid new xs ys h k = tt
+next_consumed (Some os) None new xs ys h k = absurd h
+next_consumed (Some os) (Some ms) None xs ys h k = absurd k
+next_consumed (Some os) (Some ms) (Some ns) xs ys h k = h ∙ (ap (λ z. xs ++ z) k ∙ sym (append_assoc xs ys ns))
 
 -- what was read so far; the buffer has room for this many bytes
 pub record IsReading (limit : ℕ) (old now : Option (List ℕ)) (bytes : List ℕ) (room : ℕ) (broken : Bool) : Type 0 where
@@ -32,12 +32,12 @@ stands_there : (buf behind stored : List ℕ) (len : ℕ) → length buf ≡ len
 stands_there buf behind stored len l s = s ∙ (ap (λ n. take n (buf ++ behind)) (sym l) ∙ take-append_seam buf behind)
 
 -- one more piece: n bytes were read before it, and it was asked for with room for len
-pub one_more_piece : (limit : ℕ) (old now new : Option (List ℕ)) (bytes whole buf behind stored : List ℕ)
+pub next_piece : (limit : ℕ) (old now new : Option (List ℕ)) (bytes whole buf behind stored : List ℕ)
     (n room given len : ℕ) (was broken : Bool) → IsReading limit old now bytes room was
     → n ≡ length bytes → n < limit → len + (room - (limit - n)) ≡ room → length buf ≡ len → given ≤ length buf
     → GivesBytes now new buf given → stored ≡ take len (buf ++ behind)
     → whole ≡ bytes ++ take given stored → broken ≡ false → IsReading limit old new whole len broken
-one_more_piece limit old now new bytes whole buf behind stored n room given len was broken h is below cut long within
+next_piece limit old now new bytes whole buf behind stored n room given len was broken h is below cut long within
     gave at joined usable =
     let same = stands_there buf behind stored len long at in
     let reads : whole ≡ bytes ++ take given buf = joined ∙ ap (λ xs. bytes ++ take given xs) same in
@@ -45,7 +45,7 @@ one_more_piece limit old now new bytes whole buf behind stored n room given len 
     ∙ (length-append bytes (take given buf) ∙ ap (λ k. length bytes + k) (length-take-le given buf within)) in
     record {
       consumed = subst (Consumes old new) (sym reads)
-          (one_more_consumed old now new bytes (take given buf) h.consumed gave.consumed);
+          (next_consumed old now new bytes (take given buf) h.consumed gave.consumed);
       within = (let r = h.some in omega arith);
       some = (let r = h.some in omega arith);
       usable = usable;
@@ -59,7 +59,7 @@ pub came_to_end : (limit : ℕ) (old now new : Option (List ℕ)) (bytes buf : L
 came_to_end limit old now new bytes buf n room given len was h is below cut long none gave =
     record {
       consumed = subst (Consumes old new) (append-nil bytes)
-          (one_more_consumed old now new bytes [] h.consumed
+          (next_consumed old now new bytes [] h.consumed
           (subst (λ k. Consumes now new (take k buf)) none gave.consumed));
       within = h.within;
       whole = λ l. gave.ended none (let r = h.some in omega arith);

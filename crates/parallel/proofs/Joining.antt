@@ -62,6 +62,7 @@ pub record ArePutIn (all rest : List ObjectCalls) (old new : BTreeMap ℕ Object
 pub nothing_put : (all : List ObjectCalls) (m : BTreeMap ℕ ObjectCalls) → ArePutIn all all m m
 nothing_put all m = record { met = []; so_far = refl; kept = λ x. inr (λ c. absurd (in_from_contains [] x c), refl) }
 
+-- an object that is put in is there then, and each other object is as it was
 put_one : (met : List ObjectCalls) (o : ObjectCalls) (x : ℕ) (old kept new : Option ObjectCalls)
     → IsPutIn met x old kept
     → (x ≡ o.object → new ≡ Some o) → (x ≢ o.object → new ≡ kept) → IsPutIn (met ++ o ∷ []) x old new
@@ -152,6 +153,7 @@ of_part es n parts os o h i = record {
   calls = all_at (λ (o : ObjectCalls). calls_of o.ops ≡ calls_on o.object (denoted es)) os h.calls o i;
 }
 
+-- with the objects of the part n put in, what is there is right, and whole up to that part
 whole_more : (es : List Event) (n parts : ℕ) (os : List ObjectCalls) (m next : BTreeMap ℕ ObjectCalls)
     → IsGatheredPart es n parts os
     → ((x : ℕ) → IsPutIn os x (get nat_cmp m x) (get nat_cmp next x)) → IsWholeTo es n parts m
@@ -262,7 +264,7 @@ all_listed es m all rest os sorted h from over listed = record {
       (pairs_map (λ (a b : ObjectCalls). a.object < b.object) (λ (e : ℕ × ObjectCalls). e.1) m.entries
       (pairs_weaker (λ (a b : ℕ × ObjectCalls). a.0 < b.0)
       (λ (a b : ℕ × ObjectCalls). a.1.object < b.1.object) m.entries
-      (λ a b i j l. let p = (entry a i).object in let q = (entry b j).object in omega (arith, l, p, q))
+      (λ a b i j less. omega (arith, less, (entry a i).object, (entry b j).object))
       (pairs_from_map (λ (a b : ℕ). a < b) (λ (e : ℕ × ObjectCalls). e.0) m.entries (keys_rising (keys m) sorted)))));
   named = λ x. (
     λ c. let o = in_map (λ (o : ObjectCalls). o.object) x os

@@ -64,7 +64,7 @@ at_next worker workers os certificates place some h here = record {
   own = (
     h.own.0 + 1,
     let e = h.own.1 in
-        let m : (h.own.0 + 1) * workers ≡ h.own.0 * workers + workers = one_more h.own.0 in omega arith,
+        let m : (h.own.0 + 1) * workers ≡ h.own.0 * workers + workers = next_turn h.own.0 in omega arith,
   );
   fine = λ k l inside own. elim (cases_order k place) [
     | inl e ↦ subst (IsFineAt os certificates) (sym e) here
@@ -81,8 +81,8 @@ at_next worker workers os certificates place some h here = record {
   ];
 }
   where
-    one_more : (t : ℕ) → (t + 1) * workers ≡ t * workers + workers
-    one_more t = grind arith
+    next_turn : (t : ℕ) → (t + 1) * workers ≡ t * workers + workers
+    next_turn t = grind arith
 
 -- each place is that of a worker
 its_worker : (count k : ℕ) → 0 < count → (k % count < count) × FallsTo (k % count) count k
@@ -127,17 +127,17 @@ all_ok g rs h = all_from_in (IsNotBefore g) rs (λ r i. go r (all_at IsOk rs h r
     go (Err e) k = cc k
 
 -- what one more worker found is taken into account
-pub one_more_found : (rs : List (Result (Unit {0}) RefusedObject)) (r : Result (Unit {0}) RefusedObject)
+pub next_found : (rs : List (Result (Unit {0}) RefusedObject)) (r : Result (Unit {0}) RefusedObject)
     (least next : Option RefusedObject)
     → IsLeastOf rs least → IsEarlier least r next → IsLeastOf (rs ++ r ∷ []) next
-one_more_found rs (Ok u) None next h is = subst (IsLeastOf (rs ++ Ok u ∷ [])) (sym is) (All-push IsOk rs (Ok u) h refl)
-one_more_found rs (Ok u) (Some f) next h is =
+next_found rs (Ok u) None next h is = subst (IsLeastOf (rs ++ Ok u ∷ [])) (sym is) (All-push IsOk rs (Ok u) h refl)
+next_found rs (Ok u) (Some f) next h is =
     subst (IsLeastOf (rs ++ Ok u ∷ [])) (sym is)
     (Contains-append_left rs (Ok u ∷ []) (Err f) h.0, All-push (IsNotBefore f) rs (Ok u) h.1 tt)
-one_more_found rs (Err g) None next h is =
+next_found rs (Err g) None next h is =
     subst (IsLeastOf (rs ++ Err g ∷ [])) (sym is)
     (Contains-push rs (Err g), All-push (IsNotBefore g) rs (Err g) (all_ok g rs h) (omega arith))
-one_more_found rs (Err g) (Some f) next h is = elim is [
+next_found rs (Err g) (Some f) next h is = elim is [
   | inl e ↦ subst (IsLeastOf (rs ++ Err g ∷ [])) (sym e.1)
       (Contains-append_left rs (Err g ∷ []) (Err f) h.0, All-push (IsNotBefore f) rs (Err g) h.1 e.0)
   | inr e ↦ subst (IsLeastOf (rs ++ Err g ∷ [])) (sym e.1)

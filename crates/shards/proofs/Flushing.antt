@@ -18,26 +18,30 @@ adds_nothing : (files : Option Files) → AddsFiles files files no_lines
 adds_nothing None = tt
 adds_nothing (Some f) = λ s. (sym (append-nil (f.texts s)), sym (append-nil (f.tables s)))
 
-pub adds_both : (a b c : Option Files) (m n : Files) → AddsFiles a b m → AddsFiles b c n
-    → AddsFiles a c (with_more m n)
-adds_both None b c m n h k = tt
-adds_both (Some a) None c m n h k = absurd h
-adds_both (Some a) (Some b) None m n h k = absurd k
-adds_both (Some a) (Some b) (Some c) m n h k = λ s. (
-  (k s).0 ∙ (ap (λ t. t ++ n.texts s) (h s).0 ∙ append_assoc (a.texts s) (m.texts s) (n.texts s)),
-  (k s).1 ∙ (ap (λ t. t ++ n.tables s) (h s).1 ∙ append_assoc (a.tables s) (m.tables s) (n.tables s)),
+-- what is added to files in two steps is added together
+pub adds_both : (old mid new : Option Files) (first second : Files) → AddsFiles old mid first
+    → AddsFiles mid new second → AddsFiles old new (with_more first second)
+adds_both None mid new first second h k = tt
+adds_both (Some old) None new first second h k = absurd h
+adds_both (Some old) (Some mid) None first second h k = absurd k
+adds_both (Some old) (Some mid) (Some new) first second h k = λ s. (
+  (k s).0 ∙ (ap (λ t. t ++ second.texts s) (h s).0
+  ∙ append_assoc (old.texts s) (first.texts s) (second.texts s)),
+  (k s).1 ∙ (ap (λ t. t ++ second.tables s) (h s).1
+  ∙ append_assoc (old.tables s) (first.tables s) (second.tables s)),
 )
 
 -- ---- lines that move
 
 -- of each shard, the lines that were written and those that wait are the same together
-lines_same : (f : Waiting → List ℕ) (ws : List Waiting) (i : ℕ) (w v : Waiting) (gone : List ℕ) → i < length ws
-    → w ≡ get_or ws i w → f w ≡ gone ++ f v → (written : List ℕ) (s : ℕ)
-    → (written ++ cond (s == i) gone []) ++ at f [] (set ws i v) s ≡ written ++ at f [] ws s
-lines_same f ws i w v gone l is moved written s = elim (cases_eq s i) [
+lines_same : (lines : Waiting → List ℕ) (ws : List Waiting) (i : ℕ) (before after : Waiting) (gone : List ℕ)
+    → i < length ws → before ≡ get_or ws i before → lines before ≡ gone ++ lines after → (written : List ℕ) (s : ℕ)
+    → (written ++ cond (s == i) gone []) ++ at lines [] (set ws i after) s ≡ written ++ at lines [] ws s
+lines_same lines ws i before after gone within is moved written s = elim (cases_eq s i) [
   | inl q ↦
-      rw (eq-eqb s i q, q, at_written f [] ws i v l, at_read f [] ws i w l is, moved) (append_assoc written gone (f v))
-  | inr ne ↦ rw (ne_eqb s i ne, at_others f [] ws i v s ne, append-nil written)
+      rw (eq-eqb s i q, q, at_written lines [] ws i after within, at_read lines [] ws i before within is, moved)
+          (append_assoc written gone (lines after))
+  | inr ne ↦ rw (ne_eqb s i ne, at_others lines [] ws i after s ne, append-nil written)
 ]
 
 count_same : (ws : List Waiting) (i : ℕ) (w v : Waiting) → i < length ws → w ≡ get_or ws i w → v.count ≡ w.count

@@ -19,6 +19,7 @@ renamed_numbers : (name : ℕ → ℕ) (ns : List ℕ) (es : List Event)
 renamed_numbers name ns [] = refl
 renamed_numbers name ns (e ∷ es) = rw (renamed_numbers name ns es)
 
+-- the numbers of a shard's table are those that its events have in the whole
 pub keeps_numbers : (shard_of name : ℕ → ℕ) (whole : List ℕ) (files : Files) (es own : List Event)
     → (d : IsDivided shard_of name whole files) → length d.split.maps ≤ 2 ^ 32
     → TextDenotes whole es → (s : ℕ) → TextDenotes (files.texts s) own

@@ -53,6 +53,7 @@ pub due_more : (ns : List ℕ) (es : List Event) (i next : ℕ) (d : Event) → 
     → IsDue ns es (i + 1) next
 due_more ns es i next d is n h = let own = h i d (omega arith) in omega arith
 
+-- where numbers rise along the events, an earlier event has a lower one
 numbers_rise : (ns : List ℕ) (es : List Event) (i j : ℕ) (d e : Event) → i < j → j < length es
     → AllPairs (λ a b. a.number < b.number) (with_numbers ns es) → number_of ns es i d < number_of ns es j e
 numbers_rise ns es i j d e less within rising =

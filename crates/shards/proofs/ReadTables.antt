@@ -71,6 +71,7 @@ pub record ReadsDigit (ns numbers : List ℕ) (number byte : ℕ) (tail : List �
   pub short : number * 10 + (byte - 48) < 2 ^ 32
   pub read : IsReadTo ns numbers (number * 10 + (byte - 48)) tail
 
+-- such a byte is a digit of the number that is read, and the number stays short
 digit_of : (ns numbers : List ℕ) (number byte : ℕ) (tail later : List ℕ) → AreShort ns → ns ≡ numbers ++ later
     → (byte ≡ 10 → ⊥) → IsLeft number later (byte ∷ tail) → ReadsDigit ns numbers number byte tail
 digit_of ns numbers number byte tail [] short all apart (zero, left) = absurd cc
@@ -98,6 +99,7 @@ nothing_later number (n ∷ later) (d ∷ ds, left, digits, value) = absurd cc
 
 -- ---- by the index of a byte
 
+-- a line feed ends the number that is read
 pub line_at : (table ns numbers more : List ℕ) (number i : ℕ) → AreShort ns → i < length table
     → get_or table i 0 ≡ 10 → more ≡ numbers ++ number ∷ [] → IsReadTo ns numbers number (drop i table)
     → IsReadTo ns more 0 (drop (i + 1) table)

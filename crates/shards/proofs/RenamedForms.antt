@@ -121,6 +121,7 @@ own_faultless shard_of name ms each faultless s apart =
 
 -- ---- events
 
+-- maps that differ by their objects' names alone make such events
 event_renamed : (name : ℕ → ℕ) (k : ℕ) (m n : ClientMap) (a : Option Action) → IsRenamed name m n
     → event_of_map k n a ≡ renamed name (event_of_map k m a)
 event_renamed name k m n None r = refl

@@ -121,10 +121,16 @@ same_reply name m n r = rw (r.function, r.value)
 -- the same action
 pub same_action : (name : ℕ → ℕ) (m n : ClientMap) → IsRenamed name m n → action_of n.type n ≡ action_of m.type m
 same_action name m n r =
-    let op = same_op name m n r in let reply = same_reply name m n r in let type = r.type in grind arith
+    let op = same_op name m n r in
+    let reply = same_reply name m n r in
+    let type = r.type in
+    grind arith
 
 bad_before : (name : ℕ → ℕ) (m n : ClientMap) → IsRenamed name m n → (t : MapType) → HasBadValue t n → HasBadValue t m
-bad_before name m n r t bad = let op = same_op name m n r in let reply = same_reply name m n r in grind arith
+bad_before name m n r t bad =
+    let op = same_op name m n r in
+    let reply = same_reply name m n r in
+    grind arith
 
 -- of these maps none on another object has the same name
 abbrev IsApart : (ℕ → ℕ) → List ClientMap → ClientMap → Type 0

@@ -26,7 +26,9 @@ AreSame es fs = AllZip (λ e f. said e ≡ said f) es fs
 pub same_from : (es fs : List Event) → map said es ≡ map said fs → AreSame es fs
 same_from [] [] q = tt
 same_from (e ∷ es) (f ∷ fs) q =
-    let first : said e ≡ said f = cc in let others : map said es ≡ map said fs = cc in (first, same_from es fs others)
+    let first : said e ≡ said f = cc in
+    let others : map said es ≡ map said fs = cc in
+    (first, same_from es fs others)
 same_from es fs q = absurd (cc q)
 
 pub in_same : (es fs : List Event) → AreSame es fs → (f : Event) → In f fs → (e : Event) × In e es × (said e ≡ said f)
@@ -78,6 +80,7 @@ fails_same p (e ∷ es) (f ∷ fs) same =
     grind arith
 fails_same p es fs same = absurd same
 
+-- the event that is denoted does not depend on the number
 unnumbered : (n m p x : ℕ) (a : Action) (failed : Bool)
     → events (denoted_by n p x a failed) ≡ events (denoted_by m p x a failed)
 unnumbered n m p x a failed = grind arith

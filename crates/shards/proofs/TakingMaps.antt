@@ -126,8 +126,8 @@ module _ (count : ℕ) (old new : Divider) (maps : List SpelledMap) (written : F
   on_other s ne = on_object (λ x. shard_among count x == s) m.form c client ∙ ne_eqb i s (λ q. ne (sym q))
 
   -- the maps on its object are one more, and those on any other as many as before
-  one_more : maps_on (maps ++ m ∷ []) c.object ≡ maps_on maps c.object + 1
-  one_more =
+  one_counted : maps_on (maps ++ m ∷ []) c.object ≡ maps_on maps c.object + 1
+  one_counted =
       let on = λ (k : SpelledMap). is_on (λ y. y == c.object) k.form in
       rw (filter_kept on maps m (on_object (λ y. y == c.object) m.form c client ∙ eq-eqb c.object c.object refl))
       (length_push (filter on maps) m)
@@ -144,7 +144,7 @@ module _ (count : ℕ) (old new : Divider) (maps : List SpelledMap) (written : F
     read = rw (forms_push maps m) read;
     each = All-push (IsSpelled name_in_shard) maps m h.each spells;
     fit = All-push (ObjectFits count) maps m h.fit (λ k q. rw (same_Some k c (sym q ∙ client)) fits);
-    tally = counts (maps_on maps) (maps_on (maps ++ m ∷ [])) h.tally one_more no_more;
+    tally = counts (maps_on maps) (maps_on (maps ++ m ∷ [])) h.tally one_counted no_more;
     texts = λ s. elim (cases_eq s i) [
       | inl q ↦
           let joined = append_assoc (written.texts s) (waiting_maps old.waiting.items s) (m.text ++ 10 ∷ []) in
@@ -164,6 +164,7 @@ module _ (count : ℕ) (old new : Divider) (maps : List SpelledMap) (written : F
     ];
   }
 
+-- a client's map, that is one of the maps so far after it was added to its shard
 pub taken_map : (count : ℕ) (old new : Divider) (maps : List SpelledMap) (written : Files) (d : Datum)
     (c : ClientMap) (place : ℕ) → AreMapsTaken count old maps written
     → AreReadAtAnyLength new.reader (forms_of maps ++ d ∷ []) → client_of d ≡ Some c
@@ -320,6 +321,7 @@ module _ (ms : List MapText) (ds : List Datum) (i : ℕ) (z : MapText) (h : AreM
       ) in
       rw all at (longer (forms_of (maps ++ more) ++ form ∷ []) rest found)
 
+  -- a fault that is found at one form of a piece is the piece's
   pub piece_fault : (count : ℕ) (d : Divider) (maps : List SpelledMap) (written : Files) (piece : List ℕ)
       (f : PieceFault) → Spells ds piece → AreTakenUpTo i ds count d maps written
       → ((more : List SpelledMap) (e : Datum) → Says (get_or ms i z).said e → AreMapsTaken count d more written

@@ -29,6 +29,7 @@ use Rattle.shards.proofs.WholeAndShards.{decided_by_shards}
 abbrev enqueued : ℕ → ℕ → ℕ → ℕ → ℤ → List Event
 enqueued p n m x v = does n p x (Invoke (Enqueue v)) ∷ does m p x (Ok (Value (Some v))) ∷ []
 
+-- two such events are proper
 enqueued-proper : (p n m x : ℕ) (v : ℤ) → n < m → IsProper (enqueued p n m x v)
 enqueued-proper p n m x v less = proper_from (λ y. Queue) (enqueued p n m x v)
     (all_from_pairs (λ a b. a.number < b.number) (enqueued p n m x v) (λ e i. grind arith, (λ e i. absurd i, tt)))
@@ -74,7 +75,7 @@ nothing-good = (nothing-proper, nothing-linearizable)
 
 -- no shard has both objects
 not_both : (s : ℕ) → (1 == s) ≡ true → (2 == s) ≡ true → ⊥
-not_both s q r = let one = eqb-true 1 s q in let two = eqb-true 2 s r in omega arith
+not_both s q r = omega (arith, eqb-true 1 s q, eqb-true 2 s r)
 
 -- ---- a process that has two operations at once
 
@@ -103,7 +104,7 @@ two_at_once-refused proper = (proper.each (does 0 3 1 (Invoke (Enqueue (pos 7)))
     (does 1 3 2 (Invoke (Enqueue (pos 8)))) refl).0
 
 pub two_at_once-not_linearizable : ¬ DenoteLinearizable two_at_once
-two_at_once-not_linearizable l = let s = l.completes.well_formed 3 in let m = s.0 in cc m
+two_at_once-not_linearizable l = cc (l.completes.well_formed 3).0
 
 -- ---- two processes, of which each has one operation
 

@@ -73,11 +73,12 @@ sound_before fs i f rs lt is h = record {
   faultless = no_fault (views (take i fs)) rs h;
 }
 
-pub one_more_read : (fs : List Form) (i : ℕ) (f : Form) (rs : List Claim) (r : Claim) → i < length fs
+-- if the next form is a claim, the forms up to it denote that claim too
+pub next_claim_read : (fs : List Form) (i : ℕ) (f : Form) (rs : List Claim) (r : Claim) → i < length fs
     → f ≡ get_or fs i f
     → Denotes (views (take i fs)) rs → claim_in (view f) ≡ Some (claim_seen r)
     → Denotes (views (take (i + 1) fs)) (rs ++ r ∷ [])
-one_more_read fs i f rs r lt is h own =
+next_claim_read fs i f rs r lt is h own =
     let more = ap views (take_more fs i f lt ∙ ap (λ (x : Form). take i fs ++ x ∷ []) (sym is))
     ∙ map-append view (take i fs) (f ∷ []) in
     ap (map claim_in) more ∙ map-append claim_in (views (take i fs)) (view f ∷ [])

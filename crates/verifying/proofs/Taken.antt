@@ -157,11 +157,11 @@ none_claimed objects limit answers h = record {
       });
 }
 
-pub one_more : (objects : List ObjectCalls) (claims : List Claim) (limit : ℕ) (e : Claim)
-    (old new : List (ℕ × Decision))
-    → AreDecisionsTaken objects limit e old new
+-- with the decisions that a claim leads to, the objects are decided by the claims up to it
+pub claim_taken : (objects : List ObjectCalls) (claims : List Claim) (limit : ℕ) (e : Claim)
+    (old new : List (ℕ × Decision)) → AreDecisionsTaken objects limit e old new
     → AreDecided objects claims limit old → AreDecided objects (claims ++ e ∷ []) limit new
-one_more objects claims limit e old new t h = record {
+claim_taken objects claims limit e old new t h = record {
   numbers = t.numbers ∙ h.numbers;
   each = λ i o l is. t.each i o l is claims (h.each i o l is);
 }

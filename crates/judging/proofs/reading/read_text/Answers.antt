@@ -2,7 +2,7 @@
 -- far and the rest are all that there was (`IsReading`), and a piece is never longer than the room up to the limit.
 use Rattle.std.proofs.Common.{length, drop, sym, subst, ◌∙◌, ◌<◌, arith}
 use Rattle.judging.specs.Reads.{read_limit}
-use Rattle.judging.proofs.ReadSoFar.{begins, one_more_piece, came_to_end, came_to_limit}
+use Rattle.judging.proofs.ReadSoFar.{begins, next_piece, came_to_end, came_to_limit}
 use Rattle.judging.proofs.reading.read_text.Goals as goal
 
 pub loop-buffer-init : goal.loop-buffer-init
@@ -29,7 +29,7 @@ loop-buffer-preserved g c =
     let seen = c.len-in-loop-buffer.ensures ∙ l.bytes.ok.0 in
     let below = subst (λ n. n < read_limit) (c.len.ensures
     ∙ sym c.len-in-loop-buffer.ensures) c.loop-buffer-test.true in
-    one_more_piece read_limit (g.S.Source.remaining c.args.source.now) (g.S.Source.remaining l.source)
+    next_piece read_limit (g.S.Source.remaining c.args.source.now) (g.S.Source.remaining l.source)
     (g.S.Source.remaining c.get.new.self)
     l.bytes.items c.extend_from_slice.new.self.items c.get.new.buf
     (drop (length c.get.new.buf) c.truncate.new.self.items) c.deref.result.now c.len-in-loop-buffer.result

@@ -1,6 +1,6 @@
 use Rattle.std.proofs.Common.{take, sym, subst, get_or, Ok}
 use Rattle.std.proofs.lemmas.List.{take_more, take_all}
-use Rattle.parallel.proofs.Sharing.{IsLeastOf, one_more_found, none_found}
+use Rattle.parallel.proofs.Sharing.{IsLeastOf, next_found, none_found}
 use Rattle.parallel.proofs.share.least.Goals as goal
 
 pub loop-share-preserved : goal.loop-share-preserved
@@ -9,7 +9,7 @@ loop-share-preserved c =
     let i = c.loop-share.share-index in
     let next = c.earlier-least.result in
     subst (λ rs. IsLeastOf rs next) (sym (take_more found i (Ok tt) c.loop-share-test.true))
-    (one_more_found (take i found)
+    (next_found (take i found)
     (get_or found i (Ok tt)) c.loop-share.least next c.loop-share.invariant c.earlier-least.ensures)
 
 pub returns-clause-none : goal.returns-clause-none

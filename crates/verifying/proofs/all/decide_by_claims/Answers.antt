@@ -9,7 +9,7 @@ use Rattle.verifying.specs.declared.claim.Claim.{Claim}
 use Rattle.verifying.specs.Decisions.{certificate_decided}
 use Rattle.verifying.specs.Taking.{AreAllOpen, AreDecided, AreDecisionsTaken}
 use Rattle.verifying.proofs.Decided.{IsDecided, certifies, lacks_order, not_linearizable}
-use Rattle.verifying.proofs.Taken.{decided_on_all, none_claimed, one_more, same_length}
+use Rattle.verifying.proofs.Taken.{decided_on_all, none_claimed, claim_taken, same_length}
 use Rattle.verifying.proofs.all.decide_by_claims.Goals as goal
 
 pub loop-claim-init : goal.loop-claim-init
@@ -42,7 +42,7 @@ loop-claim-preserved c =
       taken = h.taken ++ claim ∷ [];
       parts =
           append_assoc h.taken (claim ∷ []) rest ∙ ap (λ xs. h.taken ++ xs) (sym c.in-Some.ensures.steps.0) ∙ h.parts;
-      decided = one_more objects h.taken c.args.limit claim c.loop-claim.answers.items c.take_claim.new.answers.items
+      decided = claim_taken objects h.taken c.args.limit claim c.loop-claim.answers.items c.take_claim.new.answers.items
           taken h.decided;
     }
 

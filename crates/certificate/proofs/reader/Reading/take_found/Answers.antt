@@ -7,7 +7,7 @@ use Rattle.certificate.specs.declared.fault.CertFaultKind.TheVariants.{NoMemory}
 use Rattle.certificate.specs.Denotes.{reading_of}
 use Rattle.certificate.specs.Inside.{AreCertificatesRead, IsFaultAmong, IsNextCertificate, has}
 use Rattle.certificate.specs.Texts.{IsCertFaultIn, AreCertificatesReadOrFaulty}
-use Rattle.certificate.proofs.Reading.{one_more_read}
+use Rattle.certificate.proofs.Reading.{next_certificate_read}
 use Rattle.certificate.proofs.TextReading.{are_read, found, no_fault_yet, still_faulty}
 use Rattle.certificate.proofs.reader.Reading.take_found.Goals as goal
 
@@ -20,7 +20,7 @@ returns-in-Ok-push c = λ ds d q h.
     let new = c.push.new.self in
     let none = no_fault_yet old.fault c.if-is_some.ensures in
     let own : IsNextCertificate (has old.objects) d (Ok c.in-Ok.certificate) = rw c.in-Ok.is at q in
-    let all = one_more_read ds old.certificates.items (has old.objects) (has new.objects) d c.in-Ok.certificate
+    let all = next_certificate_read ds old.certificates.items (has old.objects) (has new.objects) d c.in-Ok.certificate
     (are_read old ds none h) own.0 own.1 c.in-Ok-push.ensures.objects in
     let kept = subst (λ (cs : List Certificate). AreCertificatesRead (ds ++ d ∷ []) cs (has new.objects))
     (sym c.in-Ok-push.ensures.certificates) all in
