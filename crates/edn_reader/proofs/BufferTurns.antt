@@ -1,5 +1,6 @@
 -- One turn of `TokenBuffer`: what holds of it after each token. A token is one step of the reader, and where no frame
--- is open the element is whole.
+-- is open the element is whole. In the lemmas t is a token, r the text after it, and s and z are the states before it
+-- and after it.
 use Rattle.std.proofs.Common.{◌≡◌, ◌⊎◌, ℕ, Bool, true, false, Option, Some, None, ◌<◌, List, [], ◌∷◌, ◌++◌, length}
 use Rattle.std.proofs.Common.{get_or, refl, sym, ap, ◌∙◌, append_assoc, arith, inl, inr}
 use Rattle.std.specs.Prelude.{option_map, option_and_then, IsSome, ◌==◌}
@@ -163,6 +164,7 @@ not_taken s (got t q) e = by_step (step t s) (rw (← step_shape t s) at e)
     by_step (Some z) e = absurd cc
 not_taken s n e = refl
 
+-- a step adds the next token to what was consumed
 step_consumed : (rest : List ℕ) (t : Token) (r : List ℕ) (s z : State) → next rest ≡ got t r → step t s ≡ Some z
     → consumed z ≡ consumed s ++ t ∷ []
 step_consumed rest t r s z e f = let n = is_next rest t r e in step_tokens t s z (plain n.1 t r n.3) f
@@ -297,14 +299,15 @@ module _ {cuts : Bool} {text rest : List ℕ} {now_open : Shapes} {kept : Keep}
         let z : false ≡ true = rw (← m.shaped, q) at o in
         cc
 
-pub after_piece_shorter : (t : List ℕ) (s z : Shapes) (r : List ℕ) → after_piece s (first t) ≡ Some (z, r)
-    → length r < length t
-after_piece_shorter t s z r e = by_next (first t) refl e
+-- a token that is taken leaves less of the text
+pub after_piece_shorter : (text : List ℕ) (s z : Shapes) (r : List ℕ) → after_piece s (first text) ≡ Some (z, r)
+    → length r < length text
+after_piece_shorter text s z r e = by_next (first text) refl e
   where
-    by_next : (n : Next) → first t ≡ n → after_piece s n ≡ Some (z, r) → length r < length t
+    by_next : (n : Next) → first text ≡ n → after_piece s n ≡ Some (z, r) → length r < length text
     by_next (got u q) f k =
         let a = mapped _ (shape_step u s) (z, r) k in
-        rw (← ap (λ (x : Shapes × List ℕ). x.1) a.2) (first_shorter t u q f)
+        rw (← ap (λ (x : Shapes × List ℕ). x.1) a.2) (first_shorter text u q f)
     by_next n f k = absurd cc
 
 -- ---- a string is no key

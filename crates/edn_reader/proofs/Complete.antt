@@ -1,4 +1,6 @@
--- The tokens of forms lead to those forms, by induction on the form, from any state that takes one form more.
+-- The tokens of forms lead to those forms, by induction on the form, from any state that takes one form more. In the
+-- lemmas i is the innermost frame, g the same with the form d put in, and fs are the frames around it; n more may be
+-- open.
 use Rattle.std.proofs.Common.{◌≡◌, ℕ, ◌+◌, ◌-◌, ◌<◌, true, false, Option, Some, None, List, [], ◌∷◌, ◌++◌, length, refl}
 use Rattle.std.proofs.Common.{sym, ap, append_assoc, arith}
 use Rattle.std.specs.Prelude.{option_and_then, nat_lt}
@@ -77,6 +79,7 @@ TakesAll frame = (ds : List Datum) (d : Datum) → put (frame ds) d ≡ Some (fr
 mutual
   unfolding step
 
+  -- the tokens of a form put it into the innermost frame
   pub steps_datum : (d : Datum) (n : ℕ) (i : Frame) (fs : List Frame) (g : Frame) → DatumFits n d → n + length fs ≡ 16
       → put i d ≡ Some g → steps (tokens_of d) (at i fs) ≡ Some (at g fs)
   steps_datum (atom a) n i fs g fit len e = rw e refl
@@ -99,6 +102,7 @@ mutual
         e,
       ) refl
 
+  -- so do those of the elements of a vector, one after another
   pub steps_items : (ds : Items) (n : ℕ) (frame : List Datum → Frame) (all : TakesAll frame) (pre : List Datum)
       (fs : List Frame) → ItemsFit n ds → n + length fs ≡ 16
       → steps (items_tokens ds) (at (frame pre) fs) ≡ Some (at (frame (pre ++ items_list ds)) fs)

@@ -1,5 +1,5 @@
 -- A step of the reader adds its token to the tokens that the state has consumed (`step_tokens`): by cases on the token
--- and on the innermost level.
+-- and on the innermost level. In the lemmas s and z are the states before and after the token t.
 use Rattle.std.proofs.Common.{◌≡◌, ◌<◌, ℕ, Bool, true, false, cond, Option, Some, None, List, [], ◌∷◌, ◌++◌, length}
 use Rattle.std.proofs.Common.{refl, ap, append_assoc}
 use Rattle.std.specs.Prelude.{option_map, nat_lt}
@@ -94,11 +94,13 @@ opened_at f s z e =
     let b = kept_if (nat_lt (length s.outer) max_open) _ z a.1 in
     record { waits = a.0; room = ltb-true (length s.outer) max_open b.0; is = b.1 }
 
+-- a bracket that opens is consumed
 open_tokens : (f : Frame) (t : Token) (s z : State) → frame_tokens f ≡ t ∷ [] → open_at f s ≡ Some z
     → consumed z ≡ consumed s ++ t ∷ []
 open_tokens f t s z one e =
     rw (← (opened_at f s z e).is, one) refl
 
+-- one that closes is consumed, and makes of the innermost frame i a form d
 close_tokens : (d : Datum) (t : Token) (i : Frame) (fs : List Frame) (z : State)
     → tokens_of d ≡ frame_tokens i ++ t ∷ [] → close_as d fs ≡ Some z
     → consumed z ≡ (stack_tokens fs ++ frame_tokens i) ++ t ∷ []

@@ -192,6 +192,7 @@ pub items_more : (all rest remains : List Token) (ds : List Datum) (d : Datum) �
     → rest ≡ tokens_of d ++ remains → all ≡ list_tokens (ds ++ d ∷ []) ++ remains
 items_more all rest remains ds d e f = rw (e, f, list_tokens-append ds d) (simp append_assoc)
 
+-- one pair more
 pub pairs_more : (all rest value remains : List Token) (es : List (List ℕ × Datum)) (k : List ℕ) (d : Datum)
     → all ≡ pairs_tokens es ++ rest
     → rest ≡ leaf (atom (keyword k)) ∷ value → value ≡ tokens_of d ++ remains

@@ -39,6 +39,7 @@ pub both_begin : (ts us : List Token) (text mid rest : List ℕ) → BeginWith t
 both_begin [] us text mid rest b k = rw b k
 both_begin (t ∷ ts) us text mid rest (q, n, b) k = (q, n, both_begin ts us q mid rest b k)
 
+-- reading goes on by these tokens, from the state s to z
 progress : (ts : List Token) (text mid rest : List ℕ) (s z : State) → BeginWith ts mid rest → steps ts s ≡ Some z
     → Progress text mid s → Progress text rest z
 progress [] text mid rest s z b e p =

@@ -53,6 +53,7 @@ put_key_fits n es (keyword k) g h e =
     let p = kept_if_not (has_key k es) (in_pair es k) g e in subst (FrameFits n) p.1 (h, p.0)
 put_key_fits n es a g h e = absurd cc
 
+-- the frame g, which is f with the form d put in, is no deeper than allowed if these are not
 pub put_fits : (n : ℕ) (f : Frame) (d : Datum) (g : Frame) → FrameFits n f → DatumFits n d → put f d ≡ Some g
     → FrameFits n g
 put_fits n (in_text ds) d g h k e =

@@ -30,15 +30,16 @@ LeavesLess t end = Unit {0}
 LeavesLess t bad = Unit {0}
 LeavesLess t (got k r) = length r < length t
 
-if_less : (t : List ℕ) (c : Bool) (x y : Next) → LeavesLess t x → LeavesLess t y → LeavesLess t (cond c x y)
-if_less t true x y h k = h
-if_less t false x y h k = k
+if_less : (text : List ℕ) (c : Bool) (x y : Next) → LeavesLess text x → LeavesLess text y → LeavesLess text (cond c x y)
+if_less text true x y h k = h
+if_less text false x y h k = k
 
-word_less : (t w a : List ℕ) (o : Option Atom) → atom_of w ≡ o → w ++ a ≡ t → LeavesLess t (got_word o a)
+word_less : (text word after : List ℕ) (o : Option Atom) → atom_of word ≡ o → word ++ after ≡ text
+    → LeavesLess text (got_word o after)
 unfolding atom_of
-word_less t w a None e p = tt
-word_less t [] a (Some x) e p = absurd cc
-word_less t (c ∷ cs) a (Some x) e p = omega (arith, length-append (c ∷ cs) a, ap length p)
+word_less text word after None e p = tt
+word_less text [] after (Some x) e p = absurd cc
+word_less text (c ∷ cs) after (Some x) e p = omega (arith, length-append (c ∷ cs) after, ap length p)
 
 string_leaves : (t bs : List ℕ) (o : Option (List ℕ × List ℕ)) → length bs < length t → string_at bs ≡ o
     → LeavesLess t (got_string o)

@@ -54,11 +54,11 @@ mutual
 mutual
   pub ending_of : (t : List ℕ) → skip t ≡ [] → IsEnding t
   ending_of [] e = tt
-  ending_of (c ∷ cs) e = let ih = ending_of cs in let jh = text_of cs in grind (arith, nat_tests)
+  ending_of (c ∷ cs) e = grind (arith, nat_tests, ending_of cs, text_of cs)
 
   pub text_of : (t : List ℕ) → skip_comment t ≡ [] → EndsText t
   text_of [] e = tt
-  text_of (c ∷ cs) e = let ih = ending_of cs in let jh = text_of cs in grind (arith, nat_tests)
+  text_of (c ∷ cs) e = grind (arith, nat_tests, ending_of cs, text_of cs)
 
 mutual
   pub skip_gap : (gap after : List ℕ) → IsGap gap → skip after ≡ after → skip (gap ++ after) ≡ after
@@ -164,9 +164,10 @@ string_begins bs None e = tt
 string_begins bs (Some p) e =
     let q = string_is bs p.0 p.1 e in inr (p.0, q.0, refl, q.1, ap (λ (x : List ℕ). 34 ∷ x) q.2)
 
-if_first : (t : List ℕ) (c : Bool) (x y : Next) → (c ≡ true → FirstIs t x) → FirstIs t y → FirstIs t (cond c x y)
-if_first t true x y h k = h refl
-if_first t false x y h k = k
+if_first : (text : List ℕ) (c : Bool) (x y : Next) → (c ≡ true → FirstIs text x) → FirstIs text y
+    → FirstIs text (cond c x y)
+if_first text true x y h k = h refl
+if_first text false x y h k = k
 
 pub first_is : (t : List ℕ) → FirstIs t (first t)
 unfolding first

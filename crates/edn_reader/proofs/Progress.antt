@@ -1,6 +1,7 @@
 -- Reading makes progress (`Progress`): the text that was read spells the tokens so far, and each list of tokens that
 -- the text spells goes on from here. Each token keeps this, by cases on what the next token is; so a text has one
--- reading (`one_reading_of`).
+-- reading (`one_reading_of`). In the lemmas t is a token, r the text after it, and s and z are the states before it and
+-- after it.
 use Rattle.std.proofs.Common.{◌≡◌, ℕ, ◌-◌, ◌≤◌, true, ◌<◌, Option, Some, None, List, [], ◌∷◌, ◌++◌, length, refl, sym}
 use Rattle.std.proofs.Common.{ap, subst, ◌∙◌, append_assoc, arith}
 use Rattle.std.specs.Prelude.{option_map, IsSome, ◌==◌}
@@ -44,6 +45,7 @@ plain bytes t rest h = grind arith
 pub is_next : (rest : List ℕ) (t : Token) (r : List ℕ) → next rest ≡ got t r → IsNext rest t r
 is_next rest t r e = subst (IsNextOf rest) e (next_is rest)
 
+-- what was got is one token, with one rest
 same_got : (t u : Token) (r q : List ℕ) → got t r ≡ got u q → (t ≡ u) × (r ≡ q)
 same_got t u r q e = (cc, cc)
 
@@ -62,6 +64,7 @@ pub next_shorter : (rest : List ℕ) (t : Token) (r : List ℕ) → next rest �
 unfolding next
 next_shorter rest t r e = omega (arith, skip_within rest, first_shorter (skip rest) t r e)
 
+-- a step keeps the progress, from the state s to z
 pub goes_on : (text rest : List ℕ) (t : Token) (r : List ℕ) (s z : State) → next rest ≡ got t r → step t s ≡ Some z
     → Progress text rest s → Progress text r z
 goes_on text rest t r s z e f p =
@@ -71,7 +74,10 @@ goes_on text rest t r s z e f p =
     record {
       spelled = λ ts h. (let a : Lexes (consumed s ++ t ∷ ts) text = p.spelled (t ∷ ts) (r, n, h) in
           rw (c, append_assoc) a);
-      only = λ ts h. (let a = p.only ts h in let b = goes_after rest t r s z a.0 e f a.1 in (b.0, b.1, a.2 ∙ b.2));
+      only = λ ts h. (
+          let a = p.only ts h in
+          let b = goes_after rest t r s z a.0 e f a.1 in
+          (b.0, b.1, a.2 ∙ b.2));
       fits = step_fits t s z l p.fits f;
       utf8 = after_begins n.1 t r n.3 (after_gap rest n.0 n.1 n.2 n.4 p.utf8);
       grounded = step_grounded t s z p.grounded f;
@@ -163,8 +169,8 @@ stops text rest here s h some e p ds k = by_first (first here) refl e
   where
     by_first : (n : Next) → first here ≡ n → after_token s n ≡ None → ⊥
     by_first end f e =
-        let z : here ≡ [] = subst (FirstIs here) f (first_is here) in let l : length here ≡ 0 = ap length z in
-        omega arith
+        let empty : here ≡ [] = subst (FirstIs here) f (first_is here) in
+        omega (arith, ap length empty)
     by_first bad f e = no_token text rest s (next_at rest here h ∙ f) p ds k
     by_first (got t r) f e = no_step text rest t r s (next_at rest here h ∙ f) (unmapped_pair (step t s) r e) p ds k
 
@@ -226,8 +232,8 @@ at_end rest here h e = next_at_end rest here h (eqb-true (length here) 0 (sym e)
 
 same_tokens : (ts us : List Token) (bytes : List ℕ) → Lexes ts bytes → Lexes us bytes → ts ≡ us
 same_tokens [] [] bytes h k = refl
-same_tokens [] (u ∷ us) bytes h (q, n, k) = let e = ending_next bytes h in let f = next_from bytes u q n in absurd cc
-same_tokens (t ∷ ts) [] bytes (r, m, h) k = let e = ending_next bytes k in let f = next_from bytes t r m in absurd cc
+same_tokens [] (u ∷ us) bytes h (q, n, k) = absurd (cc (ending_next bytes h, next_from bytes u q n))
+same_tokens (t ∷ ts) [] bytes (r, m, h) k = absurd (cc (ending_next bytes k, next_from bytes t r m))
 same_tokens (t ∷ ts) (u ∷ us) bytes (r, m, h) (q, n, k) =
     let p = same_got t u r q (sym (next_from bytes t r m) ∙ next_from bytes u q n) in
     let rest : ts ≡ us = same_tokens ts us q (subst (Lexes ts) p.1 h) k in

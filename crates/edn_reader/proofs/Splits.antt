@@ -103,6 +103,7 @@ after_begins bytes t rest h u = remains _ rest (lit< tt) (subst IsUtf8 h u)
 escape_low : (c e : ℕ) → escape_of c ≡ Some e → e < 128
 escape_low c e h = by_tests (c == 116) (c == 114) (c == 110) (c == 92) (c == 34) h
   where
+    -- by the letter after the backslash: t, r, n, a backslash or a quote
     by_tests : (t r n k q : Bool)
         → cond t (Some 9) (cond r (Some 13) (cond n (Some 10) (cond k (Some 92) (cond q (Some 34) None)))) ≡ Some e
         → e < 128

@@ -45,6 +45,7 @@ with_byte_is b (Some p) s rest e =
     let q = some_is {A = List ℕ × List ℕ} (b ∷ p.0, p.1) (s, rest) e in
     (p.0, ap (λ (x : List ℕ × List ℕ). found p.0 x.1) q, ap (λ (x : List ℕ × List ℕ). x.0) (sym q))
 
+-- by the first byte b: m says whether it is a quote, n whether it is a backslash
 quoted_by : (b : ℕ) (bs s rest : List ℕ) (m n : Bool) → (b == 34) ≡ m → (b == 92) ≡ n
     → ((t : List ℕ) → string_at bs ≡ Some (t, rest) → Quoted bs t rest)
     → (escaped_at bs ≡ Some (s, rest) → Escaped bs s rest)

@@ -77,6 +77,7 @@ field k t ts text mid rest n q b = (
   spaced 32 t ts mid rest refl b,
 )
 
+-- a key with its form, after a comma, in front of the tokens that come next
 pub form_field : (d : Datum) (k : List ℕ) (ts : List Token) (text mid rest : List ℕ) → is_name k ≡ true
     → text ≡ 44 ∷ 32 ∷ 58 ∷ (k ++ 32 ∷ mid) → BeginWith (tokens_of d ++ ts) mid rest
     → BeginWith (leaf (atom (keyword k)) ∷ (tokens_of d ++ ts)) text rest

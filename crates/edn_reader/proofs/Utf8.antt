@@ -51,6 +51,7 @@ integer_utf8 (negsuc n) h =
 
 -- ---- strings
 
+-- by whether b is a tab, a carriage return, a line feed, a backslash or a quote
 escape_by : (b : ℕ) (t r n k q : Bool) → list_all below (b ∷ []) ≡ true
     → list_all below (cond t (codes "\\t")
     (cond r (codes "\\r") (cond n (codes "\\n") (cond k (codes "\\\\") (cond q (codes "\\\"") (b ∷ [])))))) ≡ true

@@ -21,6 +21,7 @@ escape_first : (b c e : ℕ) (bs : List ℕ) → (b == e) ≡ true → escape_of
     → IsQuoted (92 ∷ c ∷ escaped bs) (b ∷ bs)
 escape_first b c e bs h k ih = inr (refl, (e, bs, k, ap (λ (x : ℕ). x ∷ bs) (eqb-true b e h), ih))
 
+-- by whether b is a tab, a carriage return, a line feed, a backslash or a quote
 quoted_by : (b : ℕ) (bs : List ℕ) (t r n k q : Bool) → (b == 9) ≡ t → (b == 13) ≡ r → (b == 10) ≡ n → (b == 92) ≡ k
     → (b == 34) ≡ q → IsQuoted (escaped bs) bs
     → IsQuoted (cond t (codes "\\t")
@@ -88,12 +89,12 @@ between_entries : (first : Bool) (ts : List Token) (text : List ℕ) → Lexes t
 between_entries true ts text l = l
 between_entries false ts text l = sep_first 44 ts (32 ∷ text) refl (sep_first 32 ts text refl l)
 
-enclosed : (o z : Token) (b c : ℕ) (inner ts : List Token) (text rest : List ℕ)
-    → Begins (b ∷ (text ++ c ∷ rest)) o (text ++ c ∷ rest)
-    → Lexes (inner ++ z ∷ ts) (text ++ c ∷ rest)
-    → Lexes ((o ∷ (inner ++ z ∷ [])) ++ ts) ((b ∷ (text ++ c ∷ [])) ++ rest)
-enclosed o z b c inner ts text rest k l =
-    simp append_assoc (token_first _ o (text ++ c ∷ rest) (inner ++ z ∷ ts) k l)
+-- tokens between two brackets, whose bytes are b and c
+enclosed : (opens closes : Token) (b c : ℕ) (inner ts : List Token) (text rest : List ℕ)
+    → Begins (b ∷ (text ++ c ∷ rest)) opens (text ++ c ∷ rest) → Lexes (inner ++ closes ∷ ts) (text ++ c ∷ rest)
+    → Lexes ((opens ∷ (inner ++ closes ∷ [])) ++ ts) ((b ∷ (text ++ c ∷ [])) ++ rest)
+enclosed opens closes b c inner ts text rest begins inside =
+    simp append_assoc (token_first _ opens (text ++ c ∷ rest) (inner ++ closes ∷ ts) begins inside)
 
 mutual
   pub lexes_datum : (d : Datum) (ts : List Token) (rest : List ℕ) → InProfile d → EndsToken rest → Lexes ts rest

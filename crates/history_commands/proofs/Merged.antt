@@ -48,6 +48,7 @@ flat_push : {X : Type 0} (f : Answer → List X) (answers : List Answer) (a : An
     → flat_map f answers ++ f a ≡ flat_map f (answers ++ a ∷ [])
 flat_push f answers a = flat_map_more f [] answers a
 
+-- with the answer a for one shard more, from the state m to n
 pub merged_push : (m n : Merging) (shards : List Shard) (s : Shard) (a : Answer) → AreMerged m shards
     → AnswersShard s a → n.finding ≡ worse m.finding a.finding → n.notes.items ≡ m.notes.items ++ a.note
     → seen_lines n.lines.items ≡ seen_lines m.lines.items ++ a.lines
@@ -97,6 +98,7 @@ certificates (b ∷ ds) e d i =
       | inr j ↦ certificates ds parts.1 d j
     ]
 
+-- an answer that is made of the decisions on a shard answers the claims on it
 pub answers_claims : (name : ℕ → ℕ) (es : List Event) (claims : List Claim) (limit : ℕ) (ds : List (ℕ × Decision))
     (a : Answer) → AreDecisionsOn es claims limit ds → (AreValid es (certificates_decided ds) → DenoteLinearizable es)
     → a.finding ≡ finding_on ds → a.note ≡ [] → a.lines ≡ flat_map (λ d. lines_by es (name d.0) d.1) ds

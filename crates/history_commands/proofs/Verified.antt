@@ -70,11 +70,10 @@ explains es claims limit (a ∷ rest) each e =
     go Open h t again = later (decision_lines es a.0 Open) (again t)
 
 -- what four calls appended to a text, one after the other
-pub joined : (t a b x d t1 t2 t3 t4 : List ℕ) → t1 ≡ t ++ a → t2 ≡ t1 ++ b → t3 ≡ t2 ++ x → t4 ≡ t3 ++ d
-    → t4 ≡ t ++ (a ++ (b ++ (x ++ d)))
-joined t a b x d t1 t2 t3 t4 e f g h =
-    h ∙ ap (λ u. u ++ d) (g ∙ ap (λ u. u ++ x) (f ∙ ap (λ u. u ++ b) e)) ∙ append_assoc ((t ++ a) ++ b) x d
-    ∙ append_assoc (t ++ a) b (x ++ d) ∙ append_assoc t a (b ++ (x ++ d))
+pub joined : (text a b c d text1 text2 text3 text4 : List ℕ) → text1 ≡ text ++ a → text2 ≡ text1 ++ b
+    → text3 ≡ text2 ++ c → text4 ≡ text3 ++ d → text4 ≡ text ++ (a ++ (b ++ (c ++ d)))
+joined text a b c d text1 text2 text3 text4 first second third fourth =
+    rw (fourth, third, second, first) (simp append_assoc)
 
 -- where some object has no order
 pub are_open : (es : List Event) (claims : List Claim) (limit : ℕ) (status : Status) (text : List ℕ)
