@@ -5,7 +5,7 @@ use Rattle.std.proofs.Common.{map, option_map, Option, Some, None, Contains, ref
 use Rattle.std.specs.Prelude.{ℤ, ◌||◌, codes}
 use Rattle.std.specs.List.{list_any}
 use Rattle.std.proofs.lemmas.Bool.{both_ways, or_parts, eqb-true, eq-eqb}
-use Rattle.std.proofs.lemmas.List.{take_more, map-append}
+use Rattle.std.proofs.lemmas.List.{take_more}
 use Rattle.std.proofs.Math.ListN.{get_or-append}
 use Rattle.std.proofs.Math.Seq.{get_or-append_seam}
 use Rattle.std.proofs.lemmas.List.Quantifiers.{all_pairs_push}
@@ -14,6 +14,7 @@ use Rattle.edn_reader.specs.Datum.{Datum, dictionary, Entries, items_of}
 use Rattle.edn_reader.specs.View.{view, views}
 use Rattle.edn_reader.specs.declared.form.Form.{Form}
 use Rattle.edn.specs.Fields.{value_at, natural_in, object_in}
+use Rattle.edn.proofs.FormsRead.{push_read}
 use Rattle.certificate.specs.Denotes.{Reading, order_in, reading_with, certificate_of, reading_of, AreDistinct, Denotes}
 use Rattle.certificate.specs.Faults.{cert_fault_number, IsCertFault, HasNoCertFault, IsFirstFault}
 use Rattle.certificate.specs.Inside.{IsFaultAmong, AreCertificatesRead}
@@ -92,9 +93,7 @@ pub next_certificate_read : (ds : List Datum) (cs : List Certificate) (among aft
     → AreCertificatesRead (ds ++ d ∷ []) (cs ++ c ∷ []) after
 next_certificate_read ds cs among after d c h own new more = record {
   denoted = record {
-    each = map-append certificate_of ds (d ∷ []) ∙ ap (λ xs. xs ++ certificate_of d ∷ []) h.denoted.each
-        ∙ ap (λ v. map (λ b. Some (reading_of b)) cs ++ v ∷ []) own
-        ∙ sym (map-append (λ b. Some (reading_of b)) cs (c ∷ []));
+    each = push_read certificate_of reading_of ds cs d c h.denoted.each own;
     distinct = all_pairs_push (λ (a b : Certificate). a.object ≢ b.object) cs c h.denoted.distinct
         (λ k e lt same. both_ways ((get_or cs k e).object == c.object)
         (list_any-none (λ b. b.object == c.object) cs k e (sym (h.objects c.object) ∙ new) lt)

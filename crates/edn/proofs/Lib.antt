@@ -5,3 +5,4 @@ pub mod Operating
 pub mod Shapes
 pub mod Truncation
 pub mod FirstFaults
+pub mod FormsRead

@@ -21,3 +21,13 @@ pub record IsFirstFaultBy {Kind : Type 0} (IsFault : List Datum → Datum → Ki
   pub stands : IsFault earlier form kind
   pub faultless : AreFaultless IsFault earlier
   pub least : (other : Kind) → IsFault earlier form other → number_of kind ≤ number_of other
+
+-- there is a form at this place, and no form before it is faulty
+pub record AreSoundBefore {Kind : Type 0} (IsFault : List Datum → Datum → Kind → Type 0)
+    (ds : List Datum) (place : ℕ) : Type 0 where
+  pub earlier : List Datum
+  pub form : Datum
+  pub later : List Datum
+  pub split : ds ≡ earlier ++ form ∷ later
+  pub place_is : length earlier ≡ place
+  pub faultless : AreFaultless IsFault earlier

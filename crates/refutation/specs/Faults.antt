@@ -1,7 +1,7 @@
 -- What can be wrong with the forms of a text of reasons, and which fault of it is the first.
-use Rattle.std.specs.Prelude.{◌≡◌, ℕ, List, ◌∷◌, ◌++◌, length, None}
+use Rattle.std.specs.Prelude.{◌≡◌, ℕ, List, None}
 use Rattle.edn_reader.specs.Datum.{Datum}
-use Rattle.edn.specs.FirstFaults.{AreFaultless, IsFirstFaultBy}
+use Rattle.edn.specs.FirstFaults.{IsFirstFaultBy, AreSoundBefore}
 use Rattle.refutation.specs.Denotes.{reason_in}
 use Rattle.refutation.specs.declared.fault.ReasonFaultKind.{ReasonFaultKind}
 use Rattle.refutation.specs.declared.fault.ReasonFaultKind.TheVariants.{NotAReason, NoMemory}
@@ -22,10 +22,5 @@ abbrev pub IsFirstFault : List Datum → ReasonFault → Type 0
 IsFirstFault ds fault = IsFirstFaultBy IsReasonFault reason_fault_number ds fault.form fault.kind
 
 -- there is a form at this place, and nothing is wrong with the forms before it
-pub record AreReasonsSoundBefore (ds : List Datum) (place : ℕ) : Type 0 where
-  pub earlier : List Datum
-  pub form : Datum
-  pub later : List Datum
-  pub split : ds ≡ earlier ++ form ∷ later
-  pub place_is : length earlier ≡ place
-  pub faultless : AreFaultless IsReasonFault earlier
+abbrev pub AreReasonsSoundBefore : List Datum → ℕ → Type 0
+AreReasonsSoundBefore ds place = AreSoundBefore IsReasonFault ds place

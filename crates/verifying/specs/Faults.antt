@@ -1,7 +1,7 @@
 -- What can be wrong with the forms of a text of claims, and which fault of it is the first.
-use Rattle.std.specs.Prelude.{◌≡◌, ℕ, List, ◌∷◌, ◌++◌, length, None, true, false}
+use Rattle.std.specs.Prelude.{◌≡◌, ℕ, List, None, true, false}
 use Rattle.edn_reader.specs.Datum.{Datum}
-use Rattle.edn.specs.FirstFaults.{AreFaultless, IsFirstFaultBy}
+use Rattle.edn.specs.FirstFaults.{IsFirstFaultBy, AreSoundBefore}
 use Rattle.verifying.specs.Denotes.{claim_in, names_order}
 use Rattle.verifying.specs.declared.fault.ClaimFaultKind.{ClaimFaultKind}
 use Rattle.verifying.specs.declared.fault.ClaimFaultKind.TheVariants.{NotACertificate, NotAReason}
@@ -25,10 +25,5 @@ abbrev pub IsFirstFault : List Datum → ClaimFault → Type 0
 IsFirstFault ds fault = IsFirstFaultBy IsClaimFault fault_rank ds fault.form fault.kind
 
 -- there is a form at this place, and nothing is wrong with the forms before it
-pub record AreClaimsSoundBefore (ds : List Datum) (place : ℕ) : Type 0 where
-  pub earlier : List Datum
-  pub form : Datum
-  pub later : List Datum
-  pub split : ds ≡ earlier ++ form ∷ later
-  pub place_is : length earlier ≡ place
-  pub faultless : AreFaultless IsClaimFault earlier
+abbrev pub AreClaimsSoundBefore : List Datum → ℕ → Type 0
+AreClaimsSoundBefore ds place = AreSoundBefore IsClaimFault ds place
