@@ -1,5 +1,5 @@
--- The shards in a folder show the whole that was split into them: the shards within the count are those that were read
--- and judged, and those past it are empty.
+-- The shards in a folder show the full history that was split into them: the shards within the count are those that
+-- were read and judged, and those past it are empty.
 use Rattle.std.proofs.Common.{◌≡◌, ℕ, ◌<◌, ◌≤◌, ◌⊎◌, inl, inr, List, [], ◌∷◌, ◌++◌, get_or, length, All, sym, subst}
 use Rattle.std.proofs.Common.{◌≢◌, ◌∙◌, ap, arith, Bool, Option}
 use Rattle.std.specs.Prelude.{Any}

@@ -1,5 +1,5 @@
--- Trusted exit statuses decide the whole, if the workers were right: a yes of all is a yes of each, whose text is then
--- that of 0, and a no is a no of one.
+-- Trusted exit statuses decide the full history, if the workers were right: a yes of all is a yes of each, whose text
+-- is then that of 0, and a no is a no of one.
 use Rattle.std.proofs.Common.{◌≡◌, ◌∙◌, ℕ, ◌+◌, ◌<◌, ◌≤◌, ◌⊎◌, inl, inr, List, [], ◌∷◌, ◌++◌, Bool, true, false, cond}
 use Rattle.std.proofs.Common.{Option, Some, None, append-nil, append_assoc, arith, ap, codes, get_or, length, refl}
 use Rattle.std.proofs.Common.{sym, subst}
@@ -96,7 +96,7 @@ no_read : (r : Option (List ℕ)) → finding_of r ≡ Refuted → r ≡ Some (c
 no_read None e = absurd cc
 no_read (Some text) e = ap Some (says_no text (was_said (said_by text) Refuted e (λ q. cc)))
 
--- ---- the whole
+-- ---- the full history
 
 module _ (holds : HoldingStatus) (count : ℕ) (some : 0 < count) (whole : List ℕ) (files : Files)
     (divided : AreShardsOf count whole files) where

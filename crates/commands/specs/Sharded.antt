@@ -36,9 +36,9 @@ abbrev pub status_by_counts : List ℕ → Status
 status_by_counts counts =
     if list_any (λ n. nat_lt max_maps n) counts then ends.Undecided else ends.Yes
 
--- The output of a split. The whole was divided, and a status other than yes says that a shard is
--- too large for one text; or the whole is malformed. What the source has left, and the files, are
--- given as they were before and after.
+-- The output of a split. The full history was divided, and a status other than yes says that a
+-- shard is too large for one text; or the full history is malformed. What the source has left, and
+-- the files, are given as they were before and after.
 abbrev pub IsSplitOutput : ℕ → Option (List ℕ) → Option (List ℕ) → Option Files → Option Files
     → Status → List ℕ → Type 0
 IsSplitOutput count left left_after files files_after status out =
@@ -85,11 +85,11 @@ abbrev pub IsMergeOfFolder : FolderContents → ℕ → ℕ → Status → List 
 IsMergeOfFolder holds count limit status out =
     IsMergeOf holds count limit status out ⊎ IsOutOfMemory status out
 
--- these files are the shards of a whole, as a split of it makes them
+-- these files are the shards of a full history, as a split of it makes them
 abbrev pub AreShardsOf : ℕ → List ℕ → Files → Type 0
 AreShardsOf count whole files = IsDivided (shard_among count) name_in_shard whole files
 
--- The files hold the texts of the shards of a whole.
+-- The files hold the texts of the shards of a full history.
 abbrev pub FolderHoldsSplit : FolderContents → ℕ → List ℕ → Type 0
 FolderHoldsSplit holds count whole =
     (files : Files) × AreShardsOf count whole files

@@ -64,8 +64,8 @@ pub struct UnreadShard {
     pub file: ShardFile,
 }
 
-/// What the files of a shard hold: its text, its table of places in the whole, and the evidence
-/// for it, which is empty if there is none.
+/// What the files of a shard hold: its text, its table of places in the full history, and the
+/// evidence for it, which is empty if there is none.
 #[derive(Drop)]
 pub struct ShardFileTexts {
     pub text: Vec<u8>,
@@ -101,7 +101,7 @@ fn fault_of(fault: TextFault) -> Fault
     }
 }
 
-/// The output if the whole is malformed.
+/// The output if the full history is malformed.
 fn malformed_output(alloc: Global, fault: TextFault) -> Result<Output, AllocError>
     ensures { IfOk result (λ o.
         IsExactly Status.Malformed (split_fault_line fault) o.status o.text.items) }
@@ -174,7 +174,7 @@ fn push_large_objects(text: &mut Vec<u8>, objects: &[LargeObject]) -> Result<(),
     Ok(())
 }
 
-/// The output if the whole was divided so: yes, unless a shard is too large for a text.
+/// The output if the full history was divided so: yes, unless a shard is too large for a text.
 fn division_output(alloc: Global, division: &Division) -> Result<Output, AllocError>
     ensures { IfOk result (λ o. o.status ≡ spec.status_by_counts division.now.counts.items) }
 {

@@ -1,5 +1,5 @@
--- A merge shows of the texts of the shards what it shows of the shards with the numbers of the whole: numbers do not
--- matter. Lines that are put in order, and joined, keep those of each object.
+-- A merge shows of the texts of the shards what it shows of the shards with the numbers of the full history: numbers do
+-- not matter. Lines that are put in order, and joined, keep those of each object.
 use Rattle.std.proofs.Common.{arith, ◌≡◌, ◌∙◌, ◌||◌, ℕ, true, false, Bool, cond, List, [], ◌∷◌, ◌++◌, inl, inr, refl}
 use Rattle.std.proofs.Common.{ap, sym, subst, map, Any, IsSome, append_assoc}
 use Rattle.std.specs.List.{AllZip, flat_map, list_all, list_any}
@@ -122,7 +122,7 @@ answers_claims name es claims limit ds a decided suffices finding note lines cou
 other_finding : (f g : Finding) (a : Answer) → (f ≡ g → ⊥) → a.finding ≡ f → a.finding ≡ g → ⊥
 other_finding f g a apart is e = apart (sym is ∙ e)
 
--- with the numbers of the whole, and with its own, a history is linearizable or not
+-- with the numbers of the full history, and with its own, a history is linearizable or not
 with_own_numbers : (es others : List Event) → AreRenumbered es others → DenoteLinearizable others
     → DenoteLinearizable es
 with_own_numbers es others r = linearizable_same others es (same_from others es r.same)

@@ -103,7 +103,7 @@ IsTooLarge (CertificateText e) = ⊥
 IsTooLarge (CertificateForms f) = ⊥
 
 -- The answer for a shard whose text has this fault: the text is malformed, unless it is too large,
--- which says nothing about the whole.
+-- which says nothing about the full history.
 abbrev pub AnswersFault : ℕ → Fault → Answer → Type 0
 AnswersFault number f a =
     (IsTooLarge f × IsNoted number Undecided (codes "too large\n") a)
@@ -134,7 +134,7 @@ abbrev pub lines_by : List Event → ℕ → Decision → List (ℕ × List ℕ)
 lines_by es x d = if is_order d then [] else (x, decision_lines es x (decided_on x d)) ∷ []
 
 -- The answer by claims on the history that events denote, and what it shows. The history and the
--- claims have the names of a shard, the lines those of the whole, which are given.
+-- claims have the names of a shard, the lines those of the full history, which are given.
 pub record AnswersClaims (whole_name : ℕ → ℕ) (es : List Event) (claims : List Claim) (limit : ℕ)
     (a : Answer) : Type 0 where
   pub decisions : List (ℕ × Decision)
@@ -155,8 +155,8 @@ AnswersEvidence number whole_name es evidence limit a =
     ⊎ ((f : ClaimTextFault) × IsClaimTextFault evidence f × IsOfClaimText f
     × IsNoted number Undecided (evidence_fault_line f) a)
 
--- The answer for the events of a shard, whose table gives them the numbers of the whole, or does
--- not fit. The evidence is in these numbers.
+-- The answer for the events of a shard, whose table gives them the numbers of the full history, or
+-- does not fit. The evidence is in these numbers.
 abbrev pub AnswersTable : ℕ → (ℕ → ℕ) → List Event → List ℕ → List ℕ → ℕ → Answer → Type 0
 AnswersTable number whole_name es table evidence limit a =
     ((ns : List ℕ) × FitsTable ns table es
@@ -164,7 +164,7 @@ AnswersTable number whole_name es table evidence limit a =
     ⊎ (((ns : List ℕ) → FitsTable ns table es → ⊥)
     × IsNoted number Malformed (codes "its table does not fit\n") a)
 
--- the number that an object has in the whole, by its name in the shard
+-- the number that an object has in the full history, by its name in the shard
 abbrev pub whole_name : Shard → ℕ → ℕ
 whole_name s = object_named s.count s.number
 
@@ -226,7 +226,7 @@ pub record IsMergeOutput (shards : List Shard) (status : Status) (out : List ℕ
   pub lines : AreLinesWith (worst (map (λ a. a.finding) answers)) answers out
 
 -- No order of the calls of an object is valid, as is shown, and the lines that say so, by the name
--- of the object in the whole, are in the text.
+-- of the object in the full history, are in the text.
 pub record IsExplainedBy (whole_name : ℕ → ℕ) (es : List Event) (text : List ℕ) : Type 0 where
   pub object : ℕ
   pub refuted : ShownReason
@@ -236,7 +236,8 @@ pub record IsExplainedBy (whole_name : ℕ → ℕ) (es : List Event) (text : Li
   pub lines : text ≡ before
       ++ (impossible_lines es (whole_name object) (shown_on (whole_name object) refuted) ++ after)
 
--- The lines show that an object of the shard, in the numbers of the whole, has no valid order.
+-- The lines show that an object of the shard, in the numbers of the full history, has no valid
+-- order.
 pub record IsExplainedShard (s : Shard) (out : List ℕ) : Type 0 where
   pub events : List Event
   pub denoted : DenotesHistory s.text events

@@ -53,9 +53,9 @@ impl Merging {
     }
 
     /// Takes one more shard: its number, its text, its table, and evidence on it, which may be any
-    /// bytes. The evidence has the numbers of events in the whole, and the names of objects in the
-    /// shard; the lines have those of the whole. A search for which a claim names no number of
-    /// steps has the limit `steps`. No evidence is the empty text, which claims nothing.
+    /// bytes. The evidence has the numbers of events in the full history, and the names of objects
+    /// in the shard; the lines have those of the full history. A search for which a claim names no
+    /// number of steps has the limit `steps`. No evidence is the empty text, which claims nothing.
     ///
     /// An error: an allocation failed, and no clause says what is known afterwards.
     pub fn take(

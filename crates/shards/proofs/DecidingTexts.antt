@@ -1,5 +1,5 @@
 -- What a split denotes: each shard denotes the events on its objects, renamed and renumbered; so the shards decide
--- whether the whole is linearizable. A text denotes one list of forms only.
+-- whether the full history is linearizable. A text denotes one list of forms only.
 use Rattle.std.proofs.Common.{◌≡◌, ◌↔◌, ℕ, ◌==◌, ◌⊎◌, inl, inr, Bool, List, [], map, refl, sym, ◌∙◌, subst}
 use Rattle.edn_reader.specs.Datum.{Datum}
 use Rattle.edn_reader.specs.Spells.{Spells}
@@ -74,7 +74,7 @@ module _ {shard_of name : ℕ → ℕ} {whole : List ℕ} {shards : ℕ → List
   pub own_is : (s : ℕ) (es : List Event) → TextDenotes (shards s) es → es ≡ own_events s
   own_is s es d = one_denoted (shards s) es (own_forms s) d (own_spelled s)
 
-  -- the text of a shard is that of the whole's events on the shard's objects
+  -- the text of a shard is that of the full history's events on the shard's objects
   pub shard_is : (es : List Event) → TextDenotes whole es → (s : ℕ)
       → IsShardOf (λ x. shard_of x == s) name es (shards s)
   shard_is es d s = record {

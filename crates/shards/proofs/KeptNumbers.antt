@@ -1,5 +1,5 @@
--- The events of a shard with the numbers of its table are those of the whole. The table is that of the places of its
--- maps, and has one list of numbers only.
+-- The events of a shard with the numbers of its table are those of the full history. The table is that of the places of
+-- its maps, and has one list of numbers only.
 use Rattle.std.proofs.Common.{◌≡◌, ℕ, ◌==◌, ◌^◌, ◌≤◌, List, [], ◌∷◌, length, map, refl, ◌∙◌, arith}
 use Rattle.std.proofs.lemmas.List.{length-map}
 use Rattle.events.specs.declared.event.Event.{Event}
@@ -19,7 +19,7 @@ renamed_numbers : (name : ℕ → ℕ) (ns : List ℕ) (es : List Event)
 renamed_numbers name ns [] = refl
 renamed_numbers name ns (e ∷ es) = rw (renamed_numbers name ns es)
 
--- the numbers of a shard's table are those that its events have in the whole
+-- the numbers of a shard's table are those that its events have in the full history
 pub keeps_numbers : (shard_of name : ℕ → ℕ) (whole : List ℕ) (files : Files) (es own : List Event)
     → (d : IsDivided shard_of name whole files) → length d.split.maps ≤ 2 ^ 32
     → TextDenotes whole es → (s : ℕ) → TextDenotes (files.texts s) own

@@ -1,5 +1,6 @@
--- A shard names the objects that the whole names and that are in the shard, by their names there. Each invocation in a
--- shard is one of the whole with another number and name, and each one of the whole on an object of the shard is in it.
+-- A shard names the objects that the full history names and that are in the shard, by their names there. Each
+-- invocation in a shard is one of the full history with another number and name, and each one of the full history on an
+-- object of the shard is in it.
 use Rattle.std.proofs.Common.{◌≡◌, ◌↔◌, ℕ, ◌==◌, Bool, List, refl, ap, sym, ◌∙◌}
 use Rattle.std.proofs.lemmas.Bool.{eqb-true, eq-eqb}
 use Rattle.model.proofs.Lists.{in_filter, in_filter_passes, in_filter_from, in_map, in_map_from}

@@ -1,5 +1,5 @@
 -- A table has one list of short numbers: a number is its digits, which end at the first line feed. And the events
--- of a shard have their own numbers again by the table of the places that their maps have in the whole.
+-- of a shard have their own numbers again by the table of the places that their maps have in the full history.
 use Rattle.std.proofs.Common.{◌≡◌, ℕ, ◌+◌, ◌^◌, ◌<◌, ◌≤◌, Bool, true, false, cond, List, [], ◌∷◌, ◌++◌, length, decimal}
 use Rattle.std.proofs.Common.{All, Option, Some, None, refl, ap, sym, ◌∙◌, arith, append_assoc}
 use Rattle.std.specs.List.{list_all}

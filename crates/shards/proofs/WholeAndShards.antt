@@ -1,5 +1,6 @@
--- A whole is linearizable exactly where each shard is: by locality and its converse, since an object has the same calls
--- and the same kind in its shard as in the whole, and so the same valid orders, whatever its name is there.
+-- A full history is linearizable exactly where each shard is: by locality and its converse, since an object has the
+-- same calls and the same kind in its shard as in the full history, and so the same valid orders, whatever its name is
+-- there.
 use Rattle.std.proofs.Common.{◌≡◌, ◌↔◌, ℕ, ◌==◌, Bool, true, List, [], ◌∷◌, refl, ap, sym, ◌∙◌, arith}
 use Rattle.std.proofs.lemmas.Bool.{eq-eqb}
 use Rattle.std.proofs.lemmas.Bool.Decides.{nat_tests}
@@ -43,7 +44,7 @@ order_found : (has : ℕ → Bool) (x : ℕ) (es : List Event) → has x ≡ tru
 order_found has x es own proper =
     ordered_same (events_on has es) es x x (kind_kept has x es own) (calls_kept has x es own proper)
 
--- the events on some objects of a linearizable whole
+-- the events on some objects of a linearizable full history
 part_linearizable : (has : ℕ → Bool) (es : List Event) → IsProper es → DenoteLinearizable es
     → DenoteLinearizable (events_on has es)
 part_linearizable has es proper l = linearizable_by (events_on has es) (proper_on has es proper)
@@ -51,7 +52,7 @@ part_linearizable has es proper l = linearizable_by (events_on has es) (proper_o
     let own = in_filter_passes (λ d. has d.object) e es i in
     order_kept has e.object es own proper (orders_of es proper l e.object))
 
--- a whole, where the part with each object is linearizable
+-- a full history, where the part with each object is linearizable
 whole_linearizable : (has : ℕ → ℕ → Bool) (es : List Event) → IsProper es → ((x : ℕ) → has x x ≡ true)
     → ((x : ℕ) → DenoteLinearizable (events_on (has x) es)) → DenoteLinearizable es
 whole_linearizable has es proper own each = linearizable_by es proper (λ e i.

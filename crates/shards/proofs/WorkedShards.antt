@@ -1,5 +1,6 @@
 -- The worked events. Each shard has one enqueue or nothing, and so is proper, and linearizable by the order of its one
--- call: so a proper whole is linearizable. Where a process invokes twice before a response, the whole is neither.
+-- call: so a proper full history is linearizable. Where a process invokes twice before a response, the full history is
+-- neither.
 use Rattle.std.proofs.Common.{◌≡◌, ℕ, ℤ, pos, ◌==◌, ◌<◌, Bool, true, false, cond, List, [], ◌∷◌}
 use Rattle.std.proofs.Common.{filter, Some, lit<, refl, sym, subst, arith}
 use Rattle.std.proofs.lemmas.Bool.{eqb-true}

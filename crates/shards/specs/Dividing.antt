@@ -1,5 +1,5 @@
 -- A history of any length that is divided into a number of shards: the text of each, and a table of
--- the numbers that its maps have in the whole.
+-- the numbers that its maps have in the full history.
 use Rattle.std.specs.Prelude.{◌≡◌, ℕ, ◌+◌, ◌-◌, ◌*◌, ◌/◌, ◌%◌, ◌==◌, Bool, List, [], ◌∷◌, ◌++◌, ◌<◌}
 use Rattle.std.specs.Prelude.{Some, decimal, map, if◌then◌else◌, get_or}
 use Rattle.edn_reader.specs.Datum.{Datum}
@@ -55,19 +55,19 @@ pub record Files : Type 0 where
   pub texts : ℕ → List ℕ
   pub tables : ℕ → List ℕ
 
--- The texts are a split of the whole, and the table of each shard has the places that its maps have
--- in the whole.
+-- The texts are a split of the full history, and the table of each shard has the places that its
+-- maps have in the full history.
 pub record IsDivided (shard_of name : ℕ → ℕ) (whole : List ℕ) (files : Files) : Type 0 where
   pub split : IsSplit shard_of name whole files.texts
   pub tables : (s : ℕ) → files.tables s
       ≡ table_text (places_from 0 (λ x. shard_of x == s) (map (λ m. m.form) split.maps))
 
 -- the event with the number that is in its place of the list: the map in place k of a shard's text
--- gets the number that it has in the whole
+-- gets the number that it has in the full history
 abbrev pub numbered_by : List ℕ → Event → Event
 numbered_by ns e = record e { number = get_or ns e.number 0 }
 
 -- each event with the number that is in its place of the list: those of a shard's text get the
--- numbers that their maps have in the whole
+-- numbers that their maps have in the full history
 abbrev pub with_numbers : List ℕ → List Event → List Event
 with_numbers ns es = map (numbered_by ns) es

@@ -21,9 +21,9 @@ AddsFiles (Some old) None more = ⊥
 AddsFiles (Some old) (Some new) more = (s : ℕ)
     → (new.texts s ≡ old.texts s ++ more.texts s) × (new.tables s ≡ old.tables s ++ more.tables s)
 
--- The whole was divided into this many shards, which were added to the files, and this is told: the
--- numbers of their maps, and the objects with more maps than a text may have. The files are given
--- as they were before and after.
+-- The full history was divided into this many shards, which were added to the files, and this is
+-- told: the numbers of their maps, and the objects with more maps than a text may have. The files
+-- are given as they were before and after.
 pub record AddsShards (count : ℕ) (told : Division) (whole : List ℕ)
     (files files_after : Option Files) : Type 0 where
   pub added : Files

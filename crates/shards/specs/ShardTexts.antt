@@ -24,13 +24,14 @@ abbrev pub SaysRenamed : (ℕ → ℕ) → Datum → Datum → Type 0
 SaysRenamed name d e =
     (m n : ClientMap) × (client_of d ≡ Some m) × (client_of e ≡ Some n) × IsRenamed name m n
 
--- a map of the whole: its form there, its form in a shard, and the bytes that spell it in the shard
+-- a map of the full history: its form there, its form in a shard, and the bytes that spell it in
+-- the shard
 pub record SpelledMap : Type 0 where
   pub form : Datum
   pub own : Datum
   pub text : List ℕ
 
--- a map of a client is spelled for its shard, and says there what it says in the whole
+-- a map of a client is spelled for its shard, and says there what it says in the full history
 abbrev pub IsSpelled : (ℕ → ℕ) → SpelledMap → Type 0
 IsSpelled name m = (c : ClientMap) → client_of m.form ≡ Some c
     → SaysRenamed name m.form m.own × Spells (m.own ∷ []) m.text
@@ -67,8 +68,8 @@ pub record IsLinearizableAtAnyLength (text : List ℕ) : Type 0 where
   pub denoted : TextDenotes text events
   pub linearizable : DenoteLinearizable events
 
--- a shard denotes the events of the whole on its objects, by their names there, under numbers of
--- its own
+-- a shard denotes the events of the full history on its objects, by their names there, under
+-- numbers of its own
 pub record IsShardOf (objects : ℕ → Bool) (name : ℕ → ℕ) (whole : List Event) (text : List ℕ)
     : Type 0 where
   pub events : List Event

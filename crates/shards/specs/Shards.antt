@@ -1,6 +1,6 @@
 -- A history whose objects are divided among shards, each of which is judged by itself. That this
--- decides the whole is locality: Herlihy and Wing, "Linearizability: A Correctness Condition for
--- Concurrent Objects", TOPLAS 1990, section 3.
+-- decides the full history is locality: Herlihy and Wing, "Linearizability: A Correctness Condition
+-- for Concurrent Objects", TOPLAS 1990, section 3.
 use Rattle.std.specs.Prelude.{◌≡◌, ℕ, ◌==◌, ◌<◌, Bool, List, AllPairs, map, filter}
 use Rattle.model.specs.Linearizable.{IsLinearizable}
 use Rattle.model.specs.Orders.{events}
@@ -18,7 +18,8 @@ abbrev pub said : Event → ℕ × ℕ × Action
 said e = (e.process, e.object, e.action)
 
 -- The others are the same events, one by one. Their numbers rise, but may be other numbers: the
--- text of a shard may keep the numbers that its events have in the whole, or count its own maps.
+-- text of a shard may keep the numbers that its events have in the full history, or count its own
+-- maps.
 pub record AreRenumbered (es others : List Event) : Type 0 where
   pub same : map said others ≡ map said es
   pub rising : AllPairs (λ a b. a.number < b.number) others

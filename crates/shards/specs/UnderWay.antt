@@ -58,8 +58,8 @@ EndsInsideForm (piece.FewShards x) = ⊥
 abbrev pub too_long_at : ℕ → TextFault
 too_long_at start = Text (record { kind = edn_kind.TooLong; place = start })
 
--- a fault found in a piece that begins at `start`, as a fault of the whole: its place is moved by
--- `start`
+-- a fault found in a piece that begins at `start`, as a fault of the full history: its place is
+-- moved by `start`
 abbrev pub IsFaultFrom : ℕ → PieceFault → SplitFault → Type 0
 IsFaultFrom start fault (Malformed (Text e)) = (place : ℕ) × (e.place ≡ start + place)
     × (fault ≡ piece.Malformed (Text (record e { place = place }))) × (e.kind ≢ edn_kind.NoMemory)

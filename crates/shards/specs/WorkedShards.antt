@@ -1,5 +1,5 @@
 -- Small lists of events that show what the shards of a list are, and why processes are checked on
--- the whole. Each object is in a shard of its own.
+-- the full history. Each object is in a shard of its own.
 use Rattle.std.specs.Prelude.{ℕ, ◌==◌, pos, List, [], ◌∷◌, Some, if◌then◌else◌}
 use Rattle.model.specs.declared.AnyOp.TheVariants.{Enqueue}
 use Rattle.model.specs.declared.AnyReply.TheVariants.{Value}
@@ -32,7 +32,7 @@ renumbered_shard =
     ∷ does 1 4 2 (Ok (Value (Some (pos 8))))
     ∷ []
 
--- the shards: that one, and the others with the numbers that their events have in the whole
+-- the shards: that one, and the others with the numbers that their events have in the full history
 abbrev pub shards_of_one_each : ℕ → List Event
 shards_of_one_each s =
     if own_shard 2 == s then renumbered_shard else events_on (λ x. own_shard x == s) one_each
@@ -47,6 +47,6 @@ two_at_once =
     ∷ does 3 3 2 (Ok (Value (Some (pos 8))))
     ∷ []
 
--- the shards of `two_at_once`, with the numbers that their events have in the whole
+-- the shards of `two_at_once`, with the numbers that their events have in the full history
 abbrev pub shards_of_two_at_once : ℕ → List Event
 shards_of_two_at_once s = events_on (λ x. own_shard x == s) two_at_once

@@ -63,7 +63,7 @@ pub(crate) fn ends_inside_form(fault: PieceFault) -> bool
     }
 }
 
-/// The fault of a piece that begins at this byte of the whole, as one of the whole.
+/// The fault of a piece that begins at this byte of the full history, as one of the full history.
 pub(crate) fn fault_from(start: usize, fault: PieceFault) -> SplitFault
     ensures { IsFaultFrom start fault result }
 {

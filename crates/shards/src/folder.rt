@@ -13,7 +13,7 @@ pub trait Folder {
     /// Whether it failed.
     ghost broken: { Self → Bool };
 
-    /// Adds maps to the text of a shard, and their places in the whole to its table.
+    /// Adds maps to the text of a shard, and their places in the full history to its table.
     fn add(&mut self, shard: u16, maps: &[u8], places: &[u8]) -> Result<(), Failed>
         requires { broken self.old ≡ false }
         ensures adds { OnOk result (AddsFiles (files self.old) (files self.new)

@@ -1,6 +1,6 @@
-//! A history in shards: each object is in one of them, and the whole is linearizable exactly if
-//! each shard is. The theorems are about events in memory, and (`texts.rt`) about texts, even one
-//! that is longer than `judge` reads. They are the contracts of functions that do nothing. They
+//! A history in shards: each object is in one of them, and the full history is linearizable exactly
+//! if each shard is. The theorems are about events in memory, and (`texts.rt`) about texts, even
+//! one that is longer than `judge` reads. They are the contracts of functions that do nothing. They
 //! follow from locality: Herlihy and Wing, "Linearizability: A Correctness Condition for Concurrent
 //! Objects", TOPLAS 1990, section 3. `split_over` divides a history of any length into such shards.
 #![tactic(auto)]
@@ -55,8 +55,8 @@ pub fn shards_are_proper()
         → (s : ℕ) → IsProper (shards s) }
 {}
 
-/// Each object that the whole names is named in its shard, by its name there, and a shard names no
-/// others.
+/// Each object that the full history names is named in its shard, by its name there, and a shard
+/// names no others.
 pub fn shards_name_objects()
     ensures { (shard_of name : ℕ → ℕ) (es : List Event) (shards : ℕ → List Event)
         → AreShards shard_of name es shards
@@ -72,8 +72,8 @@ pub fn shards_decide()
         → (DenoteLinearizable es ↔ ((s : ℕ) → DenoteLinearizable (shards s))) }
 {}
 
-/// A shard may have numbers of its own, as that with object 2 has here. The shards of this whole
-/// are linearizable, and so is the whole.
+/// A shard may have numbers of its own, as that with object 2 has here. The shards of this
+/// history are linearizable, and so is the full history.
 pub fn shards_may_be_renumbered()
     ensures whole_proper { IsProper one_each }
     ensures divided { AreShards own_shard (λ x. x) one_each shards_of_one_each }
@@ -81,9 +81,9 @@ pub fn shards_may_be_renumbered()
     ensures whole_linearizable { DenoteLinearizable one_each }
 {}
 
-/// Each shard may be proper, and linearizable, although the whole is neither: a process that waits
-/// for a response in one shard may invoke an operation in another. So a tool that divides a history
-/// has to check on the whole what each process does.
+/// Each shard may be proper, and linearizable, although the full history is neither: a process that
+/// waits for a response in one shard may invoke an operation in another. So a tool that divides a
+/// history has to check on the full history what each process does.
 pub fn proper_shards_do_not_make_a_proper_whole()
     ensures divided { AreShards own_shard (λ x. x) two_at_once shards_of_two_at_once }
     ensures shards_proper { (s : ℕ) → IsProper (shards_of_two_at_once s) }

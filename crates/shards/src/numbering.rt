@@ -1,5 +1,5 @@
-//! The events of a shard with the numbers of the whole: its table says which number each of its
-//! maps has there.
+//! The events of a shard with the numbers of the full history: its table says which number each of
+//! its maps has there.
 
 ghost use Rattle.std.specs.Prelude.{◌≡◌, ◌≤◌, ◌<◌, ◌+◌, ◌-◌, ◌*◌, ◌^◌, ℕ, List, true, length};
 ghost use Rattle.std.specs.Prelude.{All, AllPairs, IfErr, IfNone, IfOk, IfSome, slice_index};

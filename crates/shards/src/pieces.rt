@@ -16,9 +16,9 @@ const BUFFER_LENGTH: usize = 65_536;
 #[derive(Drop)]
 pub(crate) struct Pieces {
     text: Vec<u8>,
-    /// How many bytes of the whole are before it.
+    /// How many bytes of the full history are before it.
     start: usize,
-    /// Whether the whole has no more.
+    /// Whether the full history has no more.
     is_ended: bool,
     /// How long it is to be before a piece of it is cut.
     wanted: usize,
@@ -87,7 +87,7 @@ impl Pieces {
         self.text.as_slice()
     }
 
-    /// The byte of the whole at which `text` begins.
+    /// The byte of the full history at which `text` begins.
     pub fn start(&self) -> usize
         ensures { result ≡ self.now.start }
     {

@@ -1,6 +1,6 @@
 //! The shards of a history's text, of any length: texts that have the maps on some objects, as a
 //! tool may divide a history that is longer than one text may be. What they denote, and that they
-//! decide the whole.
+//! decide the full history.
 
 ghost use Rattle.std.specs.Prelude.{◌≡◌, ◌≤◌, ◌^◌, ◌==◌, ◌⊎◌, ◌↔◌, ℕ, Bool, List, [], length};
 ghost use Rattle.edn_reader.specs.Datum.{Datum};
@@ -20,8 +20,8 @@ pub fn shards_have_no_fault()
         → IsFaultlessAtAnyLength (forms_on has ds) }
 {}
 
-/// Each shard denotes the events of the whole on its objects, by their names there, under numbers
-/// of its own.
+/// Each shard denotes the events of the full history on its objects, by their names there, under
+/// numbers of its own.
 pub fn shards_denote()
     ensures { (shard_of name : ℕ → ℕ) (whole : List ℕ) (shards : ℕ → List ℕ) (es : List Event)
         → IsSplit shard_of name whole shards
@@ -29,8 +29,8 @@ pub fn shards_denote()
         → (s : ℕ) → IsShardOf (λ x. shard_of x == s) name es (shards s) }
 {}
 
-/// Each shard has the numbers of the whole in its table, if these have 32 bits: with them its
-/// events are those of the whole on its objects, by their names in the shard.
+/// Each shard has the numbers of the full history in its table, if these have 32 bits: with them
+/// its events are those of the full history on its objects, by their names in the shard.
 pub fn shards_keep_their_numbers()
     ensures { (shard_of name : ℕ → ℕ) (whole : List ℕ) (files : Files) (es own : List Event)
         → (d : IsDivided shard_of name whole files) → length d.split.maps ≤ 2 ^ 32
@@ -39,14 +39,14 @@ pub fn shards_keep_their_numbers()
         → with_numbers ns own ≡ renamed name (events_on (λ x. shard_of x == s) es) }
 {}
 
-/// The history of the whole is linearizable exactly if that of each shard is.
+/// The full history is linearizable exactly if the history of each shard is.
 pub fn texts_of_shards_decide()
     ensures { (shard_of name : ℕ → ℕ) (whole : List ℕ) (shards : ℕ → List ℕ)
         → IsSplit shard_of name whole shards
         → (IsLinearizableAtAnyLength whole ↔ ((s : ℕ) → IsLinearizableAtAnyLength (shards s))) }
 {}
 
-/// What the commands say of shards decides the whole. It is linearizable if a yes says so of
+/// What the commands say of shards decides the full history. It is linearizable if a yes says so of
 /// each shard that is not empty, and not linearizable if a no of `verify` or of `refute` says so
 /// of one.
 pub fn judged_shards_decide()

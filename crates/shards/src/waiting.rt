@@ -8,8 +8,8 @@ use crate::folder::Folder;
 use edn::{Failed, push_natural};
 use std::alloc::{AllocError, Global};
 
-/// Lines that wait to be written to the files of a shard: maps, and their places in the whole; and
-/// how many maps the shard has so far, with those that were written.
+/// Lines that wait to be written to the files of a shard: maps, and their places in the full
+/// history; and how many maps the shard has so far, with those that were written.
 #[derive(Drop)]
 pub(crate) struct Waiting {
     pub(crate) maps: Vec<u8>,
