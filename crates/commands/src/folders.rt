@@ -43,7 +43,8 @@ pub enum SplitFailure {
     Unwritten,
     /// The history has a map on this object, which needs more shards.
     FewShards(u32),
-    /// An allocation failed. It has no status here, since after 3 the folder has all maps.
+    /// An allocation failed. That is an error and not the status 3, which says that the folder has
+    /// all maps.
     NoMemory,
 }
 
@@ -295,7 +296,8 @@ fn merge_output<F: ShardFiles>(
 }
 
 /// Verifies each of this many shards by its evidence, judges by them the full history, of which
-/// they are a split, writes the lines, and returns the status of the worst finding on a shard.
+/// they are a split, writes the lines, and returns the status of the worst finding on a shard, or 3
+/// if an allocation failed, or 4 if the output failed.
 /// That `verify` of the full history ends with the same status is only tested. `steps` is the step
 /// limit of searches for which the evidence names none.
 pub fn merge_shards<F: ShardFiles, S: Sink>(

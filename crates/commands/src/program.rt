@@ -36,8 +36,9 @@ fn no_output(alloc: Global) -> Output
 /// - 0: yes, or each object has a certificate;
 /// - 1: no, or an object is impossible;
 /// - 2: a text other than evidence is malformed, or a client of a schedule has not ended;
-/// - 3: an allocation failed, a thread could not be started, some object stays open, no reason
-///   shows that the history is not linearizable, or evidence is malformed;
+/// - 3: an allocation failed, a thread could not be started, some object has neither an order nor a
+///   reason that holds, no reason shows that the history is not linearizable, or evidence is
+///   malformed;
 /// - 4: the output failed;
 /// - 64: the command is one on a folder, which is not done here.
 pub fn perform<R: Threads + Wait + Sync, S: Sink>(

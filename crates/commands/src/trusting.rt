@@ -182,8 +182,10 @@ fn trusted_output<F: StatusFiles>(
 }
 
 /// Judges the full history, of which this many shards are a split, by the exit status that `judge`
-/// returned for each shard, and trusts it. Writes a line for each shard that is not a yes. Returns
-/// 2 if a status is 2, otherwise 1 if one is 1, otherwise 3 if one is 3 or missing, otherwise 0.
+/// returned for each shard, and trusts it. Writes that nothing was checked, a line for each shard
+/// that is not a yes, and one for a yes. Returns 2 if a status is 2, otherwise 1 if one is 1,
+/// otherwise 3 if one is 3 or missing, otherwise 0; also 3 if an allocation failed, and 4 if the
+/// output failed. A file that is none of the digits 0 to 3 counts as missing.
 pub fn merge_statuses<F: StatusFiles, S: Sink>(
     alloc: Global,
     files: &F,

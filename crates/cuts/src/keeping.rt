@@ -40,7 +40,8 @@ impl Values {
     }
 }
 
-/// Whether an operation may be kept, or left out. A failed one may be either.
+/// If `kept`, whether a part may keep the operation; otherwise, whether it may leave it out. A
+/// failed one may be either.
 fn operation_fits(values: &Values, kept: bool, operation: &Invocation) -> bool
     ensures { result ≡ op_fits (keeps_all values.now) (keeps_value values.now) kept
         operation.now.op operation.now.«end» }
@@ -95,7 +96,7 @@ fn is_pending_removal(operation: &Invocation) -> bool
     is_removal(operation.op) && operation.end == End::Pending
 }
 
-/// Whether the first pending removals, this many, have these numbers.
+/// Whether the first `most` pending removals, or all if there are fewer, have numbers of this set.
 fn has_first(numbers: &BTreeSet<u32>, most: usize, operations: &[Invocation]) -> bool
     ensures { result ≡ keeps_first (keeps_number numbers.now) most operations.now }
 {
@@ -111,7 +112,7 @@ fn has_first(numbers: &BTreeSet<u32>, most: usize, operations: &[Invocation]) ->
     true
 }
 
-/// Whether each operation may be kept, or left out.
+/// Whether a part may keep each operation with one of these numbers, and leave out each other one.
 fn all_fit(values: &Values, numbers: &BTreeSet<u32>, operations: &[Invocation]) -> bool
     ensures { result ≡ list_all (λ o. op_fits (keeps_all values.now) (keeps_value values.now)
         (keeps_number numbers.now o.number) o.op o.«end») operations.now }

@@ -41,7 +41,8 @@ fn report_no_memory<R: Print>(rt: &R) -> io::Result<u8> {
     Ok(Status::OutOfMemory.number())
 }
 
-/// Says that a file could not be read or written, by this verb, or that an allocation failed.
+/// Says that the program cannot `verb` the file (read or write it) or, if `lacks_memory`, that an
+/// allocation failed.
 fn report_failed<R: Print + Eprint>(
     rt: &R,
     verb: &str,

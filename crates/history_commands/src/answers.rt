@@ -68,8 +68,8 @@ fn text_of<A: Answer>(
     Ok(text)
 }
 
-/// The lines on all objects, with no, if one of them is impossible, and with yes, if each has an
-/// order.
+/// The lines on all objects, and how the command ends: `No` if one of them is impossible, `Yes` if
+/// each has an order, and otherwise `Undecided`.
 pub(crate) fn output_of<A: Answer>(
     alloc: Global,
     history: &History,

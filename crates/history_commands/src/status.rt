@@ -9,14 +9,16 @@ use report::Verdict;
 /// How a command ends.
 #[derive(Clone, Copy, Debug, PartialEq, Eq)]
 pub enum Status {
-    /// The history is linearizable, each object has a certificate, or the history was divided.
+    /// The history is linearizable, each object has a certificate, the history was divided, each
+    /// trusted status is 0, or help or the version was asked for.
     Yes,
     /// The certificates are refused, or the history is not linearizable.
     No,
     /// A text other than evidence is malformed, or a client of a schedule has not ended.
     Malformed,
-    /// Some object stays open, no reason holds, the evidence is malformed, a shard is too large, or
-    /// more shards are needed.
+    /// Some object has neither an order nor a reason that holds, no reason shows that the history
+    /// is not linearizable, the evidence is malformed, a shard is too large, or more shards are
+    /// needed.
     Undecided,
     OutOfMemory,
     /// A thread could not be started.
@@ -56,8 +58,8 @@ pub fn status_of(verdict: &Verdict) -> Status
     }
 }
 
-/// How a command on the objects of a history ends: with no, if one is impossible, and with yes,
-/// if each has an order.
+/// How a command on the objects of a history ends: `No` if one is impossible, `Yes` if each has an
+/// order, and otherwise `Undecided`.
 pub(crate) fn status_by(is_any_impossible: bool, are_all_found: bool) -> Status
     ensures is { result ≡ spec.status_by is_any_impossible are_all_found }
     ensures not_failed { result ≢ Status.Failed }

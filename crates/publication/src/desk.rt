@@ -201,9 +201,10 @@ impl<S: SeqObject> Desk<S> {
         Ok(())
     }
 
-    /// Tries the own row once. An answer is taken, and the ticket of the return drawn; the client
-    /// has then seen a legal log of the object that extends what it had seen, and has the call if
-    /// the answer is a reply. It is never None if the client knows that its row is answered.
+    /// Looks once at the client's own row. If an answer is there, takes it and draws the ticket of
+    /// the return; the client has then seen a legal log of the object that extends what it had
+    /// seen, and has the call if the answer is a reply. It is never None if the client knows that
+    /// its row is answered.
     pub fn poll(&self, client: &mut Client<S>) -> Option<Answer<S::Reply>>
         requires { client.old.desk ≡ self.now.id }
         ensures desk { client.new.desk ≡ client.old.desk }

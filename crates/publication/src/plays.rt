@@ -140,7 +140,7 @@ impl<S: SeqObject> Play<Slot<S, S::Op, S::Reply>, DeskView> for SeesEnd {
     ghost then = { sees_end S.content S.op_in S.reply_in };
 }
 
-/// The end of a client, for another.
+/// Tells another client that this one has ended.
 pub(crate) struct SendsEnd;
 
 impl Split<DeskView> for SendsEnd {
@@ -161,7 +161,7 @@ impl Join<DeskView> for TakesNotice {
     ghost spent = { empty_message };
 }
 
-/// A client more.
+/// Makes the seat of one more client.
 pub(crate) struct Makes;
 
 impl Split<DeskView> for Makes {

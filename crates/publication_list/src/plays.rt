@@ -75,7 +75,7 @@ impl Play<u64, ListView> for Sleeps {
     ghost then = { sleeps };
 }
 
-/// A place more.
+/// Makes the seat of one more place.
 pub(crate) struct Makes;
 
 impl Split<ListView> for Makes {

@@ -39,7 +39,7 @@ fn answer_of(object: u32, attempt: OrderSearch) -> Search
 /// operation tried. Of the operations that can come next, that with the least number is tried
 /// first.
 ///
-/// That a limit is enough is not promised.
+/// No clause says that a search within some limit finds an answer.
 pub fn search(alloc: Global, history: &ObjectHistory, limit: u64) -> Search
     ensures found { IfFound result.found
         (IsCertificateOf history.now.object history.now.kind (calls_of history.now.ops)) }

@@ -101,7 +101,7 @@ pub fn cells_of(calls: &[Call]) -> Vec<Cell> {
     cells
 }
 
-/// What an operation on a token asks of its holder, and leaves.
+/// What an operation on a mutex or lock asks of its holder, and leaves.
 fn effect_on_holder(op: Op) -> Option<Effect> {
     let owner = op.argument.last();
     Some(match op.holds()? {
@@ -110,7 +110,7 @@ fn effect_on_holder(op: Op) -> Option<Effect> {
     })
 }
 
-/// The calls on a token that has owners, as those on a cell that contains its owner.
+/// The calls on a lock, as those on a cell that contains its owner.
 pub fn owners_of(calls: &[Call]) -> Cell {
     let mut cell = Cell::new(None);
     for call in calls {

@@ -11,7 +11,7 @@ pub enum Content {
     Cell(Option<i64>),
     Cells(BTreeMap<i64, i64>),
     /// Who holds it, as the argument of its operations names him.
-    Token(Option<Value>),
+    Holdable(Option<Value>),
     Number(i64),
 }
 
@@ -58,7 +58,7 @@ impl Content {
             Family::Container(container) => Content::Values(Bag::empty(container.gives)),
             Family::Cells(Cells { has_keys: false, .. }) => Content::Cell(None),
             Family::Cells(Cells { has_keys: true, .. }) => Content::Cells(BTreeMap::new()),
-            Family::Token(_) => Content::Token(None),
+            Family::Holdable(_) => Content::Holdable(None),
             Family::Number(_) => Content::Number(0),
         }
     }
@@ -83,7 +83,7 @@ impl Content {
                 set_key(cells, key, after);
                 Some((reply, Undo::SetKey(key, before)))
             }
-            Content::Token(holder) => {
+            Content::Holdable(holder) => {
                 let before = *holder;
                 *holder = op.next_holder(before)?;
                 Some((Reply::Value(None), Undo::SetHolder(before)))
@@ -103,11 +103,11 @@ impl Content {
             (Content::Values(values), Undo::PutBack(value)) => values.undo_take(value),
             (Content::Cell(content), Undo::Set(before)) => *content = before,
             (Content::Cells(cells), Undo::SetKey(key, before)) => set_key(cells, key, before),
-            (Content::Token(holder), Undo::SetHolder(before)) => *holder = before,
+            (Content::Holdable(holder), Undo::SetHolder(before)) => *holder = before,
             (Content::Number(number), Undo::SetNumber(before)) => *number = before,
             // What undoes nothing, or is of another content.
             (Content::Values(_) | Content::Cell(_) | Content::Cells(_), _) => {}
-            (Content::Token(_) | Content::Number(_), _) => {}
+            (Content::Holdable(_) | Content::Number(_), _) => {}
         }
     }
 }
@@ -130,7 +130,9 @@ impl KeptContent {
     pub fn of(content: &Content) -> KeptContent {
         let small = match content {
             Content::Values(values) => small_values(values),
-            Content::Cell(_) | Content::Cells(_) | Content::Token(_) | Content::Number(_) => None,
+            Content::Cell(_) | Content::Cells(_) | Content::Holdable(_) | Content::Number(_) => {
+                None
+            }
         };
         small.map_or_else(|| KeptContent::Whole(content.clone()), KeptContent::Small)
     }
@@ -144,7 +146,7 @@ impl KeptContent {
                 values.all(|value| small.next() == Some(value)) && small.next().is_none()
             }
             (KeptContent::Small(_), Content::Cell(_) | Content::Cells(_)) => false,
-            (KeptContent::Small(_), Content::Token(_) | Content::Number(_)) => false,
+            (KeptContent::Small(_), Content::Holdable(_) | Content::Number(_)) => false,
         }
     }
 
@@ -155,7 +157,7 @@ impl KeptContent {
             KeptContent::Small(values) => values.len() * 4,
             KeptContent::Whole(Content::Values(values)) => values.len() * 16,
             KeptContent::Whole(Content::Cells(_)) => keys * 64,
-            KeptContent::Whole(Content::Cell(_) | Content::Token(_) | Content::Number(_)) => 0,
+            KeptContent::Whole(Content::Cell(_) | Content::Holdable(_) | Content::Number(_)) => 0,
         }
     }
 }
@@ -199,18 +201,18 @@ mod tests {
 
     #[test]
     fn a_held_mutex_cannot_be_acquired() {
-        let mut mutex = Content::Token(Some(Value::Nil));
+        let mut mutex = Content::Holdable(Some(Value::Nil));
         assert!(mutex.apply(op("acquire")).is_none());
-        assert!(mutex == Content::Token(Some(Value::Nil)));
+        assert!(mutex == Content::Holdable(Some(Value::Nil)));
     }
 
     #[test]
     fn a_lock_is_unlocked_by_its_owner() {
-        let mut lock = Content::Token(Some(Value::Int(1)));
+        let mut lock = Content::Holdable(Some(Value::Int(1)));
         assert!(lock.apply(op("lock 1")).is_none());
         assert!(lock.apply(op("unlock 2")).is_none());
         assert!(lock.apply(op("unlock 1")).is_some());
-        assert!(lock == Content::Token(None));
+        assert!(lock == Content::Holdable(None));
     }
 
     #[test]

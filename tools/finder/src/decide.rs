@@ -4,7 +4,7 @@ use crate::evidence::{Decision, Evidence};
 use crate::first_event::earlier;
 use crate::history::{History, ObjectHistory};
 use crate::orders::{Quick, open_keys, order_by_contents, quick_order};
-use crate::reasons::{Search, find_by_pairs, find_by_patterns, find_on, reason_of_all};
+use crate::reasons::{Trial, find_by_pairs, find_by_patterns, find_on, reason_of_all};
 use crate::search::{Outcome, TryFirst, search};
 use std::panic::{AssertUnwindSafe, catch_unwind};
 use std::sync::atomic::{AtomicUsize, Ordering};
@@ -33,28 +33,28 @@ const STEPS_OF_A_PART: u64 = 10_000;
 /// How many steps the last search has of an object of few operations, if no number is given.
 const DEFAULT_STEPS: u64 = 1_000_000;
 
-/// How many steps it has for each operation of many.
+/// How many steps the last search has for each operation, if that is more than `DEFAULT_STEPS`.
 const STEPS_OF_A_CALL: u64 = 100;
 
 /// How many steps of the last search are tried here at most, so that an order need not be searched
 /// for again, and a reason can be made smaller.
 const MOST_OWN_STEPS: u64 = 1_000_000;
 
-/// Up to this many operations the last search tries the least number first. With more it goes by
-/// their returns, since it then looks at those alone that can come next.
+/// With at most this many operations the last search tries the least number first. With more it
+/// tries the least return first, since it then looks only at operations that can come next.
 const MOST_BY_NUMBER: usize = 4096;
 
 /// The first search of all operations, which is short.
-fn first_search(history: &ObjectHistory) -> Search {
-    Search { first: TryFirst::Return, steps: 20_000 + 20 * history.ops.len() as u64 }
+fn first_search(history: &ObjectHistory) -> Trial {
+    Trial { first: TryFirst::Return, steps: 20_000 + 20 * history.ops.len() as u64 }
 }
 
 /// The last search of all operations. It is left to `verify`.
-fn last_search(history: &ObjectHistory, steps: Option<u64>) -> Search {
+fn last_search(history: &ObjectHistory, steps: Option<u64>) -> Trial {
     let calls = history.call_count();
     let first = if calls > MOST_BY_NUMBER { TryFirst::Return } else { TryFirst::Number };
     let default = DEFAULT_STEPS.max(STEPS_OF_A_CALL * calls as u64);
-    Search { first, steps: steps.unwrap_or(default) }
+    Trial { first, steps: steps.unwrap_or(default) }
 }
 
 /// Looks for an order of an object, or for a reason why it has none. It tries in turn:
@@ -88,13 +88,13 @@ fn decide_object(history: &ObjectHistory, steps: Option<u64>) -> Evidence {
         return Evidence::Reason(reason);
     }
     let last = last_search(history, steps);
-    let own = Search { steps: last.steps.min(MOST_OWN_STEPS), ..last };
+    let own = Trial { steps: last.steps.min(MOST_OWN_STEPS), ..last };
     let found = by_search(history, first).or_else(|| by_search(history, own));
     found.unwrap_or(Evidence::Search(last))
 }
 
 /// What a search of all operations finds: an order, or a reason; nothing if it runs out of steps.
-pub(crate) fn by_search(history: &ObjectHistory, by: Search) -> Option<Evidence> {
+pub(crate) fn by_search(history: &ObjectHistory, by: Trial) -> Option<Evidence> {
     let mut searched = search(history, by.first, by.steps);
     match std::mem::replace(&mut searched.outcome, Outcome::Impossible) {
         Outcome::Order(order) => Some(Evidence::Order(order)),
@@ -151,13 +151,13 @@ mod tests {
     use super::*;
     use crate::content::Content;
     use crate::cuts::{Cut, part_by};
-    use crate::history::Invocation;
+    use crate::history::Operation;
     use crate::kinds::KINDS;
     use crate::small::{Random, containers, has_order};
 
     fn has_some_order(history: &ObjectHistory) -> bool {
         let calls = history.ops.iter().filter(|o| !o.has_failed());
-        let calls: Vec<Invocation> = calls.copied().collect();
+        let calls: Vec<Operation> = calls.copied().collect();
         has_order(&calls, &Content::empty(history.kind))
     }
 

@@ -1,7 +1,7 @@
 //! What is found of an object, and its text.
 
 use crate::cuts::{Count, Counted, Cut, Values};
-use crate::reasons::{FoundReason, Search, Shown};
+use crate::reasons::{FoundReason, Shown, Trial};
 use crate::search::TryFirst;
 use std::collections::BTreeSet;
 use std::fmt::{self, Display, Formatter};
@@ -14,7 +14,7 @@ pub enum Evidence {
     /// No order is valid, for this reason.
     Reason(FoundReason),
     /// A search of all operations is to decide.
-    Search(Search),
+    Search(Trial),
     /// Nothing: the search for evidence failed.
     Open,
 }
@@ -102,7 +102,7 @@ impl Display for Count {
     }
 }
 
-impl Display for Search {
+impl Display for Trial {
     fn fmt(&self, f: &mut Formatter<'_>) -> fmt::Result {
         let first = match self.first {
             TryFirst::Number => "number",

@@ -40,7 +40,7 @@ mod usual;
 pub use cuts::{Count, Counted, Cut, Values, part_by};
 pub use decide::{Options, decide, decide_each};
 pub use evidence::{Decision, Evidence};
-pub use history::{End, History, Invocation, Nemesis, ObjectHistory, Run};
+pub use history::{End, History, Nemesis, ObjectHistory, Operation, Run};
 pub use kinds::{
     Access, Bag, Cells, Container, Does, Effect, FUNCTION_COUNT, Family, Function, Gives, KINDS,
     Kind, Need, OfNothing, Op, Reply, Room, Shape, Value, Words, function, function_names,
@@ -50,8 +50,8 @@ pub use lexer::{Lexer, Token, TokenKind, ends_word};
 pub use places::{Places, PlacesFault};
 pub use reader::{LONGEST, read_history, read_history_from};
 pub use reasons::{
-    Beginning, Facts, FirstEvent, FoundReason, Lost, LostValue, Pattern, Search, Sentence, Shown,
-    Undone,
+    Facts, FirstEvent, FirstOperation, FoundReason, Lost, LostValue, Pattern, Sentence, Shown,
+    Trial, Undone,
 };
 pub use search::TryFirst;
 pub use statistics::{OVERLAP, SILENT_PUTS, Statistics, warnings};

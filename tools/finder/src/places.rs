@@ -87,7 +87,7 @@ impl History {
 mod tests {
     use super::*;
     use crate::decide::{Options, decide};
-    use crate::history::{Invocation, ObjectHistory};
+    use crate::history::{ObjectHistory, Operation};
     use crate::kinds::KINDS;
     use crate::read_history;
     use crate::small::{Random, containers};
@@ -182,7 +182,7 @@ mod tests {
     type Line = (Option<u32>, String);
 
     /// The maps of an operation, each with its number in the history of its object.
-    fn lines_for(operation: &Invocation, process: u32, object: u32) -> Vec<(u32, Line)> {
+    fn lines_for(operation: &Operation, process: u32, object: u32) -> Vec<(u32, Line)> {
         let line = |of_type: &str, value: String| {
             let function = operation.op.name();
             let said = format!(":type :{of_type}, :f :{function}, :value {value}");

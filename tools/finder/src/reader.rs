@@ -2,7 +2,7 @@
 //! so that its text is never in memory as a whole. Threads find the maps of the next pieces while
 //! one thread adds those of the pieces before to the history.
 
-use crate::history::{End, History, Invocation, Nemesis, ObjectHistory, Run};
+use crate::history::{End, History, Nemesis, ObjectHistory, Operation, Run};
 use crate::kinds::Kind;
 use crate::maps::{Event, EventType, Map, each_map, is_blank};
 use crate::splitmix::NumberTable;
@@ -74,7 +74,7 @@ impl Builder {
             return None;
         }
         let place = history.ops.len();
-        history.ops.push(Invocation { number, op, end: End::Pending });
+        history.ops.push(Operation { number, op, end: End::Pending });
         let run = self.runs.len();
         self.runs.push(Run { number, process: event.process as u64, completed: None });
         *process = Process::Calls { object, place, run };

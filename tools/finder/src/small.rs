@@ -1,7 +1,7 @@
 //! Small histories that are drawn, and whether they have an order: for tests.
 
 use crate::content::Content;
-use crate::history::{End, Invocation, ObjectHistory};
+use crate::history::{End, ObjectHistory, Operation};
 use crate::kinds::{KINDS, Kind, Op, Reply, Shape, Value, function};
 
 /// The operation that a text names, as `cas 1 2`.
@@ -68,7 +68,7 @@ impl Random {
                 Reply::Swapped(expected, new)
             }
             (Shape::Swapped, _) => Reply::NotSwapped,
-            (Shape::Token | Shape::Silent, _) => Reply::Value(None),
+            (Shape::Owner | Shape::Silent, _) => Reply::Value(None),
             (Shape::Flag, _) => Reply::Flag(self.below(2) == 0),
             (Shape::Number, _) => Reply::Value(Some(self.value())),
             _ if self.below(3) == 0 => Reply::Value(None),
@@ -79,11 +79,11 @@ impl Random {
     /// A history of a few operations, of which some overlap, and some are pending or failed.
     pub fn history(&mut self, kind: Kind) -> ObjectHistory {
         let count = 2 + self.below(7) as u32;
-        let mut ops: Vec<Invocation> = Vec::new();
+        let mut ops: Vec<Operation> = Vec::new();
         for number in 0..2 * count {
             let open: Vec<usize> = (0..ops.len()).filter(|k| ops[*k].is_pending()).collect();
             if open.is_empty() || open.len() < 4 && self.below(2) == 0 {
-                ops.push(Invocation { number, op: self.op(kind), end: End::Pending });
+                ops.push(Operation { number, op: self.op(kind), end: End::Pending });
                 continue;
             }
             let op = &mut ops[open[self.below(open.len() as u64) as usize]];
@@ -97,13 +97,13 @@ impl Random {
     /// A history as three processes record it of an object that is right, of which some operations
     /// never return.
     pub fn recorded(&mut self, kind: Kind, length: u32) -> ObjectHistory {
-        let mut ops: Vec<Invocation> = Vec::new();
+        let mut ops: Vec<Operation> = Vec::new();
         let mut content = Content::empty(kind);
         let mut open: Vec<Open> = Vec::new();
         for number in 0..length {
             if open.is_empty() || open.len() < 3 && self.below(2) == 0 {
                 open.push(Open { place: ops.len(), reply: None });
-                ops.push(Invocation { number, op: self.op(kind), end: End::Pending });
+                ops.push(Operation { number, op: self.op(kind), end: End::Pending });
                 continue;
             }
             let mut own = open.swap_remove(self.below(open.len() as u64) as usize);
@@ -121,7 +121,7 @@ impl Random {
     /// and then, and of which some operations never return. Values repeat, or differ.
     pub fn crash(&mut self, kind: Kind) -> ObjectHistory {
         let values = [2, 3, 1_000_000][self.below(3) as usize];
-        let mut ops: Vec<Invocation> = Vec::new();
+        let mut ops: Vec<Operation> = Vec::new();
         let mut content = Content::empty(kind);
         let mut open: Vec<Open> = Vec::new();
         let length = 8 + self.below(10) as u32;
@@ -135,7 +135,7 @@ impl Random {
                     }
                 };
                 open.push(Open { place: ops.len(), reply: None });
-                ops.push(Invocation { number, op, end: End::Pending });
+                ops.push(Operation { number, op, end: End::Pending });
                 continue;
             }
             let mut own = open.swap_remove(self.below(open.len() as u64) as usize);
@@ -165,8 +165,8 @@ impl Op {
 }
 
 /// Whether some order of the operations that are left is valid, by trying each that can be next.
-pub fn has_order(left: &[Invocation], content: &Content) -> bool {
-    let Some(least) = left.iter().filter_map(Invocation::returned).min() else {
+pub fn has_order(left: &[Operation], content: &Content) -> bool {
+    let Some(least) = left.iter().filter_map(Operation::returned).min() else {
         return true;
     };
     left.iter().enumerate().filter(|(_, o)| o.number < least).any(|(place, operation)| {

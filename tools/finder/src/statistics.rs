@@ -1,6 +1,6 @@
 //! Statistics of a history, which tell how much a yes says of it, and what is suspicious in it.
 
-use crate::history::{End, History, Invocation, ObjectHistory};
+use crate::history::{End, History, ObjectHistory, Operation};
 use crate::kinds::{Function, Reply, Shape, functions};
 use std::collections::HashSet;
 use std::fmt::{self, Display, Formatter};
@@ -20,13 +20,13 @@ pub struct Statistics {
 }
 
 /// When the operation was over, as seen by the others.
-fn end_of(operation: &Invocation) -> u32 {
+fn end_of(operation: &Operation) -> u32 {
     operation.returned().unwrap_or(u32::MAX)
 }
 
 impl Statistics {
     fn of_object(object: &ObjectHistory) -> Statistics {
-        let all: Vec<&Invocation> = object.ops.iter().filter(|it| !it.has_failed()).collect();
+        let all: Vec<&Operation> = object.ops.iter().filter(|it| !it.has_failed()).collect();
         let mut ends: Vec<u32> = all.iter().map(|it| end_of(it)).collect();
         ends.sort_unstable();
         let (mut latest_end, mut over) = (0, 0);
@@ -108,7 +108,7 @@ fn failed_removals(history: &History) -> Option<(usize, &'static str)> {
         all.filter(move |it| it.op.removes() && it.op.function == f)
     };
     functions()
-        .map(|f| (of(f).count(), of(f).all(Invocation::has_failed), f.name))
+        .map(|f| (of(f).count(), of(f).all(Operation::has_failed), f.name))
         .find_map(|(count, all_failed, f)| (count > 1 && all_failed).then_some((count, f)))
 }
 
@@ -128,7 +128,7 @@ fn first_value(object: &ObjectHistory) -> Option<i64> {
             }
         }
     }
-    let seen = |it: &Invocation| match it.reply()? {
+    let seen = |it: &Operation| match it.reply()? {
         Reply::Value(value) if it.op.only_looks() => value,
         Reply::Swapped(value, _) => Some(value),
         Reply::Value(_) | Reply::NotSwapped | Reply::Flag(_) => None,
@@ -139,7 +139,8 @@ fn first_value(object: &ObjectHistory) -> Option<i64> {
     (number < first_set && strange.all(|(_, value)| value == first)).then_some(first)
 }
 
-/// The value with which all those registers seem to begin that begin with one, and these registers.
+/// The value with which some registers seem to begin, if it is the same for all of them, and the
+/// numbers of these registers.
 fn first_values(history: &History) -> Option<(i64, Vec<u32>)> {
     let of = |it: &ObjectHistory| Some((first_value(it)?, it.object));
     let all: Vec<(i64, u32)> = history.objects.iter().filter_map(of).collect();
@@ -150,14 +151,14 @@ fn first_values(history: &History) -> Option<(i64, Vec<u32>)> {
 
 /// The events of replies that are to be the argument, or its pair, and are not.
 fn strange_replies(history: &History) -> Vec<u32> {
-    let is_strange = |it: &Invocation| match (it.op.function.reply, it.reply()) {
+    let is_strange = |it: &Operation| match (it.op.function.reply, it.reply()) {
         (Shape::Done | Shape::Swapped, Some(reply)) => {
             reply != Reply::NotSwapped && reply.value() != it.op.argument
         }
         _ => false,
     };
     let all = history.objects.iter().flat_map(|it| &it.ops).filter(|it| is_strange(it));
-    let mut events: Vec<u32> = all.filter_map(Invocation::returned).collect();
+    let mut events: Vec<u32> = all.filter_map(Operation::returned).collect();
     events.sort_unstable();
     events
 }

@@ -1,6 +1,6 @@
 //! The calls of an object on a time of their own.
 
-use crate::history::Invocation;
+use crate::history::Operation;
 use crate::kinds::{Op, Reply};
 use std::cmp::Reverse;
 use std::collections::BinaryHeap;
@@ -96,7 +96,7 @@ pub struct Timeline {
 
 impl Timeline {
     /// The operations that did not fail, with their moments.
-    pub fn of<'a>(ops: impl IntoIterator<Item = &'a Invocation>) -> Timeline {
+    pub fn of<'a>(ops: impl IntoIterator<Item = &'a Operation>) -> Timeline {
         let ops = ops.into_iter().filter(|o| !o.has_failed());
         let mut calls: Vec<Call> = ops
             .map(|o| {

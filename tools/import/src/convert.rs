@@ -7,7 +7,7 @@
 use crate::edn::Reader;
 use crate::failures::{Failures, Replies, error_of};
 use crate::form::Form;
-use crate::functions::{function, is_done, is_token, is_value, shape_words};
+use crate::functions::{function, is_done, is_owner, is_value, shape_words};
 use crate::names::Names;
 use crate::numbering::Numbers;
 use crate::operations::{Operation, Refused, operations};
@@ -201,7 +201,7 @@ fn nemesis_event(map: &Form) -> NemesisEvent {
 fn argument_of(shape: Shape, form: &Form) -> Option<Said> {
     match (shape, form) {
         (Shape::Nothing, Form::Nil) => Some(Said::Nil),
-        (Shape::Token, token) => is_token(token).then_some(Said::Nil),
+        (Shape::Owner, owner) => is_owner(owner).then_some(Said::Nil),
         (Shape::Number, Form::Int(_)) => Some(Said::One(form.clone())),
         (Shape::Value, value) if is_value(value) => Some(Said::One(value.clone())),
         (Shape::Pair, pair) => {
@@ -237,7 +237,7 @@ fn reply_of(shape: Shape, form: &Form, argument: &Said) -> Option<Said> {
         (Shape::Swapped, Form::Bool(false)) => Some(Said::False),
         (Shape::Swapped, Form::Bool(true)) => Some(argument.clone()),
         (Shape::Swapped, pair) => argument_of(Shape::Pair, pair).filter(|it| it == argument),
-        (shape, token) => argument_of(shape, token),
+        (shape, said) => argument_of(shape, said),
     }
 }
 
@@ -255,8 +255,8 @@ fn has_tuples(all: &[Operation], has_owners: bool) -> bool {
             return false;
         };
         match function.argument {
-            Shape::Nothing | Shape::Token => {
-                *second == Form::Nil || function.argument == Shape::Token
+            Shape::Nothing | Shape::Owner => {
+                *second == Form::Nil || function.argument == Shape::Owner
             }
             Shape::Pair => second.as_pair().is_some(),
             Shape::Triple => matches!(second, Form::Vector(items) if items.len() == 3),

@@ -17,13 +17,13 @@ pub fn shape_words(shape: Shape) -> &'static str {
         Shape::NumberOrNothing => "an integer of 64 bits, or nil",
         Shape::Flag => "true or false",
         Shape::Swapped => "true or its argument where it has set, and false where it has not",
-        Shape::Token => {
+        Shape::Owner => {
             "nil, true, \"OK\", or the owner: an integer above 0, a string, a UUID, or a map of these"
         }
     }
 }
 
-/// The function of this name. If tokens have owners, that of a kind whose operations name them.
+/// The function of this name. If there are owners, that of a kind whose operations name them.
 pub fn function(name: &str, has_owners: bool) -> Option<&'static Function> {
     let named = functions().find(|it| it.name == name || it.other_names.contains(&name))?;
     let holds = named.holds().filter(|_| has_owners);
@@ -51,14 +51,14 @@ pub fn is_done(form: &Form) -> bool {
 }
 
 /// Whether a form can be what a client notes of a lock that it has acquired or released.
-pub fn is_token(form: &Form) -> bool {
+pub fn is_owner(form: &Form) -> bool {
     match form {
         Form::Int(number) => *number > 0,
         Form::Str(_) => true,
         Form::Symbol(word) => !begins_number(word),
         Form::Map(entries) => {
             !entries.is_empty()
-                && entries.iter().all(|(_, value)| *value != Form::Nil && is_token(value))
+                && entries.iter().all(|(_, value)| *value != Form::Nil && is_owner(value))
         }
         other => is_done(other),
     }

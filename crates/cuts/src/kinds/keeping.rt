@@ -7,7 +7,10 @@ ghost use Rattle.cuts.specs.Kinds.Keeping as spec;
 use crate::keeping::Values;
 use seq_objects::{AnyOp, AnyReply};
 
-/// Whether a removal with this reply may be kept, or left out. No reply: it is pending.
+// In each of these functions `kept` says which question is answered: whether a part may keep the
+// operation, or whether it may leave it out. Without a reply the operation is pending.
+
+/// Whether a removal with this reply may be kept, or left out.
 fn removal_fits(values: &Values, kept: bool, reply: Option<AnyReply>) -> bool
     ensures { result ≡ spec.fits_removal (keeps_value values.now) kept reply }
 {
@@ -74,7 +77,8 @@ fn change_fits(values: &Values, kept: bool, key: i64, reply: Option<AnyReply>) -
     }
 }
 
-/// Whether an operation with this reply may be kept, or left out. No reply: it is pending.
+/// If `kept`, whether a part may keep an operation with this reply; otherwise, whether it may leave
+/// it out. Without a reply the operation is pending.
 pub(crate) fn reply_fits(values: &Values, kept: bool, op: AnyOp, reply: Option<AnyReply>) -> bool
     ensures { result ≡ spec.fits (keeps_all values.now) (keeps_value values.now) kept op reply }
 {

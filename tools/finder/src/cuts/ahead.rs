@@ -6,7 +6,7 @@
 //! stack those that were pushed on it. In each valid order a put that counts is before the removal,
 //! and so is a removal of what it put in.
 
-use crate::history::{Invocation, ObjectHistory};
+use crate::history::{ObjectHistory, Operation};
 use crate::kinds::{Gives, Reply};
 
 /// A removal that returned, and which puts were ahead of what it found.
@@ -34,7 +34,7 @@ impl Ahead {
             return None;
         };
         let own_puts = || history.ops.iter().filter(|o| found.is_some() && o.puts() == found);
-        let is_over = |put: &Invocation| put.returned().is_some_and(|at| at < from);
+        let is_over = |put: &Operation| put.returned().is_some_and(|at| at < from);
         let gives = removal.op.kind().gives()?;
         let before = match (gives, found) {
             _ if !removal.op.removes() => return None,
@@ -54,14 +54,14 @@ impl Ahead {
     }
 
     /// Whether an operation is a put that definitely was ahead.
-    pub fn is_ahead(&self, o: &Invocation) -> bool {
+    pub fn is_ahead(&self, o: &Operation) -> bool {
         o.number >= self.from
             && o.returned().is_some_and(|at| at < self.before)
             && o.puts().is_some_and(|value| self.has(value))
     }
 
     /// Whether an operation is another removal that can have taken out such a value before.
-    pub fn may_precede(&self, o: &Invocation) -> bool {
+    pub fn may_precede(&self, o: &Operation) -> bool {
         let may_take = o.is_pending() && o.op.removes();
         (may_take || o.takes().is_some_and(|value| self.has(value)))
             && o.number != self.number
@@ -88,12 +88,12 @@ mod tests {
     use crate::small::{Random, containers, has_order, op};
 
     /// An operation that was invoked and returned at these numbers; pending if at none.
-    fn operation(number: u32, op: Op, end: Option<(u32, Option<i64>)>) -> Invocation {
+    fn operation(number: u32, op: Op, end: Option<(u32, Option<i64>)>) -> Operation {
         let returned = |(at, value)| End::Returned { at, reply: Reply::Value(value) };
-        Invocation { number, op, end: end.map_or(End::Pending, returned) }
+        Operation { number, op, end: end.map_or(End::Pending, returned) }
     }
 
-    fn history(ops: Vec<Invocation>) -> ObjectHistory {
+    fn history(ops: Vec<Operation>) -> ObjectHistory {
         ObjectHistory { object: 0, kind: ops[0].op.kind(), ops }
     }
 
@@ -223,7 +223,7 @@ mod tests {
                 if is_any {
                     blocked[place] += 1;
                     let calls = history.ops.iter().filter(|o| !o.has_failed());
-                    let calls: Vec<Invocation> = calls.copied().collect();
+                    let calls: Vec<Operation> = calls.copied().collect();
                     assert!(!has_order(&calls, &Content::empty(kind)), "{history:?}");
                 }
             }

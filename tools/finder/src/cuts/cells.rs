@@ -2,7 +2,7 @@
 //! other value.
 
 use super::Values;
-use crate::history::{End, Invocation, ObjectHistory};
+use crate::history::{End, ObjectHistory, Operation};
 use crate::kinds::{Effect, Need, Op, Reply, lone_cell};
 use std::collections::BTreeSet;
 
@@ -68,8 +68,8 @@ impl Cell<'_> {
     }
 
     /// What an operation becomes. `None`: it is left out.
-    fn piece(&self, stays: bool, operation: &Invocation) -> Option<Invocation> {
-        let Invocation { number, op, end } = *operation;
+    fn piece(&self, stays: bool, operation: &Operation) -> Option<Operation> {
+        let Operation { number, op, end } = *operation;
         if op.key() != self.key {
             return None;
         }
@@ -81,7 +81,7 @@ impl Cell<'_> {
                 (op, End::Returned { at, reply })
             }
         };
-        Some(Invocation { number, op, end })
+        Some(Operation { number, op, end })
     }
 }
 

@@ -2,7 +2,7 @@
 //! definitely were ahead of what a removal found. They need no search.
 
 use super::ahead::is_blocked;
-use crate::history::{Invocation, ObjectHistory};
+use crate::history::{ObjectHistory, Operation};
 use crate::kinds::{Effect, Family, Need, Op, Reply};
 
 /// What is counted: a content, or a part of one.
@@ -41,7 +41,7 @@ impl Counted {
         }
     }
 
-    /// Whether an operation on a token makes it so.
+    /// Whether an operation on a mutex makes it so.
     fn is_made_by(self, holds: bool) -> bool {
         match self {
             Counted::Held => holds,
@@ -65,7 +65,7 @@ impl Counted {
                 let new = op.effect(reply).and_then(|effect| effect.sets);
                 new.is_some_and(|new| self.place() == Some((op.key(), new)))
             }
-            Family::Token(_) => op.holds().is_some_and(|holds| self.is_made_by(holds)),
+            Family::Holdable(_) => op.holds().is_some_and(|holds| self.is_made_by(holds)),
             Family::Number(_) => false,
         }
     }
@@ -82,7 +82,7 @@ impl Counted {
                 }
                 _ => false,
             },
-            Family::Token(_) => {
+            Family::Holdable(_) => {
                 let is_other = matches!(self, Counted::Held | Counted::Free);
                 op.holds().is_some_and(|holds| is_other && !self.is_made_by(holds))
             }
@@ -103,14 +103,14 @@ impl Count {
     }
 
     /// Whether an operation sets the content, and had not returned before the count begins.
-    fn is_set_by(self, o: &Invocation) -> bool {
+    fn is_set_by(self, o: &Operation) -> bool {
         !o.has_failed()
             && o.returned().is_none_or(|at| at >= self.from)
             && self.counted.is_set_by(o.op, o.reply())
     }
 
     /// Whether an operation was invoked where the count begins or later, and took the content away.
-    fn is_taken_by(self, o: &Invocation) -> bool {
+    fn is_taken_by(self, o: &Operation) -> bool {
         o.number >= self.from && o.reply().is_some_and(|r| self.counted.is_taken_by(o.op, r))
     }
 }

@@ -1,7 +1,7 @@
 //! Projections: the operations on some values, or on some keys.
 
 use super::Values;
-use crate::history::{Invocation, ObjectHistory};
+use crate::history::{ObjectHistory, Operation};
 use crate::kinds::{Cells, Effect, Family, Need, Op, Reply, Role};
 use std::collections::BTreeSet;
 
@@ -48,7 +48,7 @@ fn fits(values: &Values, kept: bool, op: Op, reply: Option<Reply>) -> bool {
         Family::Cells(Cells { has_keys: false, .. }) => {
             fits_cell(values, kept, op.effect(reply), reply.is_none())
         }
-        Family::Token(_) => kept,
+        Family::Holdable(_) => kept,
         Family::Number(_) => kept || op.only_looks(),
     }
 }
@@ -62,7 +62,7 @@ pub(super) fn keep(
     numbers: &BTreeSet<u32>,
 ) -> Option<ObjectHistory> {
     let ops = &history.ops;
-    let is_kept = |o: &&Invocation| numbers.contains(&o.number);
+    let is_kept = |o: &&Operation| numbers.contains(&o.number);
     let mut pending = ops.iter().filter(|o| o.is_pending() && o.op.removes());
     let is_closed =
         ops.iter().all(|o| o.has_failed() || fits(values, is_kept(&o), o.op, o.reply()))

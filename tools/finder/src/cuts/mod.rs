@@ -12,7 +12,7 @@ mod suffix;
 pub use ahead::Ahead;
 pub use counts::{Count, Counted, is_exceeded};
 
-use crate::history::{End, Invocation, ObjectHistory};
+use crate::history::{End, ObjectHistory, Operation};
 use std::collections::BTreeSet;
 
 /// Which values are kept, or at a map which keys.
@@ -32,7 +32,7 @@ impl Values {
 
     /// How many of these values can be left in a queue, stack or heap for pending removals: as many
     /// as are put in, and not taken out by calls that returned.
-    pub fn left_over(&self, ops: &[Invocation]) -> usize {
+    pub fn left_over(&self, ops: &[Operation]) -> usize {
         let has = |value: Option<i64>| value.is_some_and(|value| self.has(value));
         let put = ops.iter().filter(|o| has(o.puts())).count();
         let taken = ops.iter().filter(|o| has(o.takes())).count();
@@ -87,8 +87,8 @@ pub fn part_by(history: &ObjectHistory, cuts: &[Cut]) -> Option<ObjectHistory> {
 /// pending.
 fn until(history: &ObjectHistory, until: u32) -> ObjectHistory {
     let before = history.ops.iter().filter(|o| o.number < until);
-    let pending = |o: &Invocation| match o.returned() {
-        Some(at) if at >= until => Invocation { end: End::Pending, ..*o },
+    let pending = |o: &Operation| match o.returned() {
+        Some(at) if at >= until => Operation { end: End::Pending, ..*o },
         _ => *o,
     };
     history.with(before.map(pending).collect())
@@ -98,9 +98,9 @@ fn until(history: &ObjectHistory, until: u32) -> ObjectHistory {
 /// removals that had returned by then. `None`: there are fewer of these than of those, so that the
 /// value may have been in.
 fn without(history: &ObjectHistory, value: i64, before: u32) -> Option<ObjectHistory> {
-    let puts = |o: &&Invocation| o.puts() == Some(value) && o.number < before;
+    let puts = |o: &&Operation| o.puts() == Some(value) && o.number < before;
     let takes =
-        |o: &&Invocation| o.takes() == Some(value) && o.returned().is_some_and(|at| at < before);
+        |o: &&Operation| o.takes() == Some(value) && o.returned().is_some_and(|at| at < before);
     let ops = &history.ops;
     if ops.iter().filter(puts).count() > ops.iter().filter(takes).count() {
         return None;
@@ -221,7 +221,7 @@ mod tests {
         let number = history.ops[some(count)].number;
         let chosen = history.ops.iter().filter(|_| some(2) == 0);
         let numbers = chosen.map(|o| o.number).collect();
-        let is_kept = |o: &&Invocation| match o.op.key() {
+        let is_kept = |o: &&Operation| match o.op.key() {
             Some(key) => values.has(key),
             None => true,
         };
@@ -242,7 +242,7 @@ mod tests {
 
     fn has_some_order(history: &ObjectHistory) -> bool {
         let calls = history.ops.iter().filter(|o| !o.has_failed());
-        let calls: Vec<Invocation> = calls.copied().collect();
+        let calls: Vec<Operation> = calls.copied().collect();
         has_order(&calls, &Content::empty(history.kind))
     }
 

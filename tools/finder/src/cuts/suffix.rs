@@ -1,6 +1,6 @@
 //! Suffixes: what can take effect from a call on that tells what the object then contains.
 
-use crate::history::{End, Invocation, ObjectHistory};
+use crate::history::{End, ObjectHistory, Operation};
 use crate::kinds::{Family, Need, Op, Reply, lone_cell};
 
 /// An operation on an empty object, and its reply.
@@ -18,7 +18,7 @@ fn left_by(op: Op, reply: Reply) -> Option<Option<First>> {
             let content = op.effect(Some(reply))?.shows()?;
             content.map(|value| (cells.fill)(op.key(), value))
         }
-        Family::Token(_) => (op.holds() == Some(true)).then_some((op, reply)),
+        Family::Holdable(_) => (op.holds() == Some(true)).then_some((op, reply)),
         Family::Number(number) => Some((number.fill)(op.steps(reply)?.1)),
     })
 }
@@ -26,7 +26,7 @@ fn left_by(op: Op, reply: Reply) -> Option<Option<First>> {
 /// An operation that overlaps the first one: what set an object that is one cell sets it whatever
 /// was there, unless that must have been nothing, and any other is pending. Where the suffix begins
 /// empty, each is pending.
-fn overlapping(first: Option<First>, operation: &Invocation) -> Invocation {
+fn overlapping(first: Option<First>, operation: &Operation) -> Operation {
     let effect = operation.reply().and_then(|reply| operation.op.effect(Some(reply)));
     let effect = effect.filter(|_| operation.op.kind().is_lone_cell());
     let effect = effect.filter(|effect| effect.need != Need::Is(None));
@@ -34,9 +34,9 @@ fn overlapping(first: Option<First>, operation: &Invocation) -> Invocation {
     match (first, written, operation.end) {
         (Some(_), Some(value), End::Returned { at, .. }) => {
             let (op, reply) = lone_cell::setting(Some(value));
-            Invocation { op, end: End::Returned { at, reply }, ..*operation }
+            Operation { op, end: End::Returned { at, reply }, ..*operation }
         }
-        _ => Invocation { end: End::Pending, ..*operation },
+        _ => Operation { end: End::Pending, ..*operation },
     }
 }
 
@@ -53,10 +53,10 @@ pub(super) fn from(history: &ObjectHistory, number: u32) -> Option<ObjectHistory
     if ops.iter().any(|o| !o.has_failed() && o.op.key() != call.op.key()) {
         return None;
     }
-    let piece = |o: &Invocation| {
+    let piece = |o: &Operation| {
         if o.number == number {
             let (op, reply) = first?;
-            return Some(Invocation { number, op, end: End::Returned { at: begun, reply } });
+            return Some(Operation { number, op, end: End::Returned { at: begun, reply } });
         }
         if o.has_failed() || o.returned().is_some_and(|at| at < number) {
             return None;

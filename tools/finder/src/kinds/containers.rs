@@ -1,7 +1,7 @@
 //! Containers: values go in, and come out in some order.
 
 use crate::reasons::{Candidate, Interval, Runs};
-use crate::residences::Touches;
+use crate::residences::Transfers;
 use crate::timeline::Timeline;
 use std::collections::{BTreeMap, VecDeque};
 
@@ -29,9 +29,9 @@ pub(crate) type OrderMethod = fn(&Timeline) -> Option<Vec<u32>>;
 
 /// The methods that find orders of the calls which may be valid.
 pub(crate) struct ContainerOrders {
-    pub quick: fn(&Timeline, Touches) -> Option<Vec<u32>>,
+    pub quick: fn(&Timeline, Transfers) -> Option<Vec<u32>>,
     /// Another one, where it can be chosen which removal takes which value.
-    pub other_pairs: fn(&Timeline, Touches) -> Option<Vec<u32>>,
+    pub other_pairs: fn(&Timeline, Transfers) -> Option<Vec<u32>>,
     /// By a search of all that the object may contain.
     pub by_contents: Option<OrderMethod>,
     /// Whether the quick methods take long if values repeat.

@@ -19,8 +19,8 @@ pub static HEAP: Room = Room {
     family: Family::Container(Container {
         gives: Gives::Least,
         orders: ContainerOrders {
-            quick: |timeline, touches| heap_order(timeline, &touches, true),
-            other_pairs: |timeline, touches| heap_order(timeline, &touches, false),
+            quick: |timeline, transfers| heap_order(timeline, &transfers, true),
+            other_pairs: |timeline, transfers| heap_order(timeline, &transfers, false),
             by_contents: None,
             are_slow: false,
         },

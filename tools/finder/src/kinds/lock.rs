@@ -1,7 +1,7 @@
 //! Locks: held by an owner, or free.
 
 use super::room::{INTEGER, NOTHING};
-use super::{Does, Family, Function, Room, Shape, Token, Words};
+use super::{Does, Family, Function, Holdable, Room, Shape, Words};
 use crate::orders::lock_order;
 use crate::reasons::{lock_patterns, rare_lock_patterns};
 
@@ -22,7 +22,7 @@ static UNLOCK_BY: Function = owning("unlock", Does::Releases);
 pub static LOCK: Room = Room {
     word: "lock",
     functions: &[&LOCK_BY, &UNLOCK_BY],
-    family: Family::Token(Token {
+    family: Family::Holdable(Holdable {
         has_owner: true,
         order: lock_order,
         patterns: lock_patterns,

@@ -1,8 +1,8 @@
 //! The kinds of objects. A kind has one room, the file of its name here. The room says what the
 //! functions of the kind ask of a content and leave there, and has the words for it. It names the
 //! methods that find its orders and reasons, which are files of `orders` and `reasons`. All other
-//! code works by what a room says, or by the family of the kind: a container, cells, a token, or a
-//! number.
+//! code works by what a room says, or by the family of the kind: a container, cells, what is held or
+//! free, or a number.
 //!
 //! A new kind is a room, and its lines in this file, the only one that lists the kinds.
 
@@ -28,7 +28,7 @@ mod stack;
 pub use cells::{Access, Cells, Effect, Need};
 pub use containers::{Bag, Container, Gives};
 pub use op::{Op, Reply, Role, Value};
-pub use room::{Does, Family, Function, Kind, OfNothing, Room, Shape, Token, Words};
+pub use room::{Does, Family, Function, Holdable, Kind, OfNothing, Room, Shape, Words};
 
 pub(crate) use containers::ContainerOrders;
 /// A cell by itself, as which a part of an object that has cells is judged.

@@ -1,6 +1,6 @@
 //! Mutexes: held or free.
 
-use super::{Does, Family, Function, Room, Token, Words};
+use super::{Does, Family, Function, Holdable, Room, Words};
 use crate::orders::mutex_order;
 use crate::reasons::{mutex_patterns, rare_mutex_patterns};
 
@@ -13,7 +13,7 @@ static RELEASE: Function =
 pub static MUTEX: Room = Room {
     word: "mutex",
     functions: &[&ACQUIRE, &RELEASE],
-    family: Family::Token(Token {
+    family: Family::Holdable(Holdable {
         has_owner: false,
         order: mutex_order,
         patterns: mutex_patterns,

@@ -151,7 +151,9 @@ impl Op {
     pub fn key(self) -> Option<i64> {
         match &self.function.kind.family {
             Family::Cells(cells) if cells.has_keys => self.argument.first(),
-            Family::Cells(_) | Family::Container(_) | Family::Token(_) | Family::Number(_) => None,
+            Family::Cells(_) | Family::Container(_) | Family::Holdable(_) | Family::Number(_) => {
+                None
+            }
         }
     }
 
@@ -191,13 +193,13 @@ impl Op {
         Some((before, before.checked_add(self.adds()?)?))
     }
 
-    /// Whether a token is held after the operation. `None`: it is on no token.
+    /// Whether the object is held after the operation. `None`: it is no mutex or lock.
     pub fn holds(self) -> Option<bool> {
         self.function.holds()
     }
 
-    /// Who holds a token after the operation, where this one does before it: its argument names who
-    /// acquires it, and who releases it. `None`: the operation is not possible, or on no token.
+    /// Who holds the object after the operation, where this one does before it: its argument names who
+    /// acquires it, and who releases it. `None`: the operation is not possible, or on another kind.
     pub fn next_holder(self, holder: Option<Value>) -> Option<Option<Value>> {
         match self.holds()? {
             true => holder.is_none().then_some(Some(self.argument)),

@@ -13,10 +13,10 @@ pub static QUEUE: Room = Room {
     family: Family::Container(Container {
         gives: Gives::First,
         orders: ContainerOrders {
-            quick: |timeline, touches| queue_order(timeline, touches, false),
-            other_pairs: |timeline, touches| match touches.unknown[..] {
+            quick: |timeline, transfers| queue_order(timeline, transfers, false),
+            other_pairs: |timeline, transfers| match transfers.unknown[..] {
                 [] => None,
-                _ => queue_order(timeline, touches, true),
+                _ => queue_order(timeline, transfers, true),
             },
             by_contents: Some(searched_queue_order),
             are_slow: false,

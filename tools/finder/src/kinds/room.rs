@@ -27,7 +27,7 @@ pub enum Family {
     /// The object has one cell, or one for each key, which contains a value or nothing.
     Cells(Cells),
     /// The object is held, or free.
-    Token(Token),
+    Holdable(Holdable),
     /// The object is a number, at first 0, to which amounts are added.
     Number(Number),
 }
@@ -39,7 +39,7 @@ pub struct Number {
 }
 
 /// What is special to an object that is held or free.
-pub struct Token {
+pub struct Holdable {
     /// Whether it is held by an owner, which its operations name.
     pub has_owner: bool,
     /// An order of the calls that may be valid.
@@ -95,7 +95,7 @@ pub enum Does {
     Takes,
     /// It looks at a cell, or sets it.
     Accesses(Access),
-    /// It takes hold of a token, or lets it go.
+    /// It acquires the object, or releases it.
     Acquires,
     Releases,
     /// It adds its argument to a number, and tells the number before.
@@ -125,8 +125,9 @@ pub enum Shape {
     /// Nothing, or what a client notes if the store replied nothing: its argument, or that it was
     /// done.
     Silent,
-    /// What a client notes if it has acquired or released a lock.
-    Token,
+    /// What a client notes if it has acquired or released a lock: nothing, its owner, or that it was
+    /// done.
+    Owner,
 }
 
 /// The reply of a call that found nothing, or another content.
@@ -146,7 +147,7 @@ impl Room {
     pub fn gives(&self) -> Option<Gives> {
         match &self.family {
             Family::Container(container) => Some(container.gives),
-            Family::Cells(_) | Family::Token(_) | Family::Number(_) => None,
+            Family::Cells(_) | Family::Holdable(_) | Family::Number(_) => None,
         }
     }
 
@@ -172,7 +173,7 @@ impl Room {
 
     /// Whether the object is held by an owner, which its operations name.
     pub fn has_owner(&self) -> bool {
-        matches!(self.family, Family::Token(Token { has_owner: true, .. }))
+        matches!(self.family, Family::Holdable(Holdable { has_owner: true, .. }))
     }
 
     /// Whether it can be counted how often a content is set and taken away.
@@ -180,7 +181,7 @@ impl Room {
         match &self.family {
             Family::Container(_) => true,
             Family::Cells(cells) => cells.has_values,
-            Family::Token(token) => !token.has_owner,
+            Family::Holdable(held) => !held.has_owner,
             Family::Number(_) => false,
         }
     }
@@ -249,11 +250,11 @@ impl Function {
         Function { does: Does::Accesses(access), ..Function::taking(name, kind) }
     }
 
-    /// One that does this with a token.
+    /// One that acquires its object, or releases it.
     pub(super) const fn holding(name: &'static str, kind: Kind, does: Does) -> Function {
         Function {
-            argument: Shape::Token,
-            reply: Shape::Token,
+            argument: Shape::Owner,
+            reply: Shape::Owner,
             takes: NOTHING,
             replies: NOTHING,
             does,
@@ -305,7 +306,7 @@ impl Function {
         self.reply == Shape::Swapped || self.argument == Shape::Triple
     }
 
-    /// Whether a token is held after it. `None`: it is on no token.
+    /// Whether the object is held after it. `None`: it neither acquires nor releases it.
     pub fn holds(&self) -> Option<bool> {
         match self.does {
             Does::Acquires => Some(true),
@@ -317,7 +318,7 @@ impl Function {
     /// Its operation with this argument, if the argument has its shape.
     pub fn with(&'static self, argument: Value) -> Option<Op> {
         let fits = match self.argument {
-            Shape::Nothing | Shape::Token => argument == Value::Nil,
+            Shape::Nothing | Shape::Owner => argument == Value::Nil,
             Shape::Pair => matches!(argument, Value::Pair(..)),
             Shape::Triple => matches!(argument, Value::Triple(..)),
             Shape::Value | Shape::Number => matches!(argument, Value::Int(_)),
@@ -339,7 +340,7 @@ impl Function {
                 Value::Int(value),
             ) => Some(Reply::Value(Some(value))),
             (
-                Shape::Content | Shape::NumberOrNothing | Shape::Token | Shape::Silent,
+                Shape::Content | Shape::NumberOrNothing | Shape::Owner | Shape::Silent,
                 Value::Nil,
             ) => Some(Reply::Value(None)),
             _ => None,

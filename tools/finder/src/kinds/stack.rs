@@ -13,8 +13,8 @@ pub static STACK: Room = Room {
     family: Family::Container(Container {
         gives: Gives::Last,
         orders: ContainerOrders {
-            quick: |timeline, touches| stack_order(timeline, touches, Pairing::OnTop),
-            other_pairs: |timeline, touches| stack_order(timeline, touches, Pairing::LastIn),
+            quick: |timeline, transfers| stack_order(timeline, transfers, Pairing::OnTop),
+            other_pairs: |timeline, transfers| stack_order(timeline, transfers, Pairing::LastIn),
             by_contents: Some(searched_stack_order),
             are_slow: true,
         },

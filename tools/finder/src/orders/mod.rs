@@ -1,10 +1,10 @@
 //! Orders of an object's calls that may be valid, each looked for by a method that is made for its
 //! kind. What `quick_order` and `order_by_contents` return was checked.
 //!
-//! The methods are made to find an order of any token without owners, and of a container in which
+//! The methods are made to find an order of any mutex, and of a container in which
 //! each value is put in once, in some n log n steps of n calls. If values repeat those of a
 //! container find many orders, and further ones by its contents, and `cells` those of an object
-//! that has cells, of a token with owners, and of a number. They do not find each. The room of a
+//! that has cells, of a lock, and of a number. They do not find each. The room of a
 //! kind says which methods are for it.
 
 mod cells;
@@ -29,7 +29,7 @@ pub use stack_search::searched_stack_order;
 use crate::check::is_valid;
 use crate::history::ObjectHistory;
 use crate::kinds::{ContainerOrders, Family};
-use crate::residences::Touches;
+use crate::residences::Transfers;
 use crate::timeline::Timeline;
 use cells::{CellsOrder, order_of_cells};
 use number::number_order;
@@ -48,7 +48,7 @@ pub enum Quick {
 fn container_orders(history: &ObjectHistory) -> Option<&'static ContainerOrders> {
     match &history.kind.family {
         Family::Container(container) => Some(&container.orders),
-        Family::Cells(_) | Family::Token(_) | Family::Number(_) => None,
+        Family::Cells(_) | Family::Holdable(_) | Family::Number(_) => None,
     }
 }
 
@@ -60,14 +60,14 @@ pub fn quick_order(history: &ObjectHistory) -> Quick {
             CellsOrder::Order(order) => Some(order),
             CellsOrder::OpenCell { key } => return Quick::Open { key },
         },
-        Family::Token(token) => (token.order)(&timeline),
+        Family::Holdable(held) => (held.order)(&timeline),
         Family::Number(_) => number_order(&timeline),
         Family::Container(container) => {
-            let touches = Touches::of(&timeline.calls);
-            if touches.overdraw() {
+            let transfers = Transfers::of(&timeline.calls);
+            if transfers.overdraw() {
                 return Quick::Open { key: None };
             }
-            (container.orders.quick)(&timeline, touches)
+            (container.orders.quick)(&timeline, transfers)
         }
     };
     let order = order.filter(|order| is_valid(history, order));
@@ -80,18 +80,18 @@ pub fn quick_order(history: &ObjectHistory) -> Quick {
 /// Whether the quick methods take long: some of them try many pairs if values repeat.
 pub fn is_slow(history: &ObjectHistory) -> bool {
     container_orders(history).is_some_and(|orders| orders.are_slow)
-        && Touches::of(&Timeline::of(&history.ops).calls).repeat()
+        && Transfers::of(&Timeline::of(&history.ops).calls).repeat()
 }
 
 /// Another order of the calls of a container, where it can be chosen which removal takes which
 /// value.
 fn order_of_other_pairs(history: &ObjectHistory, timeline: &Timeline) -> Option<Vec<u32>> {
     let orders = container_orders(history)?;
-    let touches = Touches::of(&timeline.calls);
-    if !touches.leave_a_choice() {
+    let transfers = Transfers::of(&timeline.calls);
+    if !transfers.leave_a_choice() {
         return None;
     }
-    (orders.other_pairs)(timeline, touches).filter(|order| is_valid(history, order))
+    (orders.other_pairs)(timeline, transfers).filter(|order| is_valid(history, order))
 }
 
 /// A valid order of a container, by a search of all that it may contain, where it can be chosen
@@ -99,7 +99,7 @@ fn order_of_other_pairs(history: &ObjectHistory, timeline: &Timeline) -> Option<
 pub fn order_by_contents(history: &ObjectHistory) -> Option<Vec<u32>> {
     let search = container_orders(history)?.by_contents?;
     let timeline = Timeline::of(&history.ops);
-    if !Touches::of(&timeline.calls).leave_a_choice() {
+    if !Transfers::of(&timeline.calls).leave_a_choice() {
         return None;
     }
     search(&timeline).filter(|order| is_valid(history, order))

@@ -2,7 +2,7 @@
 //! have put it in and did not.
 
 use super::Pattern;
-use crate::history::{Invocation, ObjectHistory};
+use crate::history::{ObjectHistory, Operation};
 use crate::kinds::{Op, Reply};
 
 /// Operations that would have put a value in, or set it, and did not: all failed, or all were
@@ -31,13 +31,13 @@ fn would_put(op: Op, key: Option<i64>, value: i64) -> bool {
 
 impl Undone {
     fn of(history: &ObjectHistory, key: Option<i64>, value: i64) -> Option<Undone> {
-        let of = |were_refused: bool, is_undone: fn(&Invocation) -> bool| {
-            let would = |o: &&Invocation| is_undone(o) && would_put(o.op, key, value);
+        let of = |were_refused: bool, is_undone: fn(&Operation) -> bool| {
+            let would = |o: &&Operation| is_undone(o) && would_put(o.op, key, value);
             let mut all = history.ops.iter().filter(would);
             let first = all.next()?.number;
             Some(Undone { first, count: 1 + all.count(), were_refused })
         };
-        of(false, Invocation::has_failed).or_else(|| {
+        of(false, Operation::has_failed).or_else(|| {
             of(true, |o| o.op.function.may_be_refused() && o.reply().is_some_and(Reply::is_refusal))
         })
     }
@@ -58,9 +58,9 @@ impl Facts {
             _ => return Facts::default(),
         };
         let found =
-            |o: &Invocation| o.op.only_looks() && o.reply() == Some(Reply::Value(Some(value)));
+            |o: &Operation| o.op.only_looks() && o.reply() == Some(Reply::Value(Some(value)));
         let swapped =
-            |o: &Invocation| matches!(o.reply(), Some(Reply::Swapped(old, _)) if old == value);
+            |o: &Operation| matches!(o.reply(), Some(Reply::Swapped(old, _)) if old == value);
         Facts {
             is_by_swap: history.kind.is_lone_cell()
                 && part.ops.iter().any(swapped)

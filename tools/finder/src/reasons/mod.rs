@@ -22,9 +22,9 @@ pub(crate) use cells::{mutex_patterns, rare_mutex_patterns};
 pub(crate) use containers::{Interval, Runs, extracts, queue_pairs, stack_pairs};
 pub use facts::{Facts, Undone};
 pub use lost::{Lost, LostValue};
-pub use pattern::{Beginning, FirstEvent, Pattern, Sentence};
+pub use pattern::{FirstEvent, FirstOperation, Pattern, Sentence};
 pub(crate) use plan::Candidate;
-pub use reason::{FoundReason, Reason, Refuted, Search, Shown};
+pub use reason::{CheckedReason, FoundReason, Reason, Shown, Trial};
 
 use crate::cuts::{Cut, Values};
 use crate::history::ObjectHistory;
@@ -35,25 +35,25 @@ use propose::Proposal;
 use std::collections::BTreeSet;
 
 /// The proposal, if it is a reason, where its part is searched so.
-fn confirm(history: &ObjectHistory, proposal: Proposal, by: Search) -> Option<FoundReason> {
-    let refuted = proposal.reason.refuted(history, by);
-    found(history, proposal, refuted, by)
+fn confirm(history: &ObjectHistory, proposal: Proposal, by: Trial) -> Option<FoundReason> {
+    let checked = proposal.reason.check(history, by);
+    found(history, proposal, checked, by)
 }
 
 /// The proposal whose part was refuted, or one for a smaller part.
 fn found(
     history: &ObjectHistory,
     proposal: Proposal,
-    refuted: Refuted,
-    by: Search,
+    checked: CheckedReason,
+    by: Trial,
 ) -> Option<FoundReason> {
-    let narrower = narrowed(history, &proposal.reason.cuts, &refuted, by);
+    let narrower = narrowed(history, &proposal.reason.cuts, &checked, by);
     let (proposal, part) = match narrower {
         Some((narrower, part)) => {
             let key = narrower.key.or(proposal.key);
             (Proposal { key, ..narrower }, part)
         }
-        None => (proposal, refuted.part?),
+        None => (proposal, checked.part?),
     };
     Some(as_found(history, proposal, &part, by))
 }
@@ -63,33 +63,33 @@ fn as_found(
     history: &ObjectHistory,
     proposal: Proposal,
     part: &ObjectHistory,
-    by: Search,
+    by: Trial,
 ) -> FoundReason {
     let Proposal { reason, pattern, key } = proposal;
     let lost = Lost::by(history, part, &reason);
     let pattern = lost.map_or(pattern, Pattern::Lost);
     let shown = reason.count.map_or(Shown::BySearch(by), Shown::ByCount);
-    let beginning = Beginning::of(history, &reason.cuts, part);
+    let beginning = FirstOperation::of(history, &reason.cuts, part);
     let facts = Facts::of(history, part, key, &pattern);
     let sentence = Sentence { kind: history.kind, key, pattern, facts, beginning, first: None };
     FoundReason { cuts: reason.cuts, shown, sentence }
 }
 
 /// How a part is searched in the end.
-fn by_return(steps: u64) -> Search {
-    Search { first: TryFirst::Return, steps }
+fn by_return(steps: u64) -> Trial {
+    Trial { first: TryFirst::Return, steps }
 }
 
 /// The reason that all operations have no valid order, as this search showed, or a smaller one.
 pub fn reason_of_all(
     history: &ObjectHistory,
-    by: Search,
+    by: Trial,
     searched: Searched,
 ) -> Option<FoundReason> {
     let reason = Reason { cuts: Vec::new(), count: None };
-    let refuted = Refuted { part: Some(history.clone()), searched: Some(searched) };
+    let checked = CheckedReason { part: Some(history.clone()), searched: Some(searched) };
     let proposal = Proposal { reason, pattern: Pattern::General, key: None };
-    found(history, proposal, refuted, by)
+    found(history, proposal, checked, by)
 }
 
 /// A small reason why no order of the object's operations is valid, by patterns. The open key of a
@@ -113,7 +113,7 @@ pub fn find_within(
     budget: u64,
 ) -> Option<FoundReason> {
     let proposal = propose::propose_within(history, open_key, steps, budget)?;
-    let part = proposal.reason.shown(history, by_return(steps))?;
+    let part = proposal.reason.part_shown(history, by_return(steps))?;
     Some(as_found(history, proposal, &part, by_return(steps)))
 }
 

@@ -7,8 +7,8 @@
 //! step.
 
 use super::propose::{Proposal, propose_within};
-use super::reason::Refuted;
-use super::{Pattern, Reason, Search};
+use super::reason::CheckedReason;
+use super::{Pattern, Reason, Trial};
 use crate::cuts::{Cut, part_by};
 use crate::history::ObjectHistory;
 use crate::search::{Outcome, Searched, TryFirst, search};
@@ -16,7 +16,7 @@ use crate::search::{Outcome, Searched, TryFirst, search};
 /// A part of this many operations is small enough.
 const FEW: usize = 12;
 
-/// How many steps may be taken at least after a search that refuted a part.
+/// How many steps may be taken at least after a search that checked a part.
 const LEAST_BUDGET: u64 = 20_000;
 
 /// A part that a count refuted is made smaller if it has at most this many operations.
@@ -35,7 +35,7 @@ const ENDS: [usize; 6] = [0, 1, 3, 7, 15, 31];
 /// A part that a search refuted, and how many steps may still be taken.
 struct Narrowing<'a> {
     part: &'a ObjectHistory,
-    by: Search,
+    by: Trial,
     left: u64,
     /// The first numbers after the returns, in rising order, from the furthest one that was passed
     /// on.
@@ -45,7 +45,7 @@ struct Narrowing<'a> {
 }
 
 impl<'a> Narrowing<'a> {
-    fn new(part: &'a ObjectHistory, by: Search, searched: &Searched) -> Narrowing<'a> {
+    fn new(part: &'a ObjectHistory, by: Trial, searched: &Searched) -> Narrowing<'a> {
         let returns = part.ops.iter().filter_map(|o| o.returned());
         let mut ends: Vec<u32> =
             returns.filter(|at| *at >= searched.passed).map(|at| at + 1).collect();
@@ -63,11 +63,11 @@ impl<'a> Narrowing<'a> {
     /// Whether the window has no valid order. What it takes to cut it out is counted too.
     fn is_refuted(&mut self, window: &[Cut]) -> bool {
         self.left = self.left.saturating_sub(self.part.ops.len() as u64 / 64);
-        let by = Search { first: self.by.first, steps: self.by.steps.min(self.left) };
+        let by = Trial { first: self.by.first, steps: self.by.steps.min(self.left) };
         let reason = Reason { cuts: window.to_vec(), count: None };
-        let refuted = reason.refuted(self.part, by);
-        self.left = self.left.saturating_sub(refuted.searched.as_ref().map_or(0, |it| it.steps));
-        refuted.part.is_some()
+        let checked = reason.check(self.part, by);
+        self.left = self.left.saturating_sub(checked.searched.as_ref().map_or(0, |it| it.steps));
+        checked.part.is_some()
     }
 
     /// The windows that end so that begin at a call: the shortest first.
@@ -112,12 +112,12 @@ fn pattern_in_window(pattern: Pattern) -> Pattern {
 pub fn narrowed(
     history: &ObjectHistory,
     cuts: &[Cut],
-    refuted: &Refuted,
-    by: Search,
+    checked: &CheckedReason,
+    by: Trial,
 ) -> Option<(Proposal, ObjectHistory)> {
-    let part = refuted.part.as_ref().filter(|part| part.ops.len() > FEW)?;
+    let part = checked.part.as_ref().filter(|part| part.ops.len() > FEW)?;
     let own;
-    let searched = match &refuted.searched {
+    let searched = match &checked.searched {
         Some(searched) => searched,
         None if part.ops.len() > MOST_COUNTED => return None,
         None => {
@@ -130,7 +130,7 @@ pub fn narrowed(
     let small = part_by(part, &window)?;
     let found = propose_within(&small, None, STEPS_OF_A_PART, narrowing.left);
     let is_smaller = |reason: Reason| {
-        let smaller = reason.shown(history, by)?;
+        let smaller = reason.part_shown(history, by)?;
         (smaller.ops.len() < part.ops.len()).then_some((reason, smaller))
     };
     // The cuts of a proposal mostly name the window too.

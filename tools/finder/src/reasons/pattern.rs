@@ -2,7 +2,7 @@
 
 use super::{Facts, Lost, Undone};
 use crate::cuts::{Counted, Cut};
-use crate::history::{Invocation, ObjectHistory};
+use crate::history::{ObjectHistory, Operation};
 use crate::kinds::{Does, Gives, Kind, Need, Op, Reply, Words};
 use std::fmt::{self, Display, Formatter};
 
@@ -52,7 +52,7 @@ pub enum Pattern {
     /// The key of a cell without values is put there twice, and not taken away in between, or taken
     /// away twice.
     Repeated { key: i64, sets: bool },
-    /// An owner takes hold of a token, or lets it go, while this holder has it.
+    /// An owner acquires a lock, or releases it, while this holder has it.
     NotHolder { acquires: bool, owner: i64, holder: Option<i64> },
     /// A number is found after a greater one was there, and nothing is subtracted.
     Fell { found: i64, was: i64 },
@@ -104,7 +104,7 @@ fn left_empty(op: Op, reply: Reply) -> Option<(&'static str, &'static str)> {
 /// The operation at which a part begins, of which the part has nothing since it left the object
 /// empty, or free: what was before it does not count.
 #[derive(Clone, Copy, Debug, PartialEq, Eq)]
-pub struct Beginning {
+pub struct FirstOperation {
     /// The number of its invocation.
     pub number: u32,
     /// What it did, and with what.
@@ -112,25 +112,25 @@ pub struct Beginning {
     what: &'static str,
 }
 
-impl Beginning {
+impl FirstOperation {
     /// That of the part that these cuts leave of a history.
     pub(super) fn of(
         history: &ObjectHistory,
         cuts: &[Cut],
         part: &ObjectHistory,
-    ) -> Option<Beginning> {
+    ) -> Option<FirstOperation> {
         let number = cuts.iter().rev().find_map(|cut| match cut {
             Cut::From(number) => Some(*number),
             _ => None,
         })?;
-        let place = |ops: &[Invocation]| ops.binary_search_by_key(&number, |o| o.number).ok();
+        let place = |ops: &[Operation]| ops.binary_search_by_key(&number, |o| o.number).ok();
         let own = &history.ops[place(&history.ops)?];
         let (did, what) = left_empty(own.op, own.reply()?)?;
-        place(&part.ops).is_none().then_some(Beginning { number, did, what })
+        place(&part.ops).is_none().then_some(FirstOperation { number, did, what })
     }
 }
 
-impl Display for Beginning {
+impl Display for FirstOperation {
     fn fmt(&self, f: &mut Formatter<'_>) -> fmt::Result {
         write!(f, "before that, event {} {} {}", self.number, self.did, self.what)
     }
@@ -165,7 +165,7 @@ pub struct Sentence {
     pub key: Option<i64>,
     pub pattern: Pattern,
     pub facts: Facts,
-    pub beginning: Option<Beginning>,
+    pub beginning: Option<FirstOperation>,
     pub first: Option<FirstEvent>,
 }
 
@@ -248,7 +248,7 @@ impl Sentence {
         }
     }
 
-    /// What the pattern says of a token that has an owner, or of a number.
+    /// What the pattern says of a lock, or of a number.
     fn say_of_holder_or_number(&self, f: &mut Formatter<'_>) -> Option<fmt::Result> {
         let Words { put, seen, taken, .. } = self.kind.words;
         let word = self.kind.word;
@@ -426,7 +426,7 @@ mod tests {
         let history = read_history(events.collect::<String>().as_bytes()).expect("a history");
         let history = &history.objects[0];
         let part = part_by(history, cuts).expect("a part");
-        Beginning::of(history, cuts, &part).map(|beginning| beginning.to_string())
+        FirstOperation::of(history, cuts, &part).map(|beginning| beginning.to_string())
     }
 
     #[test]

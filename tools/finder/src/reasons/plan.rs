@@ -3,8 +3,8 @@
 
 use super::{Pattern, Reason};
 use crate::cuts::{Count, Cut, Values};
-use crate::history::{End, Invocation, ObjectHistory};
-use crate::kinds::{Cells, Family, Role as Touch};
+use crate::history::{End, ObjectHistory, Operation};
+use crate::kinds::{Cells, Family, Role as ValueRole};
 use std::collections::BTreeSet;
 
 /// A pattern that was found, at a map with its key, and the plan of a reason. The weight tells
@@ -68,18 +68,18 @@ impl Role {
 
 impl Values {
     /// The role of an operation in the part that keeps these values.
-    fn role_of(&self, operation: &Invocation) -> Role {
+    fn role_of(&self, operation: &Operation) -> Role {
         if operation.has_failed() {
             return Role::LeftOut;
         }
         match operation.op.kind().family {
             Family::Container(_) => match operation.op.role(operation.reply()) {
-                Touch::Puts(value) | Touch::Takes(value) => Role::kept_if(self.has(value)),
-                Touch::FindsNone => Role::Optional,
-                Touch::Unknown => Role::Pending,
+                ValueRole::Puts(value) | ValueRole::Takes(value) => Role::kept_if(self.has(value)),
+                ValueRole::FindsNone => Role::Optional,
+                ValueRole::Unknown => Role::Pending,
             },
             Family::Cells(_) => self.role_on_cell(operation),
-            Family::Token(_) => Role::Kept,
+            Family::Holdable(_) => Role::Kept,
             Family::Number(_) if operation.op.only_looks() => Role::Optional,
             Family::Number(_) => Role::Kept,
         }
@@ -87,7 +87,7 @@ impl Values {
 
     /// The same where the object has cells. What does not set its cell can be left out; and where
     /// not all values of an object that is one cell are kept, so can all that returned.
-    fn role_on_cell(&self, operation: &Invocation) -> Role {
+    fn role_on_cell(&self, operation: &Operation) -> Role {
         let Some(effect) = operation.op.effect(operation.reply()) else {
             return Role::LeftOut;
         };
@@ -127,7 +127,7 @@ impl Plan {
     }
 
     /// Whether the operation can be seen between the beginning and the end of the plan.
-    fn touches(&self, operation: &Invocation) -> bool {
+    fn touches(&self, operation: &Operation) -> bool {
         let is_over = match (self.from, operation.returned()) {
             (Some(from), Some(at)) => at < from,
             _ => false,
@@ -136,15 +136,15 @@ impl Plan {
     }
 
     /// The number of the return of the call at which the plan begins; 0 if there is none.
-    fn begun(&self, ops: &[Invocation]) -> u32 {
+    fn begun(&self, ops: &[Operation]) -> u32 {
         let first = self.from.and_then(|from| ops.iter().find(|o| o.number == from));
-        first.and_then(Invocation::returned).unwrap_or(0)
+        first.and_then(Operation::returned).unwrap_or(0)
     }
 
     /// Whether the operation is a refused swap that overlaps the beginning of a plan of all values,
     /// which is this number, or its end. It is pending there, so it can set a value, and has to
     /// stay.
-    fn is_cut_swap(&self, operation: &Invocation, begun: u32) -> bool {
+    fn is_cut_swap(&self, operation: &Operation, begun: u32) -> bool {
         let End::Returned { at, reply } = operation.end else {
             return false;
         };
@@ -201,7 +201,7 @@ impl Plan {
                 self.push_window(cuts);
                 self.push_keeping(history, cuts);
             }
-            (Family::Token(_), _) => self.push_window(cuts),
+            (Family::Holdable(_), _) => self.push_window(cuts),
             (Family::Number(_), _) => {
                 self.push_window(cuts);
                 self.push_keeping(history, cuts);

@@ -6,7 +6,7 @@ use super::numbers::number_patterns;
 use super::shrink::Judge;
 use super::value_pairs::value_pairs_of;
 use super::wholes::wholes_of;
-use super::{Candidate, Element, Pattern, Plan, Reason, Search};
+use super::{Candidate, Element, Pattern, Plan, Reason, Trial};
 use crate::cuts::{Cut, part_by};
 use crate::history::ObjectHistory;
 use crate::kinds::Family;
@@ -74,7 +74,7 @@ impl Proposer<'_> {
         let mut candidates = match &self.history.kind.family {
             Family::Container(container) => container_patterns(container, timeline),
             Family::Cells(_) => cell_patterns(timeline),
-            Family::Token(token) => (token.patterns)(timeline),
+            Family::Holdable(held) => (held.patterns)(timeline),
             Family::Number(_) => number_patterns(timeline),
         };
         candidates.sort_by_key(|candidate| candidate.weight);
@@ -86,7 +86,7 @@ impl Proposer<'_> {
         let mut candidates = match &self.history.kind.family {
             Family::Container(_) | Family::Number(_) => Vec::new(),
             Family::Cells(_) => rare_cell_patterns(timeline),
-            Family::Token(token) => (token.rare_patterns)(timeline),
+            Family::Holdable(held) => (held.rare_patterns)(timeline),
         };
         candidates.sort_by_key(|candidate| candidate.weight);
         candidates
@@ -133,8 +133,8 @@ impl Proposer<'_> {
 
     /// The reason, if it is true.
     fn checked(&self, reason: Reason) -> Option<Reason> {
-        let search = Search { first: TryFirst::Number, steps: self.steps };
-        reason.shown(self.history, search).is_some().then_some(reason)
+        let search = Trial { first: TryFirst::Number, steps: self.steps };
+        reason.part_shown(self.history, search).is_some().then_some(reason)
     }
 
     /// The reason of a plan that holds in a part which begins at a call: by the plan's cuts alone
@@ -208,7 +208,7 @@ impl Proposer<'_> {
     }
 
     /// The smallest reason to which the patterns of the object lead, if they lead to one. Where it
-    /// is not small values are looked for that a container lost, and at a token the
+    /// is not small values are looked for that a container lost, and at a mutex or lock the
     /// patterns that are rare.
     fn best_by_patterns(&self, timeline: &Timeline) -> Option<Confirmed> {
         let best = self.best_of(self.patterns(timeline));
@@ -217,7 +217,7 @@ impl Proposer<'_> {
         }
         let others = match &self.history.kind.family {
             Family::Container(container) => lost_patterns(container.gives, timeline),
-            Family::Token(_) => self.rare_patterns(timeline),
+            Family::Holdable(_) => self.rare_patterns(timeline),
             Family::Cells(_) | Family::Number(_) => Vec::new(),
         };
         best.into_iter().chain(self.best_of(others)).min_by_key(|found| found.size)

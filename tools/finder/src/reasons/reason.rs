@@ -7,7 +7,7 @@ use crate::search::{Outcome, Searched, TryFirst, search};
 
 /// An order of trial, and the most steps of a search.
 #[derive(Clone, Copy, Debug, PartialEq, Eq)]
-pub struct Search {
+pub struct Trial {
     pub first: TryFirst,
     pub steps: u64,
 }
@@ -20,11 +20,11 @@ pub struct Reason {
 }
 
 impl Reason {
-    /// The part that the reason names, if it is shown to have no valid order, where the part is
-    /// searched so.
-    pub fn refuted(&self, history: &ObjectHistory, by: Search) -> Refuted {
+    /// Checks the reason: whether the part that it names has no valid order, by its count or by such
+    /// a search.
+    pub fn check(&self, history: &ObjectHistory, by: Trial) -> CheckedReason {
         let Some(part) = part_by(history, &self.cuts) else {
-            return Refuted { part: None, searched: None };
+            return CheckedReason { part: None, searched: None };
         };
         let (shown, searched) = match self.count {
             Some(count) => (is_exceeded(&part, count), None),
@@ -33,18 +33,18 @@ impl Reason {
                 (searched.outcome == Outcome::Impossible, Some(searched))
             }
         };
-        Refuted { part: shown.then_some(part), searched }
+        CheckedReason { part: shown.then_some(part), searched }
     }
 
-    /// The same part.
-    pub fn shown(&self, history: &ObjectHistory, by: Search) -> Option<ObjectHistory> {
-        self.refuted(history, by).part
+    /// The part, if the reason holds.
+    pub fn part_shown(&self, history: &ObjectHistory, by: Trial) -> Option<ObjectHistory> {
+        self.check(history, by).part
     }
 }
 
-/// What came of a reason: the part, if it is shown to have no valid order, and the search of it, if
-/// one was needed.
-pub struct Refuted {
+/// A reason that was checked: the part, if it is shown to have no valid order, and the search of it,
+/// if one was needed.
+pub struct CheckedReason {
     pub part: Option<ObjectHistory>,
     pub searched: Option<Searched>,
 }
@@ -53,14 +53,14 @@ pub struct Refuted {
 #[derive(Clone, Copy, Debug, PartialEq, Eq)]
 pub enum Shown {
     ByCount(Count),
-    BySearch(Search),
+    BySearch(Trial),
 }
 
 impl Shown {
     /// The count, and how a part is searched if there is none.
-    fn parts(self) -> (Option<Count>, Search) {
+    fn parts(self) -> (Option<Count>, Trial) {
         match self {
-            Shown::ByCount(count) => (Some(count), Search { first: TryFirst::Return, steps: 0 }),
+            Shown::ByCount(count) => (Some(count), Trial { first: TryFirst::Return, steps: 0 }),
             Shown::BySearch(search) => (None, search),
         }
     }
@@ -100,7 +100,7 @@ impl FoundReason {
         cuts.insert(0, Cut::Until(until));
         let (count, by) = shown.parts();
         let reason = Reason { cuts, count };
-        let part = reason.shown(history, by)?;
+        let part = reason.part_shown(history, by)?;
         let lost = Lost::by(history, &part, &reason).map(Pattern::Lost);
         let pattern = lost.unwrap_or_else(|| sentence.pattern.of_whole(history));
         let facts = Facts::of(history, &part, sentence.key, &pattern);

@@ -1,7 +1,7 @@
 //! Plans made smaller, each step confirmed by the check of reasons: by halves, as delta debugging
 //! does (Zeller and Hildebrandt, IEEE Transactions on Software Engineering 28, 2002).
 
-use super::{Element, Plan, Search};
+use super::{Element, Plan, Trial};
 use crate::history::ObjectHistory;
 use crate::search::TryFirst;
 use std::cell::Cell;
@@ -18,7 +18,7 @@ const MOST_PASSES: usize = 64;
 /// A history in which plans are tried, and how much may still be tried.
 pub struct Judge<'a> {
     base: &'a ObjectHistory,
-    search: Search,
+    search: Trial,
     left: u32,
     /// How many steps all searches may still take.
     budget: &'a Cell<u64>,
@@ -28,7 +28,7 @@ pub struct Judge<'a> {
 
 impl<'a> Judge<'a> {
     pub fn new(base: &'a ObjectHistory, steps: u64, budget: &'a Cell<u64>) -> Judge<'a> {
-        let search = Search { first: TryFirst::Number, steps };
+        let search = Trial { first: TryFirst::Number, steps };
         Judge { base, search, left: MOST_STEPS, budget, size: 0 }
     }
 
@@ -38,10 +38,10 @@ impl<'a> Judge<'a> {
             return false;
         }
         self.left -= 1;
-        let refuted = plan.reason(self.base).refuted(self.base, self.search);
-        let steps = refuted.searched.map_or(0, |searched| searched.steps);
+        let checked = plan.reason(self.base).check(self.base, self.search);
+        let steps = checked.searched.map_or(0, |searched| searched.steps);
         self.budget.set(self.budget.get().saturating_sub(steps));
-        let Some(part) = refuted.part else {
+        let Some(part) = checked.part else {
             return false;
         };
         self.size = part.ops.len();

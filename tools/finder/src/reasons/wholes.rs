@@ -49,7 +49,7 @@ pub fn wholes_of(kind: Kind, timeline: &Timeline) -> Vec<Candidate> {
     let all_values: &[bool] = match kind.family {
         Family::Container(_) => &[false],
         Family::Cells(Cells { has_keys: false, .. }) => &[false, true],
-        Family::Token(_) | Family::Number(_) => &[true],
+        Family::Holdable(_) | Family::Number(_) => &[true],
         Family::Cells(Cells { has_keys: true, .. }) => {
             let keys: BTreeSet<i64> = calls.iter().filter_map(|call| call.op.key()).collect();
             let on = |key| calls.iter().copied().filter(move |call| call.op.key() == Some(key));

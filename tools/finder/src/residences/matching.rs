@@ -4,7 +4,7 @@
 //! that returns, and takes one that runs when it returns itself. So the value definitely is in the
 //! object in few gaps.
 
-use super::{Gaps, Removals, Residence, Touch, pair_by_begins};
+use super::{Gaps, Removals, Residence, Transfer, pair_by_begins};
 use crate::timeline::PENDING;
 use std::collections::BTreeSet;
 
@@ -27,20 +27,20 @@ enum Event {
 /// What happens with the value: the gap, the event, and the place of the call. Where a gap can't be
 /// used it happens at the next that can.
 fn events_of(
-    touches: &[Touch],
+    transfers: &[Transfer],
     gaps: &mut Gaps,
     removals: &Removals,
     demands: &[(i64, u32)],
 ) -> Vec<(u32, Event, usize)> {
     let mut events = Vec::new();
-    for (place, touch) in touches.iter().enumerate() {
-        let (begin, end) = (touch.call.begin, touch.call.end);
-        let begins = if touch.takes { Event::TakeBegins } else { Event::PutBegins };
+    for (place, transfer) in transfers.iter().enumerate() {
+        let (begin, end) = (transfer.call.begin, transfer.call.end);
+        let begins = if transfer.takes { Event::TakeBegins } else { Event::PutBegins };
         events.push((gaps.first_free(begin), begins, place));
-        if touch.call.is_pending() {
+        if transfer.call.is_pending() {
             continue;
         }
-        if touch.takes {
+        if transfer.takes {
             events.push((gaps.first_free(end), Event::TakeReturns, place));
             continue;
         }
@@ -59,7 +59,7 @@ type Key = (u32, usize);
 
 /// The calls that have no partner, by their returns, and the pairs.
 struct Matching {
-    touches: Vec<Touch>,
+    transfers: Vec<Transfer>,
     last_in: bool,
     /// Puts that run.
     running: BTreeSet<Key>,
@@ -73,11 +73,11 @@ struct Matching {
 
 impl Matching {
     fn end_of(&self, place: usize) -> u32 {
-        self.touches[place].call.end
+        self.transfers[place].call.end
     }
 
     fn begin_of(&self, place: usize) -> u32 {
-        self.touches[place].call.begin
+        self.transfers[place].call.begin
     }
 
     fn put_returns(&mut self, put: Key) {
@@ -162,8 +162,8 @@ impl Matching {
             return false;
         };
         self.open.remove(&put);
-        self.pairs.push((put.1, self.touches.len()));
-        self.touches.push(Touch { takes: true, call, ..self.touches[put.1] });
+        self.pairs.push((put.1, self.transfers.len()));
+        self.transfers.push(Transfer { takes: true, call, ..self.transfers[put.1] });
         true
     }
 
@@ -210,9 +210,9 @@ impl Matching {
     /// The values of the pairs, and those that are not taken.
     fn residences(&self) -> Vec<Residence> {
         let residence = |put: usize, take: Option<usize>| Residence {
-            value: self.touches[put].value,
-            put: self.touches[put].call,
-            take: take.map(|take| self.touches[take].call),
+            value: self.transfers[put].value,
+            put: self.transfers[put].call,
+            take: take.map(|take| self.transfers[take].call),
         };
         let taken = self.pairs.iter().map(|(put, take)| residence(*put, Some(*take)));
         taken.chain(self.open.iter().map(|(_, put)| residence(*put, None))).collect()
@@ -223,20 +223,20 @@ impl Matching {
 /// the last value that is in, or the first. Pending removals are given to the value where it must
 /// be gone. `None`: a removal has no put.
 pub fn residences_of(
-    touches: &[Touch],
+    transfers: &[Transfer],
     gaps: &mut Gaps,
     removals: &mut Removals,
     demands: &[(i64, u32)],
     last_in: bool,
 ) -> Option<Vec<Residence>> {
-    match touches {
-        [_] if removals.is_empty() => return pair_by_begins(touches),
-        [_, second] if second.takes => return pair_by_begins(touches),
+    match transfers {
+        [_] if removals.is_empty() => return pair_by_begins(transfers),
+        [_, second] if second.takes => return pair_by_begins(transfers),
         _ => {}
     }
-    let events = events_of(touches, gaps, removals, demands);
+    let events = events_of(transfers, gaps, removals, demands);
     let mut matching = Matching {
-        touches: touches.to_vec(),
+        transfers: transfers.to_vec(),
         last_in,
         running: BTreeSet::new(),
         open: BTreeSet::new(),

@@ -1,10 +1,11 @@
 //! How long each value is in a queue, stack or heap. If a value comes more than once, its puts
 //! and removals are paired, and each pair counts as a value of its own.
 
-use super::Touch;
+use super::Transfer;
 use crate::timeline::Interval;
 
-/// The moment that a value is taken which no call takes: after that of a call that is pending.
+/// Stands for the moment at which a value is taken that no call takes. It is after the moment of a
+/// pending call.
 pub const NEVER: u32 = u32::MAX;
 
 /// A value, the call that puts it in, and the one that takes it.
@@ -40,12 +41,12 @@ impl Residence {
 
 /// The values, in rising order: of each value the puts and the removals are paired in the order of
 /// these moments. `None`: a value is taken more often than it is put in.
-fn pair(touches: &[Touch], moment: impl Fn(&Touch) -> u32) -> Option<Vec<Residence>> {
-    let mut sorted: Vec<&Touch> = touches.iter().collect();
-    sorted.sort_by_key(|touch| (touch.value, touch.takes, moment(touch)));
+fn pair(transfers: &[Transfer], moment: impl Fn(&Transfer) -> u32) -> Option<Vec<Residence>> {
+    let mut sorted: Vec<&Transfer> = transfers.iter().collect();
+    sorted.sort_by_key(|transfer| (transfer.value, transfer.takes, moment(transfer)));
     let mut residences: Vec<Residence> = Vec::new();
     let mut open = 0; // the first residence of the last value that has no removal
-    for &&Touch { value, takes, call } in &sorted {
+    for &&Transfer { value, takes, call } in &sorted {
         if takes {
             let residence = residences.get_mut(open).filter(|r| r.value == value)?;
             residence.take = Some(call);
@@ -63,12 +64,12 @@ fn pair(touches: &[Touch], moment: impl Fn(&Touch) -> u32) -> Option<Vec<Residen
 }
 
 /// The values with their puts and removals, each put with the removal that begins next.
-pub fn pair_by_begins(touches: &[Touch]) -> Option<Vec<Residence>> {
-    pair(touches, |touch| touch.call.begin)
+pub fn pair_by_begins(transfers: &[Transfer]) -> Option<Vec<Residence>> {
+    pair(transfers, |transfer| transfer.call.begin)
 }
 
 /// The same, each put that returns with the removal that begins: so each value is definitely in the
 /// object only while more of its puts have returned than removals have begun.
-pub fn pair_by_counts(touches: &[Touch]) -> Option<Vec<Residence>> {
-    pair(touches, |touch| if touch.takes { touch.call.begin } else { touch.call.end })
+pub fn pair_by_counts(transfers: &[Transfer]) -> Option<Vec<Residence>> {
+    pair(transfers, |transfer| if transfer.takes { transfer.call.begin } else { transfer.call.end })
 }

@@ -4,7 +4,7 @@
 //! top, or else one whose push runs. A value can be on top where each that definitely is above it
 //! can be popped by a pop that runs, and these then are.
 
-use super::{NEVER, Residence, Sure, Touch, Touches};
+use super::{DefiniteCounts, NEVER, Residence, Transfer, Transfers};
 use crate::timeline::Interval;
 use std::collections::BTreeSet;
 
@@ -47,19 +47,20 @@ enum Event {
 
 /// What happens, in the order in which it does. A call that finds nothing does so at the first gap
 /// in which the fewest values definitely are in the stack.
-fn events_of(touches: &Touches, end: u32) -> Vec<Event> {
+fn events_of(transfers: &Transfers, end: u32) -> Vec<Event> {
     // a gap is after the moment of the same number
     let mut events = Vec::new();
-    for (place, touch) in touches.known.iter().enumerate() {
-        events.push((touch.call.begin, false, Event::Begins(place)));
-        if !touch.call.is_pending() {
-            events.push((touch.call.end, false, Event::Returns(place)));
+    for (place, transfer) in transfers.known.iter().enumerate() {
+        events.push((transfer.call.begin, false, Event::Begins(place)));
+        if !transfer.call.is_pending() {
+            events.push((transfer.call.end, false, Event::Returns(place)));
         }
     }
-    let pending = touches.unknown.iter();
+    let pending = transfers.unknown.iter();
     events.extend(pending.map(|call| (call.begin, false, Event::PendingBegins)));
-    if let Some(sure) = Sure::new(&touches.known, end) {
-        let gaps = touches.empties.iter().filter_map(|call| sure.fewest(call.begin, call.end));
+    if let Some(definite) = DefiniteCounts::new(&transfers.known, end) {
+        let gaps =
+            transfers.empties.iter().filter_map(|call| definite.fewest(call.begin, call.end));
         events.extend(gaps.map(|gap| (gap, true, Event::FindsNone)));
     }
     events.sort_by_key(|(at, is_gap, _)| (*at, *is_gap));
@@ -68,7 +69,7 @@ fn events_of(touches: &Touches, end: u32) -> Vec<Event> {
 
 /// The values without partners, the values in the stack, and the pairs.
 struct Contents<'a> {
-    touches: &'a [Touch],
+    transfers: &'a [Transfer],
     values: Vec<Value>,
     /// Of each call the place of its value.
     value_of: Vec<usize>,
@@ -83,17 +84,17 @@ struct Contents<'a> {
 
 impl<'a> Contents<'a> {
     /// None of the calls, which are sorted by their values, has begun.
-    fn new(touches: &'a [Touch]) -> Contents<'a> {
+    fn new(transfers: &'a [Transfer]) -> Contents<'a> {
         let mut values = Vec::new();
         let mut value_of = Vec::new();
-        for own in touches.chunk_by(|one, other| one.value == other.value) {
+        for own in transfers.chunk_by(|one, other| one.value == other.value) {
             value_of.extend(own.iter().map(|_| values.len()));
-            let pops = own.iter().filter(|touch| touch.takes).count();
+            let pops = own.iter().filter(|transfer| transfer.takes).count();
             let surplus = (own.len() - pops).saturating_sub(pops);
             values.push(Value { surplus, ..Value::default() });
         }
         Contents {
-            touches,
+            transfers,
             values,
             value_of,
             inside: BTreeSet::new(),
@@ -113,17 +114,17 @@ impl<'a> Contents<'a> {
 
     /// The key of a push by which the one that begins last comes first.
     fn inside_key(&self, put: usize) -> Key {
-        (NEVER - self.touches[put].call.begin, put)
+        (NEVER - self.transfers[put].call.begin, put)
     }
 
     /// The pushes of the values that definitely are above this one when the pop begins. `None`: not
     /// each of them can be popped by a pop that runs, or by one of `others` pending pops.
     fn above(&self, put: usize, take: usize, mut others: usize) -> Option<Vec<usize>> {
-        let (put, take) = (&self.touches[put], &self.touches[take]);
+        let (put, take) = (&self.transfers[put], &self.transfers[take]);
         let mut above: Vec<usize> = Vec::new();
         let later = self.inside.iter().map(|(_, other)| *other);
-        let later = later.take_while(|other| self.touches[*other].call.begin >= put.call.end);
-        for other in later.filter(|other| self.touches[*other].call.end <= take.call.begin) {
+        let later = later.take_while(|other| self.transfers[*other].call.begin >= put.call.end);
+        for other in later.filter(|other| self.transfers[*other].call.end <= take.call.begin) {
             let value = self.value_of[other];
             let alike = above.iter().filter(|put| self.value_of[**put] == value).count();
             if self.values[value].waiting.len() <= alike {
@@ -169,7 +170,7 @@ impl<'a> Contents<'a> {
             self.join(put, take);
         } else if spare > 0 && value.surplus > 0 {
             value.surplus -= 1;
-            let take = self.touches.len() + self.used;
+            let take = self.transfers.len() + self.used;
             self.used += 1;
             self.join(put, take);
         }
@@ -193,12 +194,12 @@ impl<'a> Contents<'a> {
         let last = (0..self.pairs.len()).rev().take(MOST_PAIRS);
         // pops that are pending have no place of their own
         let own = last.filter(|k| self.value_of.get(self.pairs[*k].1) == Some(&value));
-        let mut later = own.filter(|k| self.touches[self.pairs[*k].1].call.end > take.0);
+        let mut later = own.filter(|k| self.transfers[self.pairs[*k].1].call.end > take.0);
         let Some(k) = later.next() else {
             return false;
         };
         let other = std::mem::replace(&mut self.pairs[k].1, take.1);
-        let end = self.touches[other].call.end;
+        let end = self.transfers[other].call.end;
         self.values[value].waiting.insert((end, other));
         true
     }
@@ -242,13 +243,13 @@ impl<'a> Contents<'a> {
             Event::FindsNone => self.find_none(),
             Event::PendingBegins => self.begun += 1,
             Event::Begins(place) => {
-                let Touch { takes, call, .. } = self.touches[place];
+                let Transfer { takes, call, .. } = self.transfers[place];
                 let value = self.value_mut(place);
                 let own = if takes { &mut value.waiting } else { &mut value.running };
                 own.insert((call.end, place));
             }
             Event::Returns(place) => {
-                let Touch { takes, call, .. } = self.touches[place];
+                let Transfer { takes, call, .. } = self.transfers[place];
                 if takes {
                     return self.take_returns((call.end, place));
                 }
@@ -262,13 +263,13 @@ impl<'a> Contents<'a> {
     /// the order of their begins.
     fn residences(&self, unknown: &[Interval]) -> Vec<Residence> {
         let residence = |put: usize, take: Option<Interval>| Residence {
-            value: self.touches[put].value,
-            put: self.touches[put].call,
+            value: self.transfers[put].value,
+            put: self.transfers[put].call,
             take,
         };
-        let pop = |take: usize| match self.touches.get(take) {
-            Some(touch) => Some(touch.call),
-            None => unknown.get(take - self.touches.len()).copied(),
+        let pop = |take: usize| match self.transfers.get(take) {
+            Some(transfer) => Some(transfer.call),
+            None => unknown.get(take - self.transfers.len()).copied(),
         };
         let pairs = self.pairs.iter().map(|(put, take)| residence(*put, pop(*take)));
         pairs.chain(self.inside.iter().map(|(_, put)| residence(*put, None))).collect()
@@ -277,8 +278,8 @@ impl<'a> Contents<'a> {
 
 /// The values of a stack with their pushes and pops, which come sorted by their values, and how
 /// many of the pending pops they have, the first ones. `None`: a pop has no push.
-pub fn pair_on_top(touches: &Touches, end: u32) -> Option<(Vec<Residence>, usize)> {
-    let mut contents = Contents::new(&touches.known);
-    let all = events_of(touches, end).into_iter().all(|event| contents.happen(event));
-    all.then(|| (contents.residences(&touches.unknown), contents.used))
+pub fn pair_on_top(transfers: &Transfers, end: u32) -> Option<(Vec<Residence>, usize)> {
+    let mut contents = Contents::new(&transfers.known);
+    let all = events_of(transfers, end).into_iter().all(|event| contents.happen(event));
+    all.then(|| (contents.residences(&transfers.unknown), contents.used))
 }

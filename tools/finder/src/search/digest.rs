@@ -99,7 +99,7 @@ impl Digest {
             (Family::Container(container), Role::Takes(value)) => self.take(value, container.gives),
             (Family::Container(_), Role::FindsNone | Role::Unknown) => {}
             (Family::Cells(_), _) => self.set(op, reply, undo),
-            (Family::Token(_), _) => {
+            (Family::Holdable(_), _) => {
                 let holder = op.argument.last().filter(|_| op.holds() == Some(true));
                 let is_held = u64::from(op.holds() == Some(true));
                 self.content = holder.map_or(is_held, |holder| of_value(holder, 2));

@@ -55,17 +55,17 @@ pub fn search(history: &ObjectHistory, first: TryFirst, steps: u64) -> Searched 
 #[cfg(test)]
 mod tests {
     use super::*;
-    use crate::history::{End, Invocation};
+    use crate::history::{End, Operation};
     use crate::kinds::{Op, Reply};
     use crate::small::op;
 
     /// An operation that was invoked and returned at these numbers; pending if at none.
-    fn operation(number: u32, op: Op, end: Option<(u32, Option<i64>)>) -> Invocation {
+    fn operation(number: u32, op: Op, end: Option<(u32, Option<i64>)>) -> Operation {
         let returned = |(at, value)| End::Returned { at, reply: Reply::Value(value) };
-        Invocation { number, op, end: end.map_or(End::Pending, returned) }
+        Operation { number, op, end: end.map_or(End::Pending, returned) }
     }
 
-    fn queue(ops: Vec<Invocation>) -> ObjectHistory {
+    fn queue(ops: Vec<Operation>) -> ObjectHistory {
         ObjectHistory { object: 0, kind: ops[0].op.kind(), ops }
     }
 

@@ -5,16 +5,16 @@ use super::digest::Digest;
 use super::not_done::NotDone;
 use super::{Outcome, Searched, TryFirst};
 use crate::content::{Content, Undo};
-use crate::history::{Invocation, ObjectHistory};
+use crate::history::{ObjectHistory, Operation};
 use crate::kinds::Reply;
 use std::collections::BTreeSet;
 
-/// How many operations a pair that is remembered lists, where it lists all that are to return.
+/// A remembered pair lists all operations that are still to return, and at most this many.
 const MOST_LISTED: usize = 4096;
 
 /// The operations that did not fail, in the order in which they are tried.
 struct Trials {
-    items: Vec<Invocation>,
+    items: Vec<Operation>,
     /// For each place the least number from there on.
     floors: Vec<u32>,
     /// The same of the operations that returned.
@@ -24,7 +24,7 @@ struct Trials {
 }
 
 /// For each place the least number from there on of the operations that count.
-fn floors_of(items: &[Invocation], counts: impl Fn(&Invocation) -> bool) -> Vec<u32> {
+fn floors_of(items: &[Operation], counts: impl Fn(&Operation) -> bool) -> Vec<u32> {
     let mut floors = vec![u32::MAX; items.len()];
     let mut least = u32::MAX;
     for (floor, item) in floors.iter_mut().zip(items).rev() {
@@ -39,11 +39,11 @@ fn floors_of(items: &[Invocation], counts: impl Fn(&Invocation) -> bool) -> Vec<
 impl Trials {
     fn new(history: &ObjectHistory, first: TryFirst) -> Trials {
         let tried = history.ops.iter().filter(|o| !o.has_failed());
-        let mut items: Vec<Invocation> = tried.copied().collect();
+        let mut items: Vec<Operation> = tried.copied().collect();
         if first == TryFirst::Return {
             items.sort_by_key(|o| o.returned().unwrap_or(u32::MAX));
         }
-        let pending = items.iter().position(Invocation::is_pending);
+        let pending = items.iter().position(Operation::is_pending);
         Trials {
             floors: floors_of(&items, |_| true),
             return_floors: floors_of(&items, |o| o.returned().is_some()),

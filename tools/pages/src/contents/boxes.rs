@@ -2,7 +2,7 @@
 
 use super::content::{Content, Entries, Item, value_reply};
 use crate::figures::{CHARACTER, SMALL_CHARACTER, characters, count_text, digits};
-use crate::timeline::{BoxKind, ContentBox, Operation};
+use crate::timeline::{BoxKind, ContentBox, DrawnOperation};
 use crate::words::Words;
 use finder::{Bag, Gives, Reply};
 use std::ops::Range;
@@ -91,7 +91,7 @@ impl Boxes<'_> {
     }
 
     /// The values of a container, and what the operation returned.
-    fn values(&mut self, bag: &Bag<Item>, operation: &Operation, reply: Reply) {
+    fn values(&mut self, bag: &Bag<Item>, operation: &DrawnOperation, reply: Reply) {
         let (items, gives) = (bag.values(), bag.gives());
         let is_removal = operation.op().removes();
         let at = is_removal.then(|| match gives {
@@ -146,7 +146,7 @@ fn gives_words(gives: Option<Reply>) -> &'static str {
 }
 
 /// The boxes of what the object contains where this operation is refused.
-pub fn boxes_of(content: &Content, operation: &Operation, words: Words) -> Vec<ContentBox> {
+pub fn boxes_of(content: &Content, operation: &DrawnOperation, words: Words) -> Vec<ContentBox> {
     let mut boxes = Boxes { words, boxes: Vec::new(), x: 2 };
     let reply = operation.reply().unwrap_or(Reply::Value(None));
     match content {
@@ -161,7 +161,7 @@ pub fn boxes_of(content: &Content, operation: &Operation, words: Words) -> Vec<C
             boxes.entries(entries, op.key(), gives_words(content.gives(op)));
             boxes.absent(reply, ["returned", ""]);
         }
-        Content::Token { holder, .. } => {
+        Content::Holdable { holder, .. } => {
             let by = holder.map(|(by, _)| by);
             boxes.add(BoxKind::Gives, content.text(&words), ["", ""], by);
         }

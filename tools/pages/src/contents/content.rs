@@ -20,7 +20,7 @@ pub enum Content {
     Cell(Option<Item>),
     Cells(Entries),
     /// Who holds it, by the operation and by its argument, and who released it last.
-    Token {
+    Holdable {
         holder: Option<(u32, Value)>,
         releaser: Option<u32>,
     },
@@ -57,7 +57,7 @@ impl Content {
             Family::Cells(Cells { has_keys: true, has_values: have_values, .. }) => {
                 Content::Cells(Entries { items: BTreeMap::new(), have_values: *have_values })
             }
-            Family::Token(_) => Content::Token { holder: None, releaser: None },
+            Family::Holdable(_) => Content::Holdable { holder: None, releaser: None },
             Family::Number(_) => Content::Number { number: 0, by: None },
         }
     }
@@ -71,7 +71,7 @@ impl Content {
             Content::Values(items) => items.next(),
             Content::Cell(item) => *item,
             Content::Cells(entries) => entries.items.get(&op.key()?).copied(),
-            Content::Token { .. } => None,
+            Content::Holdable { .. } => None,
             Content::Number { number, by } => by.map(|by| Item { value: *number, by }),
         }
     }
@@ -81,7 +81,7 @@ impl Content {
         match self {
             Content::Cell(item) => *item,
             Content::Values(_) | Content::Cells(_) => None,
-            Content::Token { .. } | Content::Number { .. } => None,
+            Content::Holdable { .. } | Content::Number { .. } => None,
         }
     }
 
@@ -90,7 +90,7 @@ impl Content {
         match self {
             Content::Number { number, .. } => Some(*number),
             Content::Values(_) | Content::Cell(_) | Content::Cells(_) => None,
-            Content::Token { .. } => None,
+            Content::Holdable { .. } => None,
         }
     }
 
@@ -111,19 +111,19 @@ impl Content {
         }
     }
 
-    /// Who holds a token: the operation, and its argument.
+    /// Who holds a mutex or lock: the operation, and its argument.
     pub fn holder(&self) -> Option<(u32, Value)> {
         match self {
-            Content::Token { holder, .. } => *holder,
+            Content::Holdable { holder, .. } => *holder,
             Content::Values(_) | Content::Cell(_) | Content::Cells(_) => None,
             Content::Number { .. } => None,
         }
     }
 
-    /// Who released a token last.
+    /// Who released a mutex or lock last.
     pub fn releaser(&self) -> Option<u32> {
         match self {
-            Content::Token { releaser, .. } => *releaser,
+            Content::Holdable { releaser, .. } => *releaser,
             Content::Values(_) | Content::Cell(_) | Content::Cells(_) => None,
             Content::Number { .. } => None,
         }
@@ -150,7 +150,7 @@ impl Content {
                 (Some(key), Some(None)) => _ = items.remove(&key),
                 (Some(_), None) | (None, _) => {}
             },
-            Content::Token { holder, releaser } => match op.holds() {
+            Content::Holdable { holder, releaser } => match op.holds() {
                 Some(true) => *holder = Some((by, op.argument)),
                 Some(false) => (*holder, *releaser) = (None, Some(by)),
                 None => {}
@@ -163,7 +163,7 @@ impl Content {
         }
     }
 
-    /// The values in it, with their keys if it has keys; of a token whether it is held, and its
+    /// The values in it, with their keys if it has keys; of a mutex or lock whether it is held, and its
     /// owner.
     pub fn values(&self) -> Vec<i64> {
         match self {
@@ -172,7 +172,7 @@ impl Content {
             Content::Cells(Entries { items, .. }) => {
                 items.iter().flat_map(|(key, item)| [*key, item.value]).collect()
             }
-            Content::Token { holder, .. } => {
+            Content::Holdable { holder, .. } => {
                 holder.iter().map(|(_, owner)| owner.last().unwrap_or(1)).collect()
             }
             Content::Number { number, .. } => vec![*number],
@@ -185,7 +185,7 @@ impl Content {
             Content::Values(items) => list_text(items, words),
             Content::Cell(item) => words.values(value_reply(*item).value().to_string()),
             Content::Cells(entries) => entries.text(words),
-            Content::Token { holder, .. } => match holder.and_then(|(_, owner)| owner.last()) {
+            Content::Holdable { holder, .. } => match holder.and_then(|(_, owner)| owner.last()) {
                 Some(owner) => words.values(owner.to_string()),
                 None => held_text(holder.is_some()).into(),
             },
@@ -194,7 +194,7 @@ impl Content {
     }
 }
 
-/// Whether a token is held, in a word.
+/// Whether a mutex or lock is held, in a word.
 fn held_text(is_held: bool) -> &'static str {
     if is_held { "held" } else { "free" }
 }

@@ -2,7 +2,7 @@
 //! that stays open. Nothing depends on it.
 
 use super::content::Content;
-use crate::timeline::{Operation, State};
+use crate::timeline::{DrawnOperation, State};
 use finder::Kind;
 use std::collections::HashSet;
 
@@ -14,9 +14,9 @@ const STEPS: usize = 200_000;
 /// An order that may go on with none of the operations that may come next, by the places of all.
 #[derive(Default)]
 pub struct Longest {
-    pub order: Vec<Operation>,
+    pub order: Vec<DrawnOperation>,
     /// Those that may come next, and do not fit. None: the order has all that returned.
-    pub next: Vec<Operation>,
+    pub next: Vec<DrawnOperation>,
 }
 
 /// What was placed, what the object contains then, and the places that are to be tried next.
@@ -28,7 +28,7 @@ struct Reached {
 /// A search from the beginning.
 struct Trying<'a> {
     /// Those that did not fail.
-    operations: &'a [Operation],
+    operations: &'a [DrawnOperation],
     is_placed: Vec<bool>,
     order: Vec<usize>,
     /// All before this place are placed.
@@ -63,7 +63,7 @@ impl Trying<'_> {
 
     /// Whether the operation fits there: it gives its reply, or, if it is pending, changes
     /// something.
-    fn fits(operation: &Operation, content: &Content) -> bool {
+    fn fits(operation: &DrawnOperation, content: &Content) -> bool {
         match (content.gives(operation.op()), operation.reply()) {
             (None, _) => false,
             (Some(gives), Some(reply)) => gives == reply,
@@ -127,8 +127,8 @@ impl Trying<'_> {
 }
 
 /// The longest order that a short search finds of these operations of an object.
-pub fn longest_order(operations: &[Operation], kind: Kind) -> Longest {
-    let live: Vec<Operation> =
+pub fn longest_order(operations: &[DrawnOperation], kind: Kind) -> Longest {
+    let live: Vec<DrawnOperation> =
         operations.iter().filter(|it| it.state() != State::Failed).copied().collect();
     let keeps = live.len() <= FEW;
     let mut trying = Trying {

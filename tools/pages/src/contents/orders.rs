@@ -2,7 +2,7 @@
 
 use super::content::Content;
 use crate::figures::Placed;
-use crate::timeline::{Entry, Operation, Row, operation_at};
+use crate::timeline::{DrawnOperation, Entry, Row, operation_at};
 use crate::words::Words;
 use finder::Kind;
 use std::collections::BTreeSet;
@@ -28,13 +28,13 @@ pub struct Walk<'a> {
 
 impl Walk<'_> {
     /// Passes an entry that is valid.
-    fn pass(&mut self, operation: &Operation) {
+    fn pass(&mut self, operation: &DrawnOperation) {
         self.content.apply(operation.number(), operation.op());
         self.anchor = self.anchor.max(operation.number());
     }
 
     /// Takes in an entry that is valid and shown, and is drawn or not. The content after it.
-    fn take(&mut self, rank: usize, operation: &Operation, is_drawn: bool) -> String {
+    fn take(&mut self, rank: usize, operation: &DrawnOperation, is_drawn: bool) -> String {
         self.pass(operation);
         let content = self.content.text(&self.words);
         if is_drawn {
@@ -44,7 +44,7 @@ impl Walk<'_> {
     }
 
     /// Draws an entry, with what the object contains there.
-    fn place(&mut self, rank: usize, operation: Operation, is_refused: bool, content: String) {
+    fn place(&mut self, rank: usize, operation: DrawnOperation, is_refused: bool, content: String) {
         self.points.push(Placed {
             rank: u32::try_from(rank).unwrap_or(u32::MAX),
             operation,
@@ -57,7 +57,7 @@ impl Walk<'_> {
 
 /// Which entries of an order are walked along, drawn and shown.
 struct Route<'a> {
-    operations: &'a [Operation],
+    operations: &'a [DrawnOperation],
     /// Of each number the place after that of its operation, or 0 if it is of none.
     places: Vec<u32>,
     order: &'a [i64],
@@ -75,7 +75,7 @@ fn marks_of(numbers: &BTreeSet<u32>) -> Vec<bool> {
 }
 
 /// Of each number up to that of the last operation the place after that of its operation, or 0.
-fn places_of(operations: &[Operation]) -> Vec<u32> {
+fn places_of(operations: &[DrawnOperation]) -> Vec<u32> {
     let mut places = vec![0; operations.last().map_or(0, |last| last.number() as usize + 1)];
     for (operation, place) in operations.iter().zip(1..) {
         places[operation.number() as usize] = place;
@@ -85,7 +85,7 @@ fn places_of(operations: &[Operation]) -> Vec<u32> {
 
 impl<'a> Route<'a> {
     /// The operation with this number.
-    fn operation(&self, number: i64) -> Option<&'a Operation> {
+    fn operation(&self, number: i64) -> Option<&'a DrawnOperation> {
         let place = *self.places.get(usize::try_from(number).ok()?)?;
         self.operations.get((place as usize).checked_sub(1)?)
     }
@@ -121,7 +121,7 @@ impl<'a> Route<'a> {
 /// Walks along the order up to its fault. Without a fault, a long order is walked along up to the
 /// last entry that is drawn, if some are.
 pub fn walk_along<'a>(
-    operations: &[Operation],
+    operations: &[DrawnOperation],
     kind: Kind,
     order: &[i64],
     refused: Option<usize>,
@@ -159,7 +159,7 @@ pub fn walk_along<'a>(
 /// The rows of the table of the order: those that the walk made, no more than a table has, the
 /// entries after the fault, and how many are skipped between them.
 pub fn rows_of(
-    operations: &[Operation],
+    operations: &[DrawnOperation],
     order: &[i64],
     refused: Option<usize>,
     mut entries: Vec<Row>,

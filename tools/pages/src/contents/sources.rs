@@ -1,6 +1,6 @@
 //! Which operations put a value in, and take it out.
 
-use crate::timeline::{Operation, Role, State};
+use crate::timeline::{DrawnOperation, Role, State};
 use finder::Reply;
 
 /// The value that a reply tells was there.
@@ -13,7 +13,7 @@ pub fn wanted(reply: Reply) -> Option<i64> {
 }
 
 /// The value that an operation that may have happened puts in, or sets.
-pub fn value_put(operation: &Operation) -> Option<i64> {
+pub fn value_put(operation: &DrawnOperation) -> Option<i64> {
     if operation.state() == State::Failed {
         return None;
     }
@@ -22,11 +22,11 @@ pub fn value_put(operation: &Operation) -> Option<i64> {
 }
 
 /// Whether the operation puts this value in, under this key of a map.
-pub fn puts(operation: &Operation, key: Option<i64>, value: i64) -> bool {
+pub fn puts(operation: &DrawnOperation, key: Option<i64>, value: i64) -> bool {
     value_put(operation) == Some(value) && operation.op().key() == key
 }
 
 /// Whether the operation returned this value, and took it out.
-pub fn takes(operation: &Operation, value: i64) -> bool {
+pub fn takes(operation: &DrawnOperation, value: i64) -> bool {
     operation.role() == Role::Take && operation.reply() == Some(Reply::Value(Some(value)))
 }

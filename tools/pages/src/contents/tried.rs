@@ -1,9 +1,9 @@
 //! The orders of a part's operations that were tried, each up to the operation that does not fit.
 
 use super::content::{Content, value_reply};
-use crate::timeline::{Attempt, Failure, Operation, Tried, operation_at};
+use crate::timeline::{Attempt, DrawnOperation, Failure, Tried, operation_at};
 use crate::words::Words;
-use finder::{Invocation, Kind, Op, Reply, Shape};
+use finder::{Kind, Op, Operation, Reply, Shape};
 use std::collections::HashSet;
 
 /// A part with more operations is not tried, and no more steps are taken.
@@ -23,11 +23,11 @@ struct Way {
 
 /// Ways to begin, those that are still to be tried, and what was reached.
 struct Trying<'a> {
-    part: &'a [Invocation],
-    operations: &'a [Operation],
+    part: &'a [Operation],
+    operations: &'a [DrawnOperation],
     kind: Kind,
     /// The operation before them all, if there is one.
-    first: Option<Operation>,
+    first: Option<DrawnOperation>,
     words: Words<'a>,
     ways: Vec<Way>,
     /// Which operations were placed, and with which values in the object.
@@ -36,7 +36,7 @@ struct Trying<'a> {
 }
 
 /// Why the operation does not fit where the object gives this; nothing if it fits.
-fn failure_of(invocation: &Invocation, gives: Option<Reply>) -> Option<Failure> {
+fn failure_of(invocation: &Operation, gives: Option<Reply>) -> Option<Failure> {
     match (gives, invocation.reply()) {
         (None, _) => Some(Failure::NotPossible),
         (Some(gives), Some(reply)) if reply != gives => Some(Failure::Gives(gives, reply)),
@@ -46,7 +46,7 @@ fn failure_of(invocation: &Invocation, gives: Option<Reply>) -> Option<Failure> 
 
 /// The failure as the history has the operation, which a part may count as another one: as a cas
 /// where it found a value and left another.
-fn recorded_failure(failure: Failure, content: &Content, next: &Operation) -> Failure {
+fn recorded_failure(failure: Failure, content: &Content, next: &DrawnOperation) -> Failure {
     let Failure::Gives(gives, returned) = failure else {
         return failure;
     };
@@ -77,14 +77,14 @@ impl Trying<'_> {
         }
     }
 
-    fn as_recorded(&self, place: usize) -> Operation {
+    fn as_recorded(&self, place: usize) -> DrawnOperation {
         let invocation = self.part[place];
-        let unknown = Operation { invocation, object: 0, process: 0, ended: None };
+        let unknown = DrawnOperation { invocation, object: 0, process: 0, ended: None };
         operation_at(self.operations, i64::from(invocation.number)).unwrap_or(unknown)
     }
 
     /// Whether an operation that is not placed returned before this one began.
-    fn is_preceded(&self, placed: u64, next: &Invocation) -> bool {
+    fn is_preceded(&self, placed: u64, next: &Operation) -> bool {
         self.part.iter().enumerate().any(|(place, other)| {
             placed & 1 << place == 0 && other.returned().is_some_and(|at| at < next.number)
         })
@@ -100,7 +100,7 @@ impl Trying<'_> {
     }
 
     /// Notes that the operation does not fit after those of the way.
-    fn fail(&mut self, way: &Way, content: &Content, next: Operation, failure: Failure) {
+    fn fail(&mut self, way: &Way, content: &Content, next: DrawnOperation, failure: Failure) {
         let is_same = match self.tried.last {
             Some(last) => last.number() == next.number(),
             None => self.tried.attempts.is_empty(),
@@ -157,7 +157,7 @@ fn other_contents(op: Op) -> &'static [&'static str] {
 
 /// The same ways, and, for a part of a token, before them the contents before the part with which
 /// its first operation is not possible.
-pub fn with_other_contents(mut tried: Tried, first: Option<Operation>) -> Tried {
+pub fn with_other_contents(mut tried: Tried, first: Option<DrawnOperation>) -> Tried {
     let Some(next) = first.filter(|_| !tried.attempts.is_empty()) else {
         return tried;
     };
@@ -179,10 +179,10 @@ pub fn with_other_contents(mut tried: Tried, first: Option<Operation>) -> Tried 
 /// number. What was reached before, and a pending operation that changes nothing, is not followed.
 /// An operation that is not in the part may come first, which left the object empty, or free.
 pub fn try_orders(
-    operations: &[Operation],
+    operations: &[DrawnOperation],
     kind: Kind,
-    part: &[Invocation],
-    first: Option<Operation>,
+    part: &[Operation],
+    first: Option<DrawnOperation>,
     other: Option<i64>,
     words: Words,
 ) -> Tried {

@@ -3,7 +3,7 @@
 
 use crate::drawing::objects::focus_events;
 use crate::figures::{FaultyMap, Moment, Scene, Stretch, choose, figure_of, moments_of, narrow};
-use crate::timeline::{Figure, Mark, Operation, operations_of};
+use crate::timeline::{DrawnOperation, Figure, Mark, operations_of};
 use crate::words::Words;
 use finder::History;
 use std::collections::BTreeMap;
@@ -24,23 +24,23 @@ pub struct Faulty<'a> {
 /// many operations of how many processes it leaves out for lack of lanes.
 pub struct FaultyDrawing {
     pub figure: Figure,
-    pub earlier: Option<Operation>,
+    pub earlier: Option<DrawnOperation>,
     pub without_lane: usize,
     pub processes: usize,
 }
 
 impl Faulty<'_> {
     /// The operations of all objects, in rising number.
-    fn operations(&self) -> Vec<Operation> {
+    fn operations(&self) -> Vec<DrawnOperation> {
         let objects = self.history.objects.iter();
-        let mut operations: Vec<Operation> =
+        let mut operations: Vec<DrawnOperation> =
             objects.flat_map(|object| operations_of(self.history, object)).collect();
-        operations.sort_unstable_by_key(Operation::number);
+        operations.sort_unstable_by_key(DrawnOperation::number);
         operations
     }
 
     /// The events before the faulty map, and the faulty map.
-    fn moments(&self, operations: &[Operation], earlier: &BTreeMap<u32, Mark>) -> Vec<Moment> {
+    fn moments(&self, operations: &[DrawnOperation], earlier: &BTreeMap<u32, Mark>) -> Vec<Moment> {
         let mut moments = moments_of(operations, &self.history.nemeses);
         moments.push(Moment::new(self.map.number, None, false));
         let mut focus = focus_events(operations, earlier);
@@ -54,7 +54,7 @@ impl Faulty<'_> {
 pub fn draw_up_to(faulty: &Faulty) -> FaultyDrawing {
     let operations = faulty.operations();
     let earlier = faulty.earlier.and_then(|number| {
-        let has = |it: &&Operation| it.number() == number || it.ended == Some(number);
+        let has = |it: &&DrawnOperation| it.number() == number || it.ended == Some(number);
         operations.iter().find(has).copied()
     });
     let focus: BTreeMap<u32, Mark> =

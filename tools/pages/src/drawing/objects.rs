@@ -11,12 +11,12 @@ use crate::figures::{
 };
 use crate::judged_page::Options;
 use crate::timeline::{
-    ContentBox, DrawnStretch, Extent, Figure, Mark, ObjectDrawing, Operation, Row, Span, Spans,
-    State, operation_at, operations_of, spans,
+    ContentBox, DrawnOperation, DrawnStretch, Extent, Figure, Mark, ObjectDrawing, Row, Span,
+    Spans, State, operation_at, operations_of, spans,
 };
 use crate::verdict::OrderFault;
 use crate::words::Words;
-use finder::{FirstEvent, History, Invocation, ObjectHistory, Sentence};
+use finder::{FirstEvent, History, ObjectHistory, Operation, Sentence};
 use std::borrow::Cow;
 use std::collections::{BTreeMap, BTreeSet};
 
@@ -48,25 +48,25 @@ impl Subject<'_> {
         Stretch { from: self.options.from, to: self.options.to }
     }
 
-    fn operations(&self) -> Vec<Operation> {
+    fn operations(&self) -> Vec<DrawnOperation> {
         operations_of(self.history, self.object)
     }
 }
 
 /// The numbers of the events of these operations.
-pub fn focus_events(operations: &[Operation], focus: &BTreeMap<u32, Mark>) -> Vec<u32> {
+pub fn focus_events(operations: &[DrawnOperation], focus: &BTreeMap<u32, Mark>) -> Vec<u32> {
     let ended = |number: u32| operation_at(operations, i64::from(number))?.ended;
     focus.keys().flat_map(|number| std::iter::once(*number).chain(ended(*number))).collect()
 }
 
 /// The numbers of the operations with drawn events.
-fn drawn_numbers(operations: &[Operation], moments: &[Moment]) -> BTreeSet<u32> {
+fn drawn_numbers(operations: &[DrawnOperation], moments: &[Moment]) -> BTreeSet<u32> {
     let drawn = drawn_places(moments).filter_map(|place| moments[place].of(operations));
     drawn.map(|operation| operation.number()).collect()
 }
 
 /// How many of the operations did not fail.
-fn live_count(operations: &[Operation]) -> usize {
+fn live_count(operations: &[DrawnOperation]) -> usize {
     operations.iter().filter(|it| it.state() != State::Failed).count()
 }
 
@@ -82,7 +82,7 @@ struct Window {
 /// The window of a figure, and the focus alone. Events are listed near to them; of the others they
 /// need only that there are some.
 fn window_of(
-    operations: &[Operation],
+    operations: &[DrawnOperation],
     focus: &BTreeMap<u32, Mark>,
     subject: &Subject,
     stretch: Stretch,
@@ -111,7 +111,7 @@ fn window_of(
 
 /// The same events, of which those of the focus are drawn, up to the most operations.
 fn focus_moments(
-    operations: &[Operation],
+    operations: &[DrawnOperation],
     moments: &[Moment],
     focus: &BTreeMap<u32, Mark>,
 ) -> Vec<Moment> {
@@ -145,7 +145,7 @@ impl Explanation {
 
 /// What the figure of a window is laid out from, without the points of an order.
 fn scene_of<'a>(
-    operations: &'a [Operation],
+    operations: &'a [DrawnOperation],
     subject: &'a Subject,
     window: &'a Window,
     explanation: &'a Explanation,
@@ -170,7 +170,7 @@ fn scene_of<'a>(
 /// The two figures of an object: the operations of the focus alone, where they are shown alone, and
 /// the window.
 fn figures(
-    operations: &[Operation],
+    operations: &[DrawnOperation],
     subject: &Subject,
     window: &Window,
     points: &[Placed],
@@ -199,7 +199,7 @@ fn points_in(points: &[Placed], window: &Window) -> Vec<Placed> {
 
 /// From which operation on each other stretch is drawn: from before the first event that leaves no
 /// order, and then from places that are evenly apart.
-fn starts_of(operations: &[Operation], first: Option<u32>) -> Vec<usize> {
+fn starts_of(operations: &[DrawnOperation], first: Option<u32>) -> Vec<usize> {
     let before = |number: u32| {
         operations.partition_point(|it| it.number() <= number).saturating_sub(STRETCH / 2)
     };
@@ -210,7 +210,7 @@ fn starts_of(operations: &[Operation], first: Option<u32>) -> Vec<usize> {
 
 /// Other windows of the object, apart from the first one and from each other, while there is room.
 fn other_windows(
-    operations: &[Operation],
+    operations: &[DrawnOperation],
     subject: &Subject,
     window: &Window,
     first: Option<u32>,
@@ -222,8 +222,9 @@ fn other_windows(
     }
     let mut drawn = window.drawn.clone();
     for start in starts_of(operations, first) {
-        let from = operations.get(start).map(Operation::number);
-        let to = operations.get(start + STRETCH).map_or(subject.history.maps, Operation::number);
+        let from = operations.get(start).map(DrawnOperation::number);
+        let to =
+            operations.get(start + STRETCH).map_or(subject.history.maps, DrawnOperation::number);
         let stretch = Stretch { from, to: Some(to) };
         let other = window_of(operations, &BTreeMap::new(), subject, stretch);
         let is_apart = other.drawn.is_disjoint(&drawn) && !other.drawn.is_empty();
@@ -238,7 +239,7 @@ fn other_windows(
 
 /// The figures of other windows.
 fn stretches(
-    operations: &[Operation],
+    operations: &[DrawnOperation],
     subject: &Subject,
     others: &[(Stretch, Window)],
     points: &[Placed],
@@ -259,7 +260,7 @@ fn stretches(
 
 /// The points and the rows of an order, if there is one.
 fn points_and_rows(
-    operations: &[Operation],
+    operations: &[DrawnOperation],
     subject: &Subject,
     order: Option<&[i64]>,
     refused: Option<usize>,
@@ -275,7 +276,7 @@ fn points_and_rows(
 
 /// The boxes of what the object contains before the entry that is refused, if one is.
 fn boxes_before(
-    operations: &[Operation],
+    operations: &[DrawnOperation],
     order: Option<&[i64]>,
     explanation: &Explanation,
     words: Words,
@@ -288,7 +289,7 @@ fn boxes_before(
 /// The drawing of an object with this order, if there is one, and with its sentences.
 fn draw(
     subject: &Subject,
-    operations: &[Operation],
+    operations: &[DrawnOperation],
     order: Option<&[i64]>,
     explanation: Explanation,
 ) -> ObjectDrawing {
@@ -336,7 +337,7 @@ pub fn draw_valid(subject: &Subject, order: Option<&[i64]>) -> ObjectDrawing {
 
 /// The sentences on the longest order that was found, of this many operations, and on what comes
 /// next.
-fn longest_sentence(found: usize, all: usize, next: &[Operation]) -> Spans {
+fn longest_sentence(found: usize, all: usize, next: &[DrawnOperation]) -> Spans {
     let mut said =
         spans!["The longest order that was found for this page has ", found, " of ", all];
     said.extend(spans![if all == 1 { " operation. " } else { " operations. " }]);
@@ -413,18 +414,18 @@ pub struct DrawnPart<'a> {
 
 impl DrawnPart<'_> {
     /// Its operations that did not fail.
-    fn live(&self) -> Vec<Invocation> {
+    fn live(&self) -> Vec<Operation> {
         self.history.ops.iter().filter(|op| !op.has_failed()).copied().collect()
     }
 
     /// The operation from which on it is a part, if it is not one from the beginning.
-    fn begins_at(&self, operations: &[Operation]) -> Option<Operation> {
+    fn begins_at(&self, operations: &[DrawnOperation]) -> Option<DrawnOperation> {
         operation_at(operations, i64::from(self.from?))
     }
 
     /// These operations of the part, as the history has them, and the one from which on it is a
     /// part.
-    fn recorded(&self, operations: &[Operation], live: &[Invocation]) -> Vec<Operation> {
+    fn recorded(&self, operations: &[DrawnOperation], live: &[Operation]) -> Vec<DrawnOperation> {
         let first = self.from.filter(|from| invocation_in(live, *from).is_none());
         let own = live.iter().map(|invocation| invocation.number);
         let numbers = first.into_iter().chain(own);
@@ -433,24 +434,24 @@ impl DrawnPart<'_> {
 }
 
 /// The invocation with this number, of a part in rising number.
-fn invocation_in(part: &[Invocation], number: u32) -> Option<&Invocation> {
+fn invocation_in(part: &[Operation], number: u32) -> Option<&Operation> {
     let place = part.binary_search_by_key(&number, |invocation| invocation.number).ok()?;
     Some(&part[place])
 }
 
 /// The operations that returned and are pending in the part.
-fn outside_of(operations: &[Operation], part: &[Invocation]) -> Vec<Operation> {
-    let is_outside = |operation: &&Operation| {
+fn outside_of(operations: &[DrawnOperation], part: &[Operation]) -> Vec<DrawnOperation> {
+    let is_outside = |operation: &&DrawnOperation| {
         operation.state() == State::Done
-            && invocation_in(part, operation.number()).is_some_and(Invocation::is_pending)
+            && invocation_in(part, operation.number()).is_some_and(Operation::is_pending)
     };
     operations.iter().filter(is_outside).copied().collect()
 }
 
 /// From each of these operations that returned to the next one that was invoked later. They are in
 /// rising number.
-fn arrows_in(operations: &[Operation]) -> Vec<(Operation, Operation)> {
-    let arrow = |earlier: &Operation| {
+fn arrows_in(operations: &[DrawnOperation]) -> Vec<(DrawnOperation, DrawnOperation)> {
+    let arrow = |earlier: &DrawnOperation| {
         let at = earlier.returned()?;
         let next = operations.partition_point(|operation| operation.number() <= at);
         Some((*earlier, *operations.get(next)?))

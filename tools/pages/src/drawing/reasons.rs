@@ -3,7 +3,7 @@
 //! operations of the object; else the general one is said.
 
 use crate::contents::{puts, takes, value_put};
-use crate::timeline::{Operation, Role, Span, Spans, State, Tried, spans};
+use crate::timeline::{DrawnOperation, Role, Span, Spans, State, Tried, spans};
 use finder::{Counted, Gives, Kind, Lost, Need, Pattern, Reply, Sentence};
 
 /// The operations of an object, and those of a part of which no order is valid. If the part
@@ -11,8 +11,8 @@ use finder::{Counted, Gives, Kind, Lost, Need, Pattern, Reply, Sentence};
 #[derive(Clone, Copy)]
 pub struct Reason<'a> {
     pub kind: Kind,
-    pub operations: &'a [Operation],
-    pub part: &'a [Operation],
+    pub operations: &'a [DrawnOperation],
+    pub part: &'a [DrawnOperation],
     pub from: Option<u32>,
     pub sentence: &'a Sentence,
 }
@@ -21,12 +21,12 @@ pub struct Reason<'a> {
 const MOST_NAMED: usize = 12;
 
 /// The operations, with `and` before the last; if there are many, how many there are.
-fn named(operations: &[Operation]) -> Spans {
+fn named(operations: &[DrawnOperation]) -> Spans {
     listed(operations, " and ")
 }
 
 /// The operations, with this word before the last.
-fn listed(operations: &[Operation], last: &'static str) -> Spans {
+fn listed(operations: &[DrawnOperation], last: &'static str) -> Spans {
     if operations.len() > MOST_NAMED {
         return spans!["these ", operations.len(), " operations"];
     }
@@ -42,12 +42,12 @@ fn listed(operations: &[Operation], last: &'static str) -> Spans {
 }
 
 /// One of the operations, with `or` before the last; if there are many, how many there are.
-pub fn one_of(operations: &[Operation]) -> Spans {
+pub fn one_of(operations: &[DrawnOperation]) -> Spans {
     listed(operations, " or ")
 }
 
 /// How often, as `twice`, and by which operations if these are few.
-fn times(operations: &[Operation]) -> Spans {
+fn times(operations: &[DrawnOperation]) -> Spans {
     let mut spans = match operations.len() {
         1 => spans!["once"],
         2 => spans!["twice"],
@@ -60,8 +60,8 @@ fn times(operations: &[Operation]) -> Spans {
     spans
 }
 
-/// The value that a taking returned.
-fn value_taken(operation: &Operation) -> Option<i64> {
+/// The value that a removal returned.
+fn value_taken(operation: &DrawnOperation) -> Option<i64> {
     match (operation.role(), operation.reply()) {
         (Role::Take, Some(Reply::Value(value))) => value,
         _ => None,
@@ -69,7 +69,7 @@ fn value_taken(operation: &Operation) -> Option<i64> {
 }
 
 /// Whether the operation was invoked before this number, and took the value out, or may have.
-fn may_take(operation: &Operation, value: i64, before: u32) -> bool {
+fn may_take(operation: &DrawnOperation, value: i64, before: u32) -> bool {
     let is_pending = operation.state() == State::Pending;
     operation.number() < before
         && operation.role() == Role::Take
@@ -77,19 +77,19 @@ fn may_take(operation: &Operation, value: i64, before: u32) -> bool {
 }
 
 /// Whether the operation ran at some moment between the two numbers.
-fn ran_between(operation: &Operation, from: u32, to: u32) -> bool {
+fn ran_between(operation: &DrawnOperation, from: u32, to: u32) -> bool {
     let closed = operation.closed().unwrap_or(u32::MAX);
     operation.state() != State::Failed && operation.number() < to && closed > from
 }
 
 /// When the operation returned, where that was before the other one was invoked.
-fn returned_before(operation: &Operation, other: &Operation) -> Option<u32> {
+fn returned_before(operation: &DrawnOperation, other: &DrawnOperation) -> Option<u32> {
     operation.returned().filter(|at| *at < other.number())
 }
 
 /// Whether the operation puts this value where another one was, or deletes what was there if there
 /// is no value.
-fn sets_anew(operation: &Operation, key: Option<i64>, value: Option<i64>) -> bool {
+fn sets_anew(operation: &DrawnOperation, key: Option<i64>, value: Option<i64>) -> bool {
     let is_same = |need| need == Need::Is(value);
     match (value, operation.op().effect(None)) {
         (Some(value), effect) => {
@@ -101,7 +101,7 @@ fn sets_anew(operation: &Operation, key: Option<i64>, value: Option<i64>) -> boo
 }
 
 /// What the cell contained where the operation took effect, if it says that.
-fn found_by(operation: &Operation) -> Option<Option<i64>> {
+fn found_by(operation: &DrawnOperation) -> Option<Option<i64>> {
     match operation.op().effect(Some(operation.reply()?))?.need {
         Need::Is(content) => Some(content),
         Need::Any | Need::IsNot(_) => None,
@@ -109,12 +109,12 @@ fn found_by(operation: &Operation) -> Option<Option<i64>> {
 }
 
 /// What the cell contained after the operation, which returned.
-fn left_by(operation: &Operation) -> Option<Option<i64>> {
+fn left_by(operation: &DrawnOperation) -> Option<Option<i64>> {
     operation.op().effect(Some(operation.reply()?))?.shows()
 }
 
 /// The words on what an operation left, which is this: if there are keys also the key.
-fn left_words(operation: &Operation, left: Option<i64>) -> Spans {
+fn left_words(operation: &DrawnOperation, left: Option<i64>) -> Spans {
     let op = operation.op();
     let mut words = match (op.sets(), op.key()) {
         (Some(None), Some(key)) => return spans![" deleted key ", key],
@@ -129,28 +129,28 @@ fn left_words(operation: &Operation, left: Option<i64>) -> Spans {
 }
 
 /// The two operations of a part that put something in, with what they put, if there are just two.
-fn two_putters(part: &[Operation]) -> Option<[(Operation, i64); 2]> {
+fn two_putters(part: &[DrawnOperation]) -> Option<[(DrawnOperation, i64); 2]> {
     let putters = part.iter().filter_map(|it| Some((*it, value_put(it)?)));
     putters.collect::<Vec<_>>().try_into().ok()
 }
 
-/// The value that the taking took that returned last, and when.
-fn last_taking(operations: &[Operation]) -> Option<(i64, u32)> {
+/// The value that the removal took that returned last, and when.
+fn last_taking(operations: &[DrawnOperation]) -> Option<(i64, u32)> {
     let takings = operations.iter().filter_map(|it| Some((value_taken(it)?, it.returned()?)));
     takings.max_by_key(|(_, at)| *at)
 }
 
 impl Reason<'_> {
     /// The operations that put the value in, and were invoked before this number.
-    fn putters(&self, value: i64, before: u32) -> Vec<Operation> {
-        let puts = |it: &&Operation| it.number() < before && value_put(it) == Some(value);
+    fn putters(&self, value: i64, before: u32) -> Vec<DrawnOperation> {
+        let puts = |it: &&DrawnOperation| it.number() < before && value_put(it) == Some(value);
         self.operations.iter().filter(puts).copied().collect()
     }
 
     /// The operations that took the value out, and returned by this number.
-    fn takers(&self, value: i64, until: u32) -> Vec<Operation> {
+    fn takers(&self, value: i64, until: u32) -> Vec<DrawnOperation> {
         let takes =
-            |it: &&Operation| takes(it, value) && it.returned().is_some_and(|at| at <= until);
+            |it: &&DrawnOperation| takes(it, value) && it.returned().is_some_and(|at| at <= until);
         self.operations.iter().filter(takes).copied().collect()
     }
 
@@ -205,7 +205,7 @@ impl Reason<'_> {
         Some(sentence)
     }
 
-    /// A taking finds nothing while a value is definitely there.
+    /// A removal finds nothing while a value is definitely there.
     fn not_empty(&self) -> Option<Spans> {
         let [putter, taker] = self.part else {
             return None;
@@ -321,7 +321,7 @@ impl Reason<'_> {
 
     /// Whether an operation other than the later one, which ran between the invocation of the
     /// earlier one and the number, set the value anew.
-    fn is_set_between(&self, value: Option<i64>, pair: [&Operation; 2], to: u32) -> bool {
+    fn is_set_between(&self, value: Option<i64>, pair: [&DrawnOperation; 2], to: u32) -> bool {
         let [earlier, later] = pair;
         let key = later.op().key();
         self.operations.iter().any(|it| {
@@ -366,13 +366,13 @@ impl Reason<'_> {
         Some(sentence)
     }
 
-    /// A token is released twice, and not acquired in between.
+    /// A mutex or lock is released twice, and not acquired in between.
     fn twice_released(&self) -> Option<Spans> {
         let releases = self.part.iter().filter(|it| it.op().holds() == Some(false));
         let [first, second] = releases.collect::<Vec<_>>().try_into().ok()?;
         let (from, to) = (first.number(), first.returned()?.max(second.returned()?));
         let is_acquired =
-            |it: &Operation| it.op().holds() == Some(true) && ran_between(it, from, to);
+            |it: &DrawnOperation| it.op().holds() == Some(true) && ran_between(it, from, to);
         if self.operations.iter().any(is_acquired) {
             return None;
         }
@@ -417,7 +417,7 @@ impl Reason<'_> {
     }
 
     /// The words on the order of these operations, which come before the last.
-    fn order(&self, others: &[Operation]) -> Spans {
+    fn order(&self, others: &[DrawnOperation]) -> Spans {
         let is_window = self.from.is_some();
         let (before, after) = match (others.len(), is_window) {
             (0, true) => ("", ", "),
@@ -434,7 +434,7 @@ impl Reason<'_> {
     }
 
     /// The words on the operation at which each order ends.
-    fn end(&self, last: Option<Operation>, has_table: bool) -> Spans {
+    fn end(&self, last: Option<DrawnOperation>, has_table: bool) -> Spans {
         let Some(last) = last else {
             let table = ": the table says where each order breaks.";
             return spans!["one of them does not fit", if has_table { table } else { "." }];
@@ -450,8 +450,8 @@ impl Reason<'_> {
     /// The general sentence: no order of these operations fits.
     fn general(&self, tried: &Tried) -> Spans {
         let last = tried.last.filter(|_| tried.is_complete);
-        let is_other = |it: &&Operation| last.is_none_or(|last| last.number() != it.number());
-        let others: Vec<Operation> = self.part.iter().filter(is_other).copied().collect();
+        let is_other = |it: &&DrawnOperation| last.is_none_or(|last| last.number() != it.number());
+        let others: Vec<DrawnOperation> = self.part.iter().filter(is_other).copied().collect();
         let mut sentence = match self.from {
             Some(from) => spans!["Whatever the ", self.kind, " contained before event ", from],
             None => Vec::new(),

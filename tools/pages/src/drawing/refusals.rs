@@ -2,7 +2,7 @@
 //! code that chooses it has looked the fact up.
 
 use crate::contents::{Content, puts, walk_along, wanted};
-use crate::timeline::{Mark, Operation, Span, Spans, operation_at, spans};
+use crate::timeline::{DrawnOperation, Mark, Span, Spans, operation_at, spans};
 use crate::verdict::OrderFault;
 use crate::words::Words;
 use finder::{History, Kind, ObjectHistory, Reply};
@@ -26,7 +26,7 @@ pub struct Refused<'a> {
     pub history: &'a History,
     pub object: u32,
     pub kind: Kind,
-    pub operations: &'a [Operation],
+    pub operations: &'a [DrawnOperation],
     pub order: &'a [i64],
 }
 
@@ -37,7 +37,7 @@ pub struct Explanation {
     pub sentence: Spans,
     pub because: Spans,
     pub focus: BTreeMap<u32, Mark>,
-    pub arrows: Vec<(Operation, Operation)>,
+    pub arrows: Vec<(DrawnOperation, DrawnOperation)>,
     pub alone: Alone,
     /// What the object contains before the refused entry, where that tells why.
     pub content: Option<Content>,
@@ -86,12 +86,12 @@ impl Explanation {
     }
 
     /// Shows the operation with this mark, if it has none yet.
-    pub fn mark(&mut self, operation: Operation, mark: Mark) {
+    pub fn mark(&mut self, operation: DrawnOperation, mark: Mark) {
         self.focus.entry(operation.number()).or_insert(mark);
     }
 
     /// Says the operation, which the figure then shows with this mark, if it has none yet.
-    fn say_operation(&mut self, operation: Operation, mark: Mark) {
+    fn say_operation(&mut self, operation: DrawnOperation, mark: Mark) {
         self.mark(operation, mark);
         self.say(spans![operation]);
     }
@@ -102,7 +102,7 @@ fn place_in(order: &[i64], number: i64) -> Option<usize> {
     order.iter().position(|other| *other == number)
 }
 
-fn place_of(order: &[i64], operation: &Operation) -> Option<usize> {
+fn place_of(order: &[i64], operation: &DrawnOperation) -> Option<usize> {
     place_in(order, i64::from(operation.number()))
 }
 
@@ -114,7 +114,7 @@ fn object_of(history: &History, number: u32) -> Option<&ObjectHistory> {
 }
 
 impl Refused<'_> {
-    fn operation(&self, number: u32) -> Option<Operation> {
+    fn operation(&self, number: u32) -> Option<DrawnOperation> {
         operation_at(self.operations, i64::from(number))
     }
 
@@ -167,7 +167,7 @@ impl Refused<'_> {
         text
     }
 
-    fn repeated(&self, operation: Operation) -> Explanation {
+    fn repeated(&self, operation: DrawnOperation) -> Explanation {
         let number = i64::from(operation.number());
         let mut places = (0..self.order.len()).filter(|place| self.order[*place] == number);
         let first = places.next().unwrap_or(0);
@@ -187,7 +187,7 @@ impl Refused<'_> {
         text
     }
 
-    fn too_late(&self, late: Operation, early: Operation, at: u32) -> Explanation {
+    fn too_late(&self, late: DrawnOperation, early: DrawnOperation, at: u32) -> Explanation {
         let invoked = early.number();
         let mut text = Explanation::new(place_of(self.order, &late), ZOOM);
         text.say(spans!["The order puts "]);
@@ -211,7 +211,7 @@ impl Refused<'_> {
         text
     }
 
-    fn omitted(&self, operation: Operation, at: u32) -> Explanation {
+    fn omitted(&self, operation: DrawnOperation, at: u32) -> Explanation {
         let mut text = Explanation::new(None, Alone::Never);
         text.say_operation(operation, Mark::LeftOut);
         text.say(spans![
@@ -225,7 +225,7 @@ impl Refused<'_> {
     }
 
     /// An explanation that begins with the entry's place, and what the object contains before it.
-    fn as_entry(&self, operation: Operation) -> (Explanation, Content) {
+    fn as_entry(&self, operation: DrawnOperation) -> (Explanation, Content) {
         let place = place_of(self.order, &operation).unwrap_or(0);
         let before = &self.order[..place];
         let walk = walk_along(
@@ -242,7 +242,7 @@ impl Refused<'_> {
         (text, walk.content)
     }
 
-    fn not_possible(&self, operation: Operation) -> Explanation {
+    fn not_possible(&self, operation: DrawnOperation) -> Explanation {
         let (mut text, content) = self.as_entry(operation);
         text.because = spans!["not possible"];
         if content.number().is_some() {
@@ -265,8 +265,8 @@ impl Refused<'_> {
         ]);
     }
 
-    /// An operation on a token is not possible, because of who holds it.
-    fn say_holder(&self, text: &mut Explanation, content: &Content, operation: Operation) {
+    /// An operation on a mutex or lock is not possible, because of who holds it.
+    fn say_holder(&self, text: &mut Explanation, content: &Content, operation: DrawnOperation) {
         let named = |number: Option<u32>| self.operation(number?);
         text.say(spans![" is not possible: the ", self.kind, " is "]);
         if let Some(holder) = named(content.holder().map(|(by, _)| by)) {
@@ -287,7 +287,7 @@ impl Refused<'_> {
         text.say(spans![". A ", self.kind, " is ", done, while_it_is]);
     }
 
-    fn wrong_reply(&self, operation: Operation, gives: Reply, returned: Reply) -> Explanation {
+    fn wrong_reply(&self, operation: DrawnOperation, gives: Reply, returned: Reply) -> Explanation {
         let (mut text, content) = self.as_entry(operation);
         text.say(spans![
             " gives ",
@@ -308,7 +308,7 @@ impl Refused<'_> {
     }
 
     /// Who put what the operation finds.
-    fn say_giver(&self, text: &mut Explanation, content: &Content, operation: &Operation) {
+    fn say_giver(&self, text: &mut Explanation, content: &Content, operation: &DrawnOperation) {
         let Some(item) = content.find(operation.op()) else {
             return;
         };
@@ -320,9 +320,14 @@ impl Refused<'_> {
     }
 
     /// The last other operation that was invoked before this number and puts the value in.
-    fn last_putter(&self, operation: &Operation, value: i64, before: u32) -> Option<Operation> {
+    fn last_putter(
+        &self,
+        operation: &DrawnOperation,
+        value: i64,
+        before: u32,
+    ) -> Option<DrawnOperation> {
         let key = operation.op().key();
-        let puts = |other: &&Operation| {
+        let puts = |other: &&DrawnOperation| {
             other.number() < before
                 && other.number() != operation.number()
                 && puts(other, key, value)
@@ -331,7 +336,7 @@ impl Refused<'_> {
     }
 
     /// Who put what the operation returned, and where in the order that is.
-    fn say_source(&self, text: &mut Explanation, operation: &Operation, returned: Reply) {
+    fn say_source(&self, text: &mut Explanation, operation: &DrawnOperation, returned: Reply) {
         let (Some(value), Some(end)) = (wanted(returned), operation.returned()) else {
             return;
         };
@@ -363,7 +368,7 @@ impl Refused<'_> {
     }
 
     /// Why a value that this operation put in before is not what is found.
-    fn say_turn(&self, text: &mut Explanation, source: &Operation, refused: usize) {
+    fn say_turn(&self, text: &mut Explanation, source: &DrawnOperation, refused: usize) {
         if self.kind.has_cells() {
             return text.say(spans!["."]);
         }
@@ -376,7 +381,7 @@ impl Refused<'_> {
     }
 
     /// The operation before this place of the order that takes out what the source put in.
-    fn taker_of(&self, source: &Operation, refused: usize) -> Option<(usize, Operation)> {
+    fn taker_of(&self, source: &DrawnOperation, refused: usize) -> Option<(usize, DrawnOperation)> {
         let mut content = Content::empty(self.kind);
         for (place, number) in self.order.iter().enumerate().take(refused) {
             let Some(operation) = operation_at(self.operations, *number) else {

@@ -5,7 +5,7 @@ use super::{Explained, number_in};
 use crate::drawing::{Faulty, FaultyDrawing, draw_up_to};
 use crate::elements::{ByteRange, elements_in, value_in};
 use crate::figures::FaultyMap;
-use crate::timeline::{Operation, Span, Spans, spans};
+use crate::timeline::{DrawnOperation, Span, Spans, spans};
 use crate::verdict::MapFaultKind;
 use finder::{FUNCTION_COUNT, History, read_history};
 
@@ -181,7 +181,7 @@ fn caption_of(kind: MapFaultKind) -> &'static str {
 /// An earlier map with which a faulty one clashes: its number and its operation.
 struct Earlier {
     number: u32,
-    operation: Operation,
+    operation: DrawnOperation,
 }
 
 /// The history before a faulty map, and the number of the map that it clashes with.

@@ -1,7 +1,7 @@
 //! Labels: an operation as text.
 
 use super::numbers::SHORTEST_CUT;
-use crate::timeline::{Operation, State};
+use crate::timeline::{DrawnOperation, State};
 use crate::words::Words;
 use finder::{Shape, Value};
 
@@ -17,11 +17,11 @@ pub fn count_text(count: usize) -> String {
 }
 
 /// The reply that a label shows; none if it says no more than the operation.
-fn shown_reply(operation: &Operation) -> Option<Value> {
+fn shown_reply(operation: &DrawnOperation) -> Option<Value> {
     let reply = operation.reply()?;
     let op = operation.op();
     let is_shown = match op.function.reply {
-        Shape::Token | Shape::Nothing | Shape::Silent => false,
+        Shape::Owner | Shape::Nothing | Shape::Silent => false,
         Shape::Done => reply.value() != op.argument,
         Shape::Content | Shape::NumberOrNothing | Shape::Swapped | Shape::Flag => true,
         Shape::Value | Shape::Number | Shape::Pair | Shape::Triple => true,
@@ -31,7 +31,7 @@ fn shown_reply(operation: &Operation) -> Option<Value> {
 
 /// The operation as text: its name, its argument unless that is nil, and what it returned where
 /// that is not its argument; a question mark where it is pending.
-pub fn label(operation: &Operation, words: &Words) -> String {
+pub fn label(operation: &DrawnOperation, words: &Words) -> String {
     let op = operation.op();
     let mut text = String::from(op.name());
     if op.argument != Value::Nil {

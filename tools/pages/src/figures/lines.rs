@@ -12,7 +12,7 @@ use super::scene::Scene;
 use super::segments::{Segment, segments_of, shown_operations};
 use super::ticks::{end_of_times, gaps_of, ticks_of};
 use crate::timeline::{
-    Arrow, Band, Bar, Cross, Figure, Lane, Line, NemesisMark, Operation, Point, sound_points,
+    Arrow, Band, Bar, Cross, DrawnOperation, Figure, Lane, Line, NemesisMark, Point, sound_points,
 };
 use std::collections::{BTreeMap, BTreeSet};
 
@@ -156,7 +156,7 @@ impl<'a> Sheet<'a> {
     }
 
     /// The arrow between two operations, if its two ends are in the line.
-    fn arrow(&self, earlier: Operation, later: Operation) -> Option<Arrow> {
+    fn arrow(&self, earlier: DrawnOperation, later: DrawnOperation) -> Option<Arrow> {
         let left = self.layout.left;
         let from = self.layout.event(earlier.returned()?)?;
         let to = self.layout.event(later.number())?;

@@ -4,7 +4,7 @@
 use super::moments::{Moment, moments_at, moments_of};
 use super::numbers::{FIRST, MOST};
 use super::window::{MOST_BEFORE, Stretch};
-use crate::timeline::Operation;
+use crate::timeline::DrawnOperation;
 use finder::Nemesis;
 use std::ops::Range;
 
@@ -20,16 +20,21 @@ const MOST_PLACES: usize = 32;
 
 /// The numbers around this one that have, besides the margins, `before` events before it and
 /// `after` from it on, if there are that many.
-fn numbers_near(operations: &[Operation], number: u32, before: usize, after: usize) -> Range<u32> {
+fn numbers_near(
+    operations: &[DrawnOperation],
+    number: u32,
+    before: usize,
+    after: usize,
+) -> Range<u32> {
     let place = operations.partition_point(|operation| operation.number() < number);
     let first = place.saturating_sub(before + MARGIN);
     let from = if first == 0 { 0 } else { operations[first].number() };
-    from..operations.get(place + after + MARGIN).map_or(u32::MAX, Operation::number)
+    from..operations.get(place + after + MARGIN).map_or(u32::MAX, DrawnOperation::number)
 }
 
 /// The numbers near to the stretch, or to the beginning if there is neither a stretch nor a focus,
 /// and near to each event of the focus; in rising order of their beginnings.
-fn all_near(operations: &[Operation], focus: &[u32], stretch: Stretch) -> Vec<Range<u32>> {
+fn all_near(operations: &[DrawnOperation], focus: &[u32], stretch: Stretch) -> Vec<Range<u32>> {
     let mut near = Vec::new();
     if stretch.is_given() {
         near.push(numbers_near(operations, stretch.from.unwrap_or(0), 0, MOST));
@@ -64,7 +69,7 @@ pub struct Near {
 
 /// Where the events are listed that a window may need: of few operations everywhere; of many near
 /// to the stretch and to the events of the focus, or at the beginning.
-pub fn near_to(operations: &[Operation], focus: &[u32], stretch: Stretch) -> Near {
+pub fn near_to(operations: &[DrawnOperation], focus: &[u32], stretch: Stretch) -> Near {
     let mut numbers = Vec::new();
     if operations.len() > FEW {
         numbers = join(all_near(operations, focus, stretch));
@@ -78,14 +83,14 @@ impl Near {
     }
 
     /// The events that are listed, in rising number; none is drawn.
-    pub fn moments(&self, operations: &[Operation], nemeses: &[Nemesis]) -> Vec<Moment> {
+    pub fn moments(&self, operations: &[DrawnOperation], nemeses: &[Nemesis]) -> Vec<Moment> {
         if self.has_all {
             return moments_of(operations, nemeses);
         }
         let begin = self.numbers.first().map_or(0, |numbers| numbers.start);
         let end = self.numbers.last().map_or(0, |numbers| numbers.end);
         let begun = &operations[..operations.partition_point(|it| it.number() < end)];
-        let is_late = |it: &Operation| it.ended.unwrap_or(it.number()) >= begin;
+        let is_late = |it: &DrawnOperation| it.ended.unwrap_or(it.number()) >= begin;
         let late = begun.iter().enumerate().filter(|(_, operation)| is_late(operation));
         let of_operations = late.flat_map(|(place, operation)| moments_at(place, operation));
         let of_nemeses = nemeses.iter().map(|nemesis| Moment::new(nemesis.number, None, false));

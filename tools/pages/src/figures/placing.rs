@@ -3,7 +3,7 @@
 use super::columns::{Column, What};
 use super::numbers::{LEFT, WIDEST};
 use super::scene::Scene;
-use crate::timeline::{Operation, operation_at};
+use crate::timeline::{DrawnOperation, operation_at};
 use std::collections::BTreeMap;
 
 /// The middle of a column, from the end of the lanes' names, and its line.
@@ -46,7 +46,7 @@ impl Layout {
         }
     }
 
-    fn room(&self, operation: &Operation) -> u32 {
+    fn room(&self, operation: &DrawnOperation) -> u32 {
         self.rooms.get(&operation.number()).copied().unwrap_or(0)
     }
 
@@ -87,7 +87,7 @@ impl Layout {
     }
 
     /// The end of the room of the operation's label, if that is in this line, otherwise 0.
-    fn label_end(&self, operation: &Operation) -> u32 {
+    fn label_end(&self, operation: &DrawnOperation) -> u32 {
         match self.event(operation.number()) {
             Some(begin) if begin.line == self.line => begin.x + self.room(operation),
             _ => 0,
@@ -127,7 +127,7 @@ impl Layout {
     }
 
     /// Whether a focus operation that began before this one has not ended then.
-    fn has_open_focus(&self, scene: &Scene, operation: &Operation) -> bool {
+    fn has_open_focus(&self, scene: &Scene, operation: &DrawnOperation) -> bool {
         let before = scene.focus.range(..operation.number());
         let mut before = before.filter_map(|(number, _)| {
             operation_at(scene.operations, i64::from(*number)).filter(|it| self.has_begun(it))
@@ -135,7 +135,7 @@ impl Layout {
         before.any(|it| it.closed().is_some_and(|end| end > operation.number()))
     }
 
-    fn has_begun(&self, operation: &Operation) -> bool {
+    fn has_begun(&self, operation: &DrawnOperation) -> bool {
         self.event(operation.number()).is_some_and(|spot| spot.line == self.line)
     }
 
@@ -206,7 +206,7 @@ impl Layout {
 }
 
 /// The focus operation that is invoked in the column.
-fn focus_invoked(scene: &Scene, column: &Column) -> Option<Operation> {
+fn focus_invoked(scene: &Scene, column: &Column) -> Option<DrawnOperation> {
     match &column.what {
         What::Event(moment) if moment.is_invocation => scene.operation(moment),
         _ => None,
@@ -216,7 +216,7 @@ fn focus_invoked(scene: &Scene, column: &Column) -> Option<Operation> {
 
 /// Where a focus operation ends, with those that begin before it ends and so on, and alone; none
 /// where it is pending.
-fn ends_of(scene: &Scene, operation: &Operation) -> Option<[u32; 2]> {
+fn ends_of(scene: &Scene, operation: &DrawnOperation) -> Option<[u32; 2]> {
     let alone = operation.closed()?;
     let mut last = alone;
     for number in scene.focus.range(operation.number() + 1..).map(|(number, _)| *number) {

@@ -3,7 +3,7 @@
 use super::labels::{characters, fit_label, label};
 use super::moments::Moment;
 use super::numbers::{LABEL_LENGTH, digits, label_room};
-use crate::timeline::{Mark, Operation};
+use crate::timeline::{DrawnOperation, Mark};
 use crate::words::Words;
 use finder::Nemesis;
 use std::collections::{BTreeMap, BTreeSet};
@@ -13,7 +13,7 @@ use std::collections::{BTreeMap, BTreeSet};
 #[derive(Clone)]
 pub struct Placed {
     pub rank: u32,
-    pub operation: Operation,
+    pub operation: DrawnOperation,
     pub anchor: u32,
     pub is_refused: bool,
     pub content: String,
@@ -23,7 +23,7 @@ pub struct Placed {
 /// what the sentence speaks of.
 #[derive(Clone, Copy)]
 pub struct Scene<'a> {
-    pub operations: &'a [Operation],
+    pub operations: &'a [DrawnOperation],
     pub moments: &'a [Moment],
     /// The maps of nemeses, in rising number.
     pub nemeses: &'a [Nemesis],
@@ -31,7 +31,7 @@ pub struct Scene<'a> {
     /// The operations that the sentence names, and what each is to it.
     pub focus: &'a BTreeMap<u32, Mark>,
     /// Pairs of operations of which the first returned before the second was invoked.
-    pub arrows: &'a [(Operation, Operation)],
+    pub arrows: &'a [(DrawnOperation, DrawnOperation)],
     /// Whether only the focus is drawn.
     pub is_zoom: bool,
     /// Whether the other operations are dimmed.
@@ -58,7 +58,7 @@ pub struct FaultyMap<'a> {
 }
 
 impl Scene<'_> {
-    pub fn operation(&self, moment: &Moment) -> Option<Operation> {
+    pub fn operation(&self, moment: &Moment) -> Option<DrawnOperation> {
         moment.of(self.operations)
     }
 
@@ -84,7 +84,7 @@ impl Scene<'_> {
     }
 
     /// Whether the faulty map is of the operation's process.
-    pub fn is_of_faulty(&self, operation: &Operation) -> bool {
+    pub fn is_of_faulty(&self, operation: &DrawnOperation) -> bool {
         self.faulty_process() == Some(operation.process)
     }
 
@@ -94,19 +94,19 @@ impl Scene<'_> {
         digits(u64::from(number)).max(time)
     }
 
-    pub fn is_focus(&self, operation: &Operation) -> bool {
+    pub fn is_focus(&self, operation: &DrawnOperation) -> bool {
         self.focus.contains_key(&operation.number())
     }
 
     /// What the operation is to the sentence.
-    pub fn mark(&self, operation: &Operation) -> Mark {
+    pub fn mark(&self, operation: &DrawnOperation) -> Mark {
         let other = if self.dims { Mark::Dim } else { Mark::Plain };
         self.focus.get(&operation.number()).copied().unwrap_or(other)
     }
 
     /// The label of an operation, no longer than the longest. If operations of several objects
     /// are drawn, it ends with the object.
-    pub fn label(&self, operation: &Operation) -> String {
+    pub fn label(&self, operation: &DrawnOperation) -> String {
         let mut text = label(operation, &self.words);
         if self.names_objects {
             text += &format!(" @{}", operation.object);
@@ -115,7 +115,7 @@ impl Scene<'_> {
     }
 
     /// The room that the label needs.
-    pub fn label_room(&self, operation: &Operation) -> u32 {
+    pub fn label_room(&self, operation: &DrawnOperation) -> u32 {
         label_room(characters(&self.label(operation)))
     }
 }

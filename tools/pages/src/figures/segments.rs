@@ -5,13 +5,13 @@ use super::moments::Moment;
 use super::numbers::{LANES, MOST};
 use super::placing::Layout;
 use super::scene::Scene;
-use crate::timeline::{Operation, State, operation_at};
+use crate::timeline::{DrawnOperation, State, operation_at};
 use std::collections::BTreeSet;
 
 /// The part of a bar in a line.
 #[derive(Clone, Copy)]
 pub struct Segment {
-    pub operation: Operation,
+    pub operation: DrawnOperation,
     pub line: usize,
     pub from: u32,
     pub to: u32,
@@ -74,7 +74,7 @@ pub fn stretch_between(
 }
 
 /// The last line that has an event or a point of a pending operation, from this line on.
-fn last_line_of(scene: &Scene, layout: &Layout, operation: &Operation, first: usize) -> usize {
+fn last_line_of(scene: &Scene, layout: &Layout, operation: &DrawnOperation, first: usize) -> usize {
     let is_its_point = |what: &What| match what {
         What::Point(place) => scene.points[*place].operation.number() == operation.number(),
         _ => false,
@@ -85,7 +85,7 @@ fn last_line_of(scene: &Scene, layout: &Layout, operation: &Operation, first: us
     lines.fold(first, usize::max)
 }
 
-fn right_end(scene: &Scene, layout: &Layout, operation: &Operation, left: BarEnd) -> BarEnd {
+fn right_end(scene: &Scene, layout: &Layout, operation: &DrawnOperation, left: BarEnd) -> BarEnd {
     if let Some(number) = operation.closed() {
         return end_at(layout, number, Side::Right);
     }
@@ -99,7 +99,7 @@ fn right_end(scene: &Scene, layout: &Layout, operation: &Operation, left: BarEnd
 fn pending_end(
     scene: &Scene,
     layout: &Layout,
-    operation: &Operation,
+    operation: &DrawnOperation,
     first: usize,
     last: usize,
 ) -> u32 {
@@ -120,7 +120,10 @@ fn stretches(moments: &[Moment]) -> Vec<u32> {
 }
 
 /// The operations that are open where some stretch begins.
-fn through<'a>(operations: &'a [Operation], starts: &[u32]) -> impl Iterator<Item = &'a Operation> {
+fn through<'a>(
+    operations: &'a [DrawnOperation],
+    starts: &[u32],
+) -> impl Iterator<Item = &'a DrawnOperation> {
     let first = starts.first().copied().unwrap_or(u32::MAX);
     let last = starts.last().copied().unwrap_or(0);
     let begun = &operations[..operations.partition_point(|it| it.number() < last)];
@@ -133,9 +136,9 @@ fn through<'a>(operations: &'a [Operation], starts: &[u32]) -> impl Iterator<Ite
 /// The operations that have a bar: those with a drawn event, and those that are open where a
 /// stretch begins, and return, while there are lanes and room. And how many others are open all
 /// through.
-pub fn shown_operations(scene: &Scene, layout: &Layout) -> (Vec<Operation>, usize) {
+pub fn shown_operations(scene: &Scene, layout: &Layout) -> (Vec<DrawnOperation>, usize) {
     let drawn = layout.rooms.keys();
-    let mut shown: Vec<Operation> =
+    let mut shown: Vec<DrawnOperation> =
         drawn.filter_map(|number| operation_at(scene.operations, i64::from(*number))).collect();
     let mut left_out = 0;
     if scene.is_zoom {
@@ -143,7 +146,7 @@ pub fn shown_operations(scene: &Scene, layout: &Layout) -> (Vec<Operation>, usiz
     }
     let starts = stretches(scene.moments);
     let mut processes: BTreeSet<u64> = shown.iter().map(|operation| operation.process).collect();
-    let is_outside = |operation: &&Operation| {
+    let is_outside = |operation: &&DrawnOperation| {
         !layout.rooms.contains_key(&operation.number())
             && !scene.without_lane.contains(&operation.number())
     };
@@ -160,7 +163,7 @@ pub fn shown_operations(scene: &Scene, layout: &Layout) -> (Vec<Operation>, usiz
 }
 
 /// The parts of the bar of an operation.
-fn segments_at(scene: &Scene, layout: &Layout, operation: Operation) -> Vec<Segment> {
+fn segments_at(scene: &Scene, layout: &Layout, operation: DrawnOperation) -> Vec<Segment> {
     let left = end_at(layout, operation.number(), Side::Left);
     let right = right_end(scene, layout, &operation, left);
     let segment = |line| {
@@ -181,6 +184,6 @@ fn segments_at(scene: &Scene, layout: &Layout, operation: Operation) -> Vec<Segm
 }
 
 /// The parts of the bars of these operations, in all lines.
-pub fn segments_of(scene: &Scene, layout: &Layout, operations: &[Operation]) -> Vec<Segment> {
+pub fn segments_of(scene: &Scene, layout: &Layout, operations: &[DrawnOperation]) -> Vec<Segment> {
     operations.iter().flat_map(|operation| segments_at(scene, layout, *operation)).collect()
 }

@@ -2,7 +2,7 @@
 
 use super::moments::Moment;
 use super::nemeses::{Spell, spells};
-use crate::timeline::{COLUMNS, DrawnStretch, Operation, State, Strip};
+use crate::timeline::{COLUMNS, DrawnOperation, DrawnStretch, State, Strip};
 use finder::Nemesis;
 use std::collections::BTreeSet;
 use std::ops::RangeInclusive;
@@ -21,7 +21,7 @@ fn first_of(column: u32, maps: u32) -> usize {
 
 /// For each column the most operations that run at once. One that is pending runs until its
 /// `:info`.
-fn heights(operations: &[Operation], maps: u32) -> Vec<u32> {
+fn heights(operations: &[DrawnOperation], maps: u32) -> Vec<u32> {
     let mut changes = vec![0_i32; maps as usize + 1];
     for operation in operations.iter().filter(|it| it.state() != State::Failed) {
         changes[operation.number() as usize] += 1;
@@ -60,7 +60,7 @@ fn columns(numbers: impl Iterator<Item = u32>, maps: u32) -> Vec<u32> {
 /// The strip of the operations of an object, of whose events some are drawn, and those with these
 /// numbers are what the sentence speaks of.
 pub fn strip_of(
-    operations: &[Operation],
+    operations: &[DrawnOperation],
     moments: &[Moment],
     nemeses: &[Nemesis],
     focus: &[u32],

@@ -2,7 +2,7 @@
 
 use super::moments::{Moment, count_drawn, draw_some};
 use super::numbers::{FIRST, LANES, MOST};
-use crate::timeline::Operation;
+use crate::timeline::DrawnOperation;
 use std::collections::{BTreeMap, BTreeSet};
 
 /// The events of a window, by the numbers of their maps: from one on, and below one. Without both
@@ -99,7 +99,11 @@ pub fn choose(moments: &mut [Moment], focus: &[u32], stretch: Stretch, whole: us
 type Nearness = (bool, usize, usize);
 
 /// The places of the drawn events of the focus; without any that of the first drawn event.
-fn focus_places(operations: &[Operation], moments: &[Moment], focus: &BTreeSet<u32>) -> Vec<usize> {
+fn focus_places(
+    operations: &[DrawnOperation],
+    moments: &[Moment],
+    focus: &BTreeSet<u32>,
+) -> Vec<usize> {
     let is_focus = |place: &usize| {
         moments[*place].of(operations).is_some_and(|it| focus.contains(&it.number()))
     };
@@ -117,7 +121,7 @@ fn distance(places: &[usize], place: usize) -> usize {
 
 /// The processes of drawn events, each with how near it is.
 fn processes(
-    operations: &[Operation],
+    operations: &[DrawnOperation],
     moments: &[Moment],
     focus: &BTreeSet<u32>,
 ) -> BTreeMap<u64, Nearness> {
@@ -153,7 +157,7 @@ pub struct WithoutLane {
 /// Keeps at most as many processes as there are lanes, those nearest to the focus, and says what of
 /// the window that leaves out.
 pub fn narrow(
-    operations: &[Operation],
+    operations: &[DrawnOperation],
     moments: &mut [Moment],
     focus: &BTreeSet<u32>,
 ) -> WithoutLane {

@@ -3,10 +3,10 @@
 use super::figures::{path, text_at};
 use super::html::{Html, html};
 use crate::figures::label;
-use crate::timeline::{Bar, Mark, Operation, Role, State};
+use crate::timeline::{Bar, DrawnOperation, Mark, Role, State};
 use crate::words::Words;
 
-fn role_class(operation: &Operation) -> &'static str {
+fn role_class(operation: &DrawnOperation) -> &'static str {
     match operation.role() {
         Role::Put => "put",
         Role::Take => "take",
@@ -15,7 +15,7 @@ fn role_class(operation: &Operation) -> &'static str {
     }
 }
 
-fn state_class(operation: &Operation) -> &'static str {
+fn state_class(operation: &DrawnOperation) -> &'static str {
     match operation.state() {
         State::Done => "done",
         State::Failed => "failed",
@@ -36,7 +36,7 @@ fn mark_class(mark: Mark) -> &'static str {
 }
 
 /// What became of the operation.
-fn became(operation: &Operation, words: &Words) -> Html {
+fn became(operation: &DrawnOperation, words: &Words) -> Html {
     let event = |at: Option<u32>| at.map(|at| words.event(at));
     match (operation.state(), operation.ended) {
         (State::Done, at) => html!["returned at event ", event(at)],
@@ -49,7 +49,7 @@ fn became(operation: &Operation, words: &Words) -> Html {
 }
 
 /// When it was invoked, and completed, where the history tells times.
-fn times(operation: &Operation, words: &Words) -> Option<Html> {
+fn times(operation: &DrawnOperation, words: &Words) -> Option<Html> {
     let begin = words.exact_time(operation.number())?;
     let end = operation.ended.and_then(|ended| words.exact_time(ended));
     Some(html!["\nfrom ", begin, end.map(|end| html![" to ", end])])

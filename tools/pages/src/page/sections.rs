@@ -8,8 +8,8 @@ use super::sentences::Shown;
 use super::tables::{is_narrow, order_table, tried_table};
 use crate::figures::count_text;
 use crate::timeline::{
-    DrawnStretch, Entry, Extent, Figure, Line, ObjectDrawing, Operation, Row, Span, Spans, Tried,
-    spans,
+    DrawnOperation, DrawnStretch, Entry, Extent, Figure, Line, ObjectDrawing, Row, Span, Spans,
+    Tried, spans,
 };
 
 /// How many operations a note names one by one at most.
@@ -131,7 +131,7 @@ fn reason_caption(drawing: &ObjectDrawing, figure: &Figure) -> Spans {
 }
 
 /// The operations of a reason that are not wholly within it, by their names if they are few.
-fn outside(operations: &[Operation], shown: &Shown) -> Option<Html> {
+fn outside(operations: &[DrawnOperation], shown: &Shown) -> Option<Html> {
     let more = operations.len().saturating_sub(MOST_NAMED);
     let more = (more > 0).then(|| html![", and ", count_text(more), " more"]);
     let named = shown.operations(operations.iter().take(MOST_NAMED));

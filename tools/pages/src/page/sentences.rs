@@ -2,7 +2,7 @@
 
 use super::html::{Html, html};
 use crate::figures::{count_text, label};
-use crate::timeline::{Figure, Operation, Span};
+use crate::timeline::{DrawnOperation, Figure, Span};
 use crate::words::Words;
 use std::collections::BTreeSet;
 
@@ -34,7 +34,7 @@ impl<'a> Shown<'a> {
         self.numbers.extend(&other.numbers);
     }
 
-    pub fn has(&self, operation: &Operation) -> bool {
+    pub fn has(&self, operation: &DrawnOperation) -> bool {
         self.numbers.contains(&operation.number())
     }
 
@@ -44,7 +44,7 @@ impl<'a> Shown<'a> {
     }
 
     /// An operation by its number and its label, which leads to its bar where that is shown.
-    pub fn operation(&self, operation: &Operation) -> Html {
+    pub fn operation(&self, operation: &DrawnOperation) -> Html {
         let number = operation.number();
         let name =
             html!["<b>#", self.words.event(number), "</b> ", code(&label(operation, &self.words))];
@@ -56,7 +56,7 @@ impl<'a> Shown<'a> {
     }
 
     /// The operations, one after the other.
-    pub fn operations<'b>(&self, operations: impl IntoIterator<Item = &'b Operation>) -> Html {
+    pub fn operations<'b>(&self, operations: impl IntoIterator<Item = &'b DrawnOperation>) -> Html {
         let mut comma = "";
         let with_comma = |operation| {
             let html = html![comma, self.operation(operation)];

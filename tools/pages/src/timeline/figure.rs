@@ -1,7 +1,7 @@
 //! A figure: lines of lanes with bars and points. Coordinates are whole numbers, from the left and
 //! from the top of the line.
 
-use crate::timeline::operations::Operation;
+use crate::timeline::operations::DrawnOperation;
 use crate::timeline::points::Point;
 
 /// What a bar is to the sentence.
@@ -25,7 +25,7 @@ pub enum Mark {
 
 /// The bar of an operation, or its part in a line.
 pub struct Bar {
-    pub operation: Operation,
+    pub operation: DrawnOperation,
     pub from: u32,
     pub to: u32,
     pub top: u32,
@@ -90,8 +90,8 @@ pub struct Lane {
 pub struct Arrow {
     pub from: (u32, u32),
     pub to: (u32, u32),
-    pub earlier: Operation,
-    pub later: Operation,
+    pub earlier: DrawnOperation,
+    pub later: DrawnOperation,
 }
 
 /// The faulty map of a text that is no history: its number, the number of the fault after the

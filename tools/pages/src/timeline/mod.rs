@@ -13,7 +13,7 @@ mod tables;
 pub use boxes::{BoxKind, ContentBox};
 pub use figure::{Arrow, Band, Bar, Cross, Figure, Gap, Lane, Line, Mark, NemesisMark, Tick};
 pub use objects::{DrawnStretch, Extent, ObjectDrawing};
-pub use operations::{Operation, Role, State, operation_at, operations_of};
+pub use operations::{DrawnOperation, Role, State, operation_at, operations_of};
 pub use points::{Point, sound_points};
 pub(crate) use spans::spans;
 pub use spans::{Span, Spans};

@@ -2,7 +2,7 @@
 
 use crate::timeline::boxes::ContentBox;
 use crate::timeline::figure::Figure;
-use crate::timeline::operations::Operation;
+use crate::timeline::operations::DrawnOperation;
 use crate::timeline::spans::Spans;
 use crate::timeline::strip::Strip;
 use crate::timeline::tables::{Row, Tried};
@@ -59,7 +59,7 @@ pub struct ObjectDrawing {
     pub from: Option<u32>,
     /// The operations of a reason that returned, and of which it counts no return: they may have
     /// taken effect outside of it.
-    pub outside: Vec<Operation>,
+    pub outside: Vec<DrawnOperation>,
 }
 
 impl ObjectDrawing {

@@ -1,7 +1,7 @@
 //! The operations of an object, with what a drawing needs of them.
 
 use finder::{Does, Need, Op, Reply};
-use finder::{End, History, Invocation, ObjectHistory};
+use finder::{End, History, ObjectHistory, Operation};
 
 /// What became of an operation.
 #[derive(Clone, Copy, PartialEq, Eq)]
@@ -29,14 +29,14 @@ pub enum Role {
 /// An operation of an object, its object and process, and the number of its completion; none where
 /// it has none.
 #[derive(Clone, Copy)]
-pub struct Operation {
-    pub invocation: Invocation,
+pub struct DrawnOperation {
+    pub invocation: Operation,
     pub object: u32,
     pub process: u64,
     pub ended: Option<u32>,
 }
 
-impl Operation {
+impl DrawnOperation {
     /// The number of its invocation, by which it is named.
     pub fn number(&self) -> u32 {
         self.invocation.number
@@ -87,11 +87,11 @@ impl Operation {
 }
 
 /// The operations of an object of the history, failed ones too, in rising number.
-pub fn operations_of(history: &History, object: &ObjectHistory) -> Vec<Operation> {
+pub fn operations_of(history: &History, object: &ObjectHistory) -> Vec<DrawnOperation> {
     let mut runs = history.runs.iter();
-    let operation = |invocation: &Invocation| {
+    let operation = |invocation: &Operation| {
         let run = runs.find(|run| run.number == invocation.number)?;
-        Some(Operation {
+        Some(DrawnOperation {
             invocation: *invocation,
             object: object.object,
             process: run.process,
@@ -102,8 +102,8 @@ pub fn operations_of(history: &History, object: &ObjectHistory) -> Vec<Operation
 }
 
 /// The operation with this number.
-pub fn operation_at(operations: &[Operation], number: i64) -> Option<Operation> {
+pub fn operation_at(operations: &[DrawnOperation], number: i64) -> Option<DrawnOperation> {
     let number = u32::try_from(number).ok()?;
-    let place = operations.binary_search_by_key(&number, Operation::number).ok()?;
+    let place = operations.binary_search_by_key(&number, DrawnOperation::number).ok()?;
     Some(operations[place])
 }

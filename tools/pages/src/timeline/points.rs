@@ -1,12 +1,12 @@
 //! Points: the entries of an order in a figure.
 
 use crate::timeline::figure::Bar;
-use crate::timeline::operations::Operation;
+use crate::timeline::operations::DrawnOperation;
 
 /// The point of an entry of an order, with its place in the order from 1.
 pub struct Point {
     pub rank: u32,
-    pub operation: Operation,
+    pub operation: DrawnOperation,
     pub x: u32,
     pub y: u32,
     pub is_refused: bool,

@@ -1,6 +1,6 @@
 //! Sentences as their spans.
 
-use crate::timeline::operations::Operation;
+use crate::timeline::operations::DrawnOperation;
 use finder::{Kind, Reply, Value};
 
 /// A part of a sentence.
@@ -20,7 +20,7 @@ pub enum Span {
     Value(Value),
     Kind(Kind),
     /// An operation: its number and its label.
-    Operation(Operation),
+    Operation(DrawnOperation),
     /// What the object contains before the entry that is refused.
     Content,
     /// What a text has at its fault.
@@ -94,8 +94,8 @@ impl From<Kind> for Span {
     }
 }
 
-impl From<Operation> for Span {
-    fn from(operation: Operation) -> Span {
+impl From<DrawnOperation> for Span {
+    fn from(operation: DrawnOperation) -> Span {
         Span::Operation(operation)
     }
 }

@@ -1,6 +1,6 @@
 //! The table of an order, and that of the orders that were tried.
 
-use crate::timeline::operations::Operation;
+use crate::timeline::operations::DrawnOperation;
 use finder::Reply;
 
 /// How an entry is to the fault of the order.
@@ -21,7 +21,7 @@ pub enum Row {
     Entry {
         rank: usize,
         number: i64,
-        operation: Option<Operation>,
+        operation: Option<DrawnOperation>,
         content: Option<String>,
         entry: Entry,
     },
@@ -40,9 +40,9 @@ pub enum Failure {
 /// An order up to an operation that does not fit: what comes before it, and what the object
 /// contains there.
 pub struct Attempt {
-    pub before: Vec<Operation>,
+    pub before: Vec<DrawnOperation>,
     pub content: String,
-    pub next: Operation,
+    pub next: DrawnOperation,
     pub failure: Failure,
 }
 
@@ -53,7 +53,7 @@ pub struct Tried {
     /// Whether all ways were tried.
     pub is_complete: bool,
     /// The operation at which each way ends, where that is the same one.
-    pub last: Option<Operation>,
+    pub last: Option<DrawnOperation>,
     /// The value that stands for all that the part does not keep, if one does.
     pub other: Option<i64>,
 }

@@ -1,7 +1,7 @@
 //! The calls of a heap, each placed in a gap.
 
 use super::shortages::{Cover, Demands, Shortage};
-use crate::residences::{Gaps, Removals, Residence, Touches, residences_of};
+use crate::residences::{Gaps, Removals, Residence, Transfers, residences_of};
 use crate::timeline::{Interval, PENDING};
 
 /// What comes first in one gap: extracts by rising value, each after its insert where that is in
@@ -44,18 +44,24 @@ fn last_gap(call: &Interval) -> u32 {
 
 /// The removals that are pending: a value must be gone where a greater one is extracted, or nothing
 /// is found, by a call that begins when its insert has returned.
-fn removals_of(end: u32, touches: &Touches, last_first: bool) -> Removals {
-    let mut removals = Removals::new(end, touches.unknown.clone(), last_first);
-    let extracts = touches.known.iter().filter(|touch| touch.takes).map(|touch| &touch.call);
-    extracts.chain(&touches.empties).for_each(|call| removals.note(call));
+fn removals_of(end: u32, transfers: &Transfers, last_first: bool) -> Removals {
+    let mut removals = Removals::new(end, transfers.unknown.clone(), last_first);
+    let extracts =
+        transfers.known.iter().filter(|transfer| transfer.takes).map(|transfer| &transfer.call);
+    extracts.chain(&transfers.empties).for_each(|call| removals.note(call));
     removals
 }
 
 impl Placing {
     /// All calls placed, as far as they have gaps, where values are to be gone in some. `None`: a
     /// removal has no put, or nothing can be mended.
-    pub fn of(end: u32, touches: &Touches, demands: &Demands, last_first: bool) -> Option<Placing> {
-        let mut removals = removals_of(end, touches, last_first);
+    pub fn of(
+        end: u32,
+        transfers: &Transfers,
+        demands: &Demands,
+        last_first: bool,
+    ) -> Option<Placing> {
+        let mut removals = removals_of(end, transfers, last_first);
         let mut placing = Placing {
             gaps: Gaps::new(end),
             placed: Vec::new(),
@@ -64,9 +70,9 @@ impl Placing {
             keeps_covers: !removals.is_empty(),
             end,
         };
-        for own in touches.by_value() {
-            let extracts = own.iter().filter(|touch| touch.takes);
-            extracts.for_each(|touch| removals.forget(&touch.call));
+        for own in transfers.by_value() {
+            let extracts = own.iter().filter(|transfer| transfer.takes);
+            extracts.for_each(|transfer| removals.forget(&transfer.call));
             let demands = demands.of(own[0].value);
             let gaps = &mut placing.gaps;
             let residences = residences_of(own, gaps, &mut removals, demands, last_first)?;
@@ -75,7 +81,7 @@ impl Placing {
                 return None;
             }
         }
-        placing.place_empties(&touches.empties);
+        placing.place_empties(&transfers.empties);
         Some(placing)
     }
 

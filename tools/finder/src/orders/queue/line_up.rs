@@ -5,7 +5,7 @@ use super::empties::{Empties, Empty};
 use super::room::Room;
 use super::sides::{Call, Side};
 use crate::orders::line::Line;
-use crate::residences::{NEVER, Touches};
+use crate::residences::{NEVER, Transfers};
 use crate::timeline::Interval;
 
 /// The places of a value's put and removal.
@@ -60,15 +60,15 @@ pub struct LineUp {
 
 impl LineUp {
     /// `None`: a value is taken more often than it is put in.
-    pub fn new(touches: Touches, end: u32, lavish: bool) -> Option<LineUp> {
-        let puts = Side::new(&touches.known, false);
-        let takes = Side::new(&touches.known, true);
+    pub fn new(transfers: Transfers, end: u32, lavish: bool) -> Option<LineUp> {
+        let puts = Side::new(&transfers.known, false);
+        let takes = Side::new(&transfers.known, true);
         Some(LineUp {
-            room: Room::new(&puts, &takes, touches.repeat())?,
-            empties: Empties::new(&touches, end)?,
+            room: Room::new(&puts, &takes, transfers.repeat())?,
+            empties: Empties::new(&transfers, end)?,
             puts,
             takes,
-            unknown: touches.unknown,
+            unknown: transfers.unknown,
             used: 0,
             lavish,
             turns: Vec::new(),

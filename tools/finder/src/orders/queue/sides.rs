@@ -1,6 +1,6 @@
 //! The puts, or the removals, that are left.
 
-use crate::residences::{NEVER, Touch};
+use crate::residences::{NEVER, Transfer};
 use crate::timeline::Interval;
 use crate::trees::{ABSENT, Least};
 use std::ops::Range;
@@ -30,14 +30,14 @@ pub struct Side {
 }
 
 impl Side {
-    /// The puts, or the removals, among these touches, which are sorted by their values.
-    pub fn new(all: &[Touch], takes: bool) -> Side {
+    /// The puts, or the removals, among these transfers, which are sorted by their values.
+    pub fn new(all: &[Transfer], takes: bool) -> Side {
         let mut calls = Vec::new();
         let mut starts = vec![0];
         let values = all.chunk_by(|one, other| one.value == other.value);
-        for (value, touches) in values.enumerate() {
-            let own = touches.iter().filter(|touch| touch.takes == takes);
-            calls.extend(own.map(|touch| Call { value, span: touch.call }));
+        for (value, transfers) in values.enumerate() {
+            let own = transfers.iter().filter(|transfer| transfer.takes == takes);
+            calls.extend(own.map(|transfer| Call { value, span: transfer.call }));
             starts.push(calls.len());
         }
         calls.sort_unstable_by_key(|call| (call.value, call.span.end));

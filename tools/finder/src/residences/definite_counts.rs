@@ -1,12 +1,12 @@
 //! How many values definitely are in a queue or stack at each gap, whichever removals take them: of
-//! a value as many as more of its puts have returned than removals have begun.
+//! each value, the number of its puts that have returned less that of its removals that have begun.
 
-use super::Touch;
+use super::Transfer;
 use super::residence::pair_by_counts;
 use crate::trees::Least;
 
 /// The number of values for each gap.
-pub struct Sure {
+pub struct DefiniteCounts {
     counts: Least,
 }
 
@@ -30,12 +30,12 @@ pub fn counts_of(ranges: impl Iterator<Item = (u32, u32)>, last: u32) -> Vec<i64
     numbers
 }
 
-impl Sure {
+impl DefiniteCounts {
     /// `None`: a value is taken more often than it is put in.
-    pub fn new(known: &[Touch], end: u32) -> Option<Sure> {
+    pub fn new(known: &[Transfer], end: u32) -> Option<DefiniteCounts> {
         let residences = pair_by_counts(known)?;
         let ranges = residences.iter().map(|it| (it.put.end, it.taken_from()));
-        Some(Sure { counts: Least::of(&counts_of(ranges, end)) })
+        Some(DefiniteCounts { counts: Least::of(&counts_of(ranges, end)) })
     }
 
     /// The first gap `from <= gap < to` in which the fewest values definitely are in the object.

@@ -5,7 +5,7 @@ use crate::timeline::{Call, Interval};
 
 /// A put or a removal of a value.
 #[derive(Clone, Copy, Debug)]
-pub struct Touch {
+pub struct Transfer {
     pub value: i64,
     pub takes: bool,
     pub call: Interval,
@@ -13,37 +13,39 @@ pub struct Touch {
 
 /// The calls of a queue, stack or heap.
 #[derive(Default)]
-pub struct Touches {
+pub struct Transfers {
     /// In rising value; of each value the puts and then the removals, in the order of their begins.
-    pub known: Vec<Touch>,
+    pub known: Vec<Transfer>,
     /// The calls that found nothing in the object.
     pub empties: Vec<Interval>,
     /// Removals that are pending, in the order of their begins.
     pub unknown: Vec<Interval>,
 }
 
-impl Touches {
-    pub fn of(calls: &[Call]) -> Touches {
-        let mut touches = Touches::default();
+impl Transfers {
+    pub fn of(calls: &[Call]) -> Transfers {
+        let mut transfers = Transfers::default();
         let mut taken = Vec::new();
         for call in calls {
             let span = call.span();
             match call.op.role(call.reply) {
-                Role::Puts(value) => touches.known.push(Touch { value, takes: false, call: span }),
-                Role::Takes(value) => taken.push(Touch { value, takes: true, call: span }),
-                Role::FindsNone => touches.empties.push(span),
-                Role::Unknown => touches.unknown.push(span),
+                Role::Puts(value) => {
+                    transfers.known.push(Transfer { value, takes: false, call: span })
+                }
+                Role::Takes(value) => taken.push(Transfer { value, takes: true, call: span }),
+                Role::FindsNone => transfers.empties.push(span),
+                Role::Unknown => transfers.unknown.push(span),
             }
         }
-        touches.known.append(&mut taken);
+        transfers.known.append(&mut taken);
         // The calls come in the order of their begins, which stays that of equal ones. Values are
         // often put in rising order: then these are sorted.
-        touches.known.sort_by_key(|touch| (touch.value, touch.takes));
-        touches
+        transfers.known.sort_by_key(|transfer| (transfer.value, transfer.takes));
+        transfers
     }
 
-    /// The touches of each value.
-    pub fn by_value(&self) -> impl Iterator<Item = &[Touch]> {
+    /// The transfers of each value.
+    pub fn by_value(&self) -> impl Iterator<Item = &[Transfer]> {
         self.known.chunk_by(|one, other| one.value == other.value)
     }
 
@@ -61,8 +63,9 @@ impl Touches {
     /// Whether a value is taken when it can't be in: at some moment more of its removals have
     /// returned than puts of it have begun.
     pub fn overdraw(&self) -> bool {
-        self.by_value().any(|touches| {
-            let (puts, takes) = touches.split_at(touches.partition_point(|touch| !touch.takes));
+        self.by_value().any(|transfers| {
+            let (puts, takes) =
+                transfers.split_at(transfers.partition_point(|transfer| !transfer.takes));
             let mut ends: Vec<u32> = takes.iter().map(|take| take.call.end).collect();
             ends.sort_unstable();
             ends.len() > puts.len() || ends.iter().zip(puts).any(|(end, put)| *end < put.call.begin)
