@@ -1,8 +1,8 @@
 //! The kinds of objects. A kind has one room, the file of its name here. The room says what the
 //! functions of the kind ask of a content and leave there, and has the words for it. It names the
 //! methods that find its orders and reasons, which are files of `orders` and `reasons`. All other
-//! code works by what a room says, or by the family of the kind: a container, cells, what is held or
-//! free, or a number.
+//! code works by what a room says, or by the family of the kind: a container, cells, what is held
+//! or free, or a number.
 //!
 //! A new kind is a room, and its lines in this file, the only one that lists the kinds.
 

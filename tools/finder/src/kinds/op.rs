@@ -198,8 +198,9 @@ impl Op {
         self.function.holds()
     }
 
-    /// Who holds the object after the operation, where this one does before it: its argument names who
-    /// acquires it, and who releases it. `None`: the operation is not possible, or on another kind.
+    /// Who holds the object after the operation, where this one does before it: its argument names
+    /// who acquires it, and who releases it. `None`: the operation is not possible, or on another
+    /// kind.
     pub fn next_holder(self, holder: Option<Value>) -> Option<Option<Value>> {
         match self.holds()? {
             true => holder.is_none().then_some(Some(self.argument)),

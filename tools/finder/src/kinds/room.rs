@@ -125,8 +125,8 @@ pub enum Shape {
     /// Nothing, or what a client notes if the store replied nothing: its argument, or that it was
     /// done.
     Silent,
-    /// What a client notes if it has acquired or released a lock: nothing, its owner, or that it was
-    /// done.
+    /// What a client notes if it has acquired or released a lock: nothing, its owner, or that it
+    /// was done.
     Owner,
 }
 

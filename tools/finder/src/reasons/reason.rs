@@ -20,8 +20,8 @@ pub struct Reason {
 }
 
 impl Reason {
-    /// Checks the reason: whether the part that it names has no valid order, by its count or by such
-    /// a search.
+    /// Checks the reason: whether the part that it names has no valid order, by its count or by
+    /// such a search.
     pub fn check(&self, history: &ObjectHistory, by: Trial) -> CheckedReason {
         let Some(part) = part_by(history, &self.cuts) else {
             return CheckedReason { part: None, searched: None };
@@ -42,8 +42,8 @@ impl Reason {
     }
 }
 
-/// A reason that was checked: the part, if it is shown to have no valid order, and the search of it,
-/// if one was needed.
+/// A reason that was checked: the part, if it is shown to have no valid order, and the search of
+/// it, if one was needed.
 pub struct CheckedReason {
     pub part: Option<ObjectHistory>,
     pub searched: Option<Searched>,

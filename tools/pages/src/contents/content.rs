@@ -163,8 +163,8 @@ impl Content {
         }
     }
 
-    /// The values in it, with their keys if it has keys; of a mutex or lock whether it is held, and its
-    /// owner.
+    /// The values in it, with their keys if it has keys; of a mutex or lock whether it is held, and
+    /// its owner.
     pub fn values(&self) -> Vec<i64> {
         match self {
             Content::Values(items) => items.values().iter().map(|item| item.value).collect(),
