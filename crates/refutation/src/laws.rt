@@ -45,7 +45,7 @@ pub fn part_is_not_linearizable()
     linearizable_has_orders();
 }
 
-/// The part's calls alone, as they are counted, are a history that has these calls and no others.
+/// The part's calls alone, as the part has them, are a history that has these calls and no others.
 /// It is not linearizable exactly if the part has no valid order.
 pub fn part_alone_is_not_linearizable()
     // The calls of a part of a history are a history, on its object, and have no other calls.
@@ -66,7 +66,7 @@ pub fn part_alone_is_not_linearizable()
     named_objects();
 }
 
-/// The operations at the numbers of a part, as the history says them and not as they are counted:
+/// The operations at the numbers of a part, as the history says them and not as the part has them:
 /// if the part has no valid order they have none, and alone they are not linearizable.
 pub fn listed_is_not_linearizable()
     ensures no_order { (cuts : List Cut) (x : ℕ) (kind : Kind) (h : List Numbered)
