@@ -1,11 +1,10 @@
 -- Reading certificates form by form: the forms so far have no fault, or this is the first one.
 use Rattle.std.proofs.Common.{◌≡◌, ◌≢◌, ℕ, zero, suc, ◌+◌, ◌<◌, ◌≤◌, ◌==◌, Bool, true, false, cond, List, [], ◌∷◌}
-use Rattle.std.proofs.Common.{◌++◌, length, take, get_or}
+use Rattle.std.proofs.Common.{◌++◌, length, get_or}
 use Rattle.std.proofs.Common.{map, option_map, Option, Some, None, Contains, refl, ap, sym, ◌∙◌, length-append, arith}
 use Rattle.std.specs.Prelude.{ℤ, ◌||◌, codes}
 use Rattle.std.specs.List.{list_any}
 use Rattle.std.proofs.lemmas.Bool.{both_ways, or_parts, eqb-true, eq-eqb}
-use Rattle.std.proofs.lemmas.List.{take_more}
 use Rattle.std.proofs.Math.ListN.{get_or-append}
 use Rattle.std.proofs.Math.Seq.{get_or-append_seam}
 use Rattle.std.proofs.lemmas.List.Quantifiers.{all_pairs_push}
@@ -232,9 +231,3 @@ nothing_here ds cs among d r h own new TwoForOneObject fault =
     both_ways ((get_or cs f.1.0 f.0).object == x) none
     (eq-eqb (get_or cs f.1.0 f.0).object x (ap (λ (b : Certificate). b.object) f.1.2 ∙ same))
 nothing_here ds cs among d r h own new NoMemory fault = fault
-
-pub taken_one_more : (fs : List Form) (i : ℕ) (f : Form) → i < length fs → f ≡ get_or fs i f
-    → views (take (i + 1) fs) ≡ views (take i fs) ++ view f ∷ []
-taken_one_more fs i f lt is =
-    ap views (take_more fs i f lt ∙ ap (λ (x : Form). take i fs ++ x ∷ []) (sym is))
-    ∙ map-append view (take i fs) (f ∷ [])

@@ -14,8 +14,8 @@ use Rattle.edn_reader.specs.Spells.{EndsToken}
 use Rattle.edn_reader.specs.Reading.{word, after_word, positive_of, negative_of, integer_of, keyword_of, literal_of}
 use Rattle.edn_reader.specs.Reading.{atom_of}
 use Rattle.edn_reader.proofs.Consumed.{kept_if, mapped}
-use Rattle.edn_reader.proofs.Strings.{some_is}
 use Rattle.std.specs.Str.{bytes_eq}
+use Rattle.std.proofs.lemmas.Option.{same_Some}
 use Rattle.edn_reader.proofs.Keys.{same_is}
 
 -- ---- bytes
@@ -194,11 +194,11 @@ literal_is : (a : Atom) (w : List ℕ) → literal_of w ≡ Some a → IsWord a 
 unfolding literal_of
 literal_is a w e =
     elim (chosen (bytes_eq w (codes "nil")) _ _ _ e) [
-      | inl p ↦ subst (λ (x : Atom). IsWord x w) (some_is nil a p.1) (same_is w (codes "nil") p.0)
+      | inl p ↦ subst (λ (x : Atom). IsWord x w) (same_Some nil a p.1) (same_is w (codes "nil") p.0)
       | inr p ↦ elim (chosen (bytes_eq w (codes "true")) _ _ _ p.1) [
-        | inl q ↦ subst (λ (x : Atom). IsWord x w) (some_is (boolean true) a q.1) (same_is w (codes "true") q.0)
+        | inl q ↦ subst (λ (x : Atom). IsWord x w) (same_Some (boolean true) a q.1) (same_is w (codes "true") q.0)
         | inr q ↦ elim (chosen (bytes_eq w (codes "false")) _ _ _ q.1) [
-          | inl r ↦ subst (λ (x : Atom). IsWord x w) (some_is (boolean false) a r.1) (same_is w (codes "false") r.0)
+          | inl r ↦ subst (λ (x : Atom). IsWord x w) (same_Some (boolean false) a r.1) (same_is w (codes "false") r.0)
           | inr r ↦ (let m = mapped integer (integer_of w) a r.1 in
               subst (λ (x : Atom). IsWord x w) m.2 (integer_is m.0 w m.1))
         ]

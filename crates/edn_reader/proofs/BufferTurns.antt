@@ -7,6 +7,7 @@ use Rattle.std.specs.Prelude.{option_map, option_and_then, IsSome, ◌==◌}
 use Rattle.std.proofs.lemmas.Bool.Decides.{nat_tests}
 use Rattle.std.proofs.lemmas.List.{append-nil}
 use Rattle.std.specs.Str.{IsUtf8}
+use Rattle.std.proofs.lemmas.Option.{same_Some}
 use Rattle.edn_reader.specs.Datum.{Datum, vector, dictionary, items_of, entries_of}
 use Rattle.edn_reader.specs.Token.{Token, open_vector, close_vector, open_map, close_map, leaf, tokens_of}
 use Rattle.edn_reader.specs.Spells.{Lexes, Spells}
@@ -18,7 +19,6 @@ use Rattle.edn_reader.specs.Shapes.{waits_for_key, put_in}
 use Rattle.edn_reader.specs.Elements.{SpellsFront, SpellsNothing, ReadsElement, KeepsToken}
 use Rattle.edn_reader.specs.Truncation.{Keep, nothing_kept, keep, keep_all}
 use Rattle.edn_reader.proofs.Cutting.{kept_tokens}
-use Rattle.edn_reader.proofs.Strings.{some_is}
 use Rattle.edn_reader.proofs.Consumed.{consumed, step_tokens, list_tokens, mapped, opened_at}
 use Rattle.edn_reader.proofs.Lexical.{first_shorter, skip_within, with_rest}
 use Rattle.edn_reader.specs.TokenBuffers.{IsSoundAfter}
@@ -31,7 +31,7 @@ use Rattle.edn_reader.proofs.StepsOnShapes.{step_shape}
 
 pub lexed_consumed : (us : List Token) (rest : List ℕ) (s z : State) → Lexes us rest → steps us s ≡ Some z
     → consumed z ≡ consumed s ++ us
-lexed_consumed [] rest s z l h = ap consumed (sym (some_is s z h)) ∙ sym (append-nil (consumed s))
+lexed_consumed [] rest s z l h = ap consumed (sym (same_Some s z h)) ∙ sym (append-nil (consumed s))
 lexed_consumed (u ∷ us) rest s z (q, n, l) h = by_step (step u s) refl h (λ x k. lexed_consumed us q x z l k)
   where
     by_step : (o : Option State) → step u s ≡ o → option_and_then (λ (x : State). steps us x) o ≡ Some z
@@ -106,7 +106,7 @@ pub step_first : (t : Token) (z : State) → step t opening ≡ Some z → IsGoi
 unfolding step
 step_first open_vector z e = open_going (in_vector []) opening z e refl
 step_first open_map z e = open_going (in_map []) opening z e refl
-step_first (leaf d) z e = inr (d, sym (some_is (closed (d ∷ [])) z e))
+step_first (leaf d) z e = inr (d, sym (same_Some (closed (d ∷ [])) z e))
 step_first t z e = absurd cc
 
 -- ---- one turn of the loop over an element's tokens

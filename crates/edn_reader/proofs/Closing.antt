@@ -3,6 +3,7 @@
 use Rattle.std.proofs.Common.{◌≡◌, ℕ, ◌-◌, ◌≤◌, false, Some, List, [], ◌∷◌, ◌++◌, length, refl, sym, ap, subst, ◌∙◌}
 use Rattle.std.proofs.Common.{append_assoc, arith}
 use Rattle.std.proofs.lemmas.List.{append-nil}
+use Rattle.std.proofs.lemmas.Option.{same_Some}
 use Rattle.edn_reader.specs.Datum.{nil, keyword, Datum, atom, vector, dictionary}
 use Rattle.edn_reader.specs.Datum.{items_of, entries_of, DatumFits, ItemsFit, EntriesFit}
 use Rattle.edn_reader.specs.Token.{Token, open_vector, close_vector, open_map, close_map, leaf, tokens_of}
@@ -11,7 +12,6 @@ use Rattle.edn_reader.specs.Reading.{close_vector_at, close_map_at, takes_key, o
 use Rattle.edn_reader.proofs.Consumed.{kept_if_not, mapped, opened_at, list_tokens, pairs_tokens-append}
 use Rattle.edn_reader.proofs.Consumed.{frame_tokens, stack_tokens, put_tokens}
 use Rattle.edn_reader.proofs.Kept.{FrameFits, StackFits, entries_fit-append, put_fits}
-use Rattle.edn_reader.proofs.Strings.{some_is}
 
 -- the text is outermost, and each frame that holds another waits for a value
 abbrev pub IsGrounded : Frame → List Frame → Type 0
@@ -26,15 +26,15 @@ IsGrounded (in_pair es k) (f ∷ fs) = (takes_key f ≡ false) × IsGrounded f f
 -- ---- a step keeps it
 
 same_place : (f g : Frame) (d : Datum) (fs : List Frame) → put f d ≡ Some g → IsGrounded f fs → IsGrounded g fs
-same_place (in_text ds) g d fs e h = subst (λ (x : Frame). IsGrounded x fs) (some_is (in_text (ds ++ d ∷ [])) g e) h
+same_place (in_text ds) g d fs e h = subst (λ (x : Frame). IsGrounded x fs) (same_Some (in_text (ds ++ d ∷ [])) g e) h
 same_place (in_vector ds) g d (x ∷ xs) e h =
-    subst (λ (y : Frame). IsGrounded y (x ∷ xs)) (some_is (in_vector (ds ++ d ∷ [])) g e) h
+    subst (λ (y : Frame). IsGrounded y (x ∷ xs)) (same_Some (in_vector (ds ++ d ∷ [])) g e) h
 same_place (in_map es) g (atom (keyword k)) (x ∷ xs) e h =
     let p = kept_if_not (has_key k es) (in_pair es k) g e in subst (λ (y : Frame). IsGrounded y (x ∷ xs)) p.1 h
 same_place (in_map es) g (atom a) (x ∷ xs) e h = absurd cc
 same_place (in_map es) g d (x ∷ xs) e h = absurd cc
 same_place (in_pair es k) g d (x ∷ xs) e h =
-    subst (λ (y : Frame). IsGrounded y (x ∷ xs)) (some_is (in_map (es ++ (k, d) ∷ [])) g e) h
+    subst (λ (y : Frame). IsGrounded y (x ∷ xs)) (same_Some (in_map (es ++ (k, d) ∷ [])) g e) h
 same_place f g d fs e h = absurd h
 
 opened : (f : Frame) (s z : State)

@@ -7,7 +7,7 @@ use Rattle.std.specs.Prelude.{option_and_then, nat_lt}
 use Rattle.std.proofs.lemmas.List.{append-nil}
 use Rattle.std.proofs.lemmas.Bool.{lt-ltb, or_from}
 use Rattle.std.specs.Str.{bytes_eq}
-use Rattle.edn_reader.proofs.Strings.{some_is}
+use Rattle.std.proofs.lemmas.Option.{same_Some}
 use Rattle.edn_reader.proofs.Keys.{same_not}
 use Rattle.edn_reader.specs.Datum.{Datum, atom, vector, dictionary, Items, no_items, item, Entries, no_entries}
 use Rattle.edn_reader.specs.Datum.{entry, items_of, entries_of, Lacks, DatumFits, ItemsFit, EntriesFit}
@@ -42,7 +42,7 @@ by_first ts us None z ih h = absurd cc
 by_first ts us (Some x) z ih h = ih x h
 
 pub steps-append : (ts us : List Token) (s z : State) → steps ts s ≡ Some z → steps (ts ++ us) s ≡ steps us z
-steps-append [] us s z e = ap (λ (x : State). steps us x) (some_is s z e)
+steps-append [] us s z e = ap (λ (x : State). steps us x) (same_Some s z e)
 steps-append (t ∷ ts) us s z e = by_first ts us (step t s) z (λ x h. steps-append ts us x z h) e
 
 -- the keys that came before are none of those that come

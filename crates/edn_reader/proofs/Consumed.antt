@@ -5,7 +5,7 @@ use Rattle.std.proofs.Common.{refl, ap, append_assoc}
 use Rattle.std.specs.Prelude.{option_map, nat_lt}
 use Rattle.std.proofs.lemmas.Bool.{ltb-true}
 use Rattle.std.proofs.lemmas.List.{append-nil}
-use Rattle.edn_reader.proofs.Strings.{some_is}
+use Rattle.std.proofs.lemmas.Option.{same_Some}
 use Rattle.edn_reader.specs.Datum.{Atom, keyword, Datum, atom, vector, dictionary, items_of, entries_of, max_open}
 use Rattle.edn_reader.specs.Token.{Token, open_vector, close_vector, open_map, close_map, leaf, tokens_of, items_tokens}
 use Rattle.edn_reader.specs.Token.{entries_tokens}
@@ -66,12 +66,12 @@ put_key_tokens es (keyword k) g e = let h = kept_if_not (has_key k es) (in_pair 
 put_key_tokens es a g e = absurd cc
 
 pub put_tokens : (f : Frame) (d : Datum) (g : Frame) → put f d ≡ Some g → frame_tokens g ≡ frame_tokens f ++ tokens_of d
-put_tokens (in_text ds) d g e = rw (← some_is (in_text (ds ++ d ∷ [])) g e) (list_tokens-append ds d)
+put_tokens (in_text ds) d g e = rw (← same_Some (in_text (ds ++ d ∷ [])) g e) (list_tokens-append ds d)
 put_tokens (in_vector ds) d g e =
-    rw (← some_is (in_vector (ds ++ d ∷ [])) g e, list_tokens-append ds d) refl
+    rw (← same_Some (in_vector (ds ++ d ∷ [])) g e, list_tokens-append ds d) refl
 put_tokens (in_map es) (atom a) g e = put_key_tokens es a g e
 put_tokens (in_pair es k) d g e =
-    rw (← some_is (in_map (es ++ (k, d) ∷ [])) g e, pairs_tokens-append es k d) (simp append_assoc)
+    rw (← same_Some (in_map (es ++ (k, d) ∷ [])) g e, pairs_tokens-append es k d) (simp append_assoc)
 put_tokens f d g e = absurd cc
 
 -- a leaf holds a single element

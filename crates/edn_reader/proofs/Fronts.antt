@@ -4,6 +4,7 @@ use Rattle.std.proofs.Common.{◌≡◌, ℕ, ◌<◌, ◌≤◌, Option, Some, 
 use Rattle.std.specs.Prelude.{option_and_then}
 use Rattle.std.specs.Str.{IsUtf8}
 use Rattle.std.proofs.lemmas.List.{append-nil}
+use Rattle.std.proofs.lemmas.Option.{same_Some}
 use Rattle.edn_reader.specs.Datum.{Datum, DatumFits, items_of, max_open}
 use Rattle.edn_reader.specs.Elements.{SpellsFront, PassesElement}
 use Rattle.edn_reader.specs.Reading.{in_text, State, step, steps, opening, closed}
@@ -14,7 +15,6 @@ use Rattle.edn_reader.proofs.Next.{next_from}
 use Rattle.edn_reader.proofs.Prefixes.{not_nothing}
 use Rattle.edn_reader.proofs.Progress.{Progress, goes_on, next_shorter}
 use Rattle.edn_reader.proofs.BufferTurns.{start, element_front}
-use Rattle.edn_reader.proofs.Strings.{some_is}
 
 -- ---- what is left is shorter
 
@@ -43,7 +43,7 @@ both_begin (t ∷ ts) us text mid rest (q, n, b) k = (q, n, both_begin ts us q m
 progress : (ts : List Token) (text mid rest : List ℕ) (s z : State) → BeginWith ts mid rest → steps ts s ≡ Some z
     → Progress text mid s → Progress text rest z
 progress [] text mid rest s z b e p =
-    rw (← b, ← some_is s z e) p
+    rw (← b, ← same_Some s z e) p
 progress (t ∷ ts) text mid rest s z (q, n, b) e p =
     by_step (step t s) refl e
     (λ x h k. progress ts text q rest x z b k (goes_on text mid t q s x (next_from mid t q n) h p))

@@ -9,9 +9,9 @@ use Rattle.edn_reader.specs.Token.{Token, open_vector, close_vector, open_map, c
 use Rattle.edn_reader.specs.Reading.{Frame, in_text, in_vector, in_map, in_pair, State, has_key, put_key, put, close_as}
 use Rattle.edn_reader.specs.Reading.{close_vector_at, close_map_at, open_at, step}
 use Rattle.std.specs.Str.{bytes_eq}
+use Rattle.std.proofs.lemmas.Option.{same_Some}
 use Rattle.edn_reader.proofs.Keys.{same_self}
 use Rattle.edn_reader.proofs.Consumed.{kept_if_not, mapped, IsPlain, opened_at}
-use Rattle.edn_reader.proofs.Strings.{some_is}
 
 items_fit-append : (n : ℕ) (ds : List Datum) (d : Datum) → ItemsFit n (items_of ds) → DatumFits n d
     → ItemsFit n (items_of (ds ++ d ∷ []))
@@ -57,12 +57,12 @@ put_key_fits n es a g h e = absurd cc
 pub put_fits : (n : ℕ) (f : Frame) (d : Datum) (g : Frame) → FrameFits n f → DatumFits n d → put f d ≡ Some g
     → FrameFits n g
 put_fits n (in_text ds) d g h k e =
-    subst (FrameFits n) (some_is (in_text (ds ++ d ∷ [])) g e) (items_fit-append n ds d h k)
+    subst (FrameFits n) (same_Some (in_text (ds ++ d ∷ [])) g e) (items_fit-append n ds d h k)
 put_fits n (in_vector ds) d g h k e =
-    subst (FrameFits n) (some_is (in_vector (ds ++ d ∷ [])) g e) (items_fit-append n ds d h k)
+    subst (FrameFits n) (same_Some (in_vector (ds ++ d ∷ [])) g e) (items_fit-append n ds d h k)
 put_fits n (in_map es) (atom a) g h k e = put_key_fits n es a g h e
 put_fits n (in_pair es x) d g h k e =
-    subst (FrameFits n) (some_is (in_map (es ++ (x, d) ∷ [])) g e) (entries_fit-append n es x d h.0 h.1 k)
+    subst (FrameFits n) (same_Some (in_map (es ++ (x, d) ∷ [])) g e) (entries_fit-append n es x d h.0 h.1 k)
 put_fits n f d g h k e = absurd cc
 
 open_fits : (f : Frame) (s z : State) → ((n : ℕ) → FrameFits n f) → StateFits s → open_at f s ≡ Some z → StateFits z

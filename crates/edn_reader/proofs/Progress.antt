@@ -8,13 +8,13 @@ use Rattle.std.specs.Prelude.{option_map, IsSome, ◌==◌}
 use Rattle.std.proofs.lemmas.Bool.{eqb-true}
 use Rattle.std.proofs.lemmas.List.{append-nil}
 use Rattle.std.specs.Str.{IsUtf8}
+use Rattle.std.proofs.lemmas.Option.{same_Some}
 use Rattle.edn_reader.specs.Datum.{Datum, items_of}
 use Rattle.edn_reader.specs.Token.{Token}
 use Rattle.edn_reader.specs.Spells.{Begins, IsNext, IsEnding, Lexes, Spells}
 use Rattle.edn_reader.specs.Reading.{Next, after_token, end, bad, got, skip, first, next, in_text, State, step, steps}
 use Rattle.edn_reader.specs.Reading.{opening, closed}
 use Rattle.edn_reader.proofs.Consumed.{IsPlain, consumed, step_tokens, list_tokens}
-use Rattle.edn_reader.proofs.Strings.{some_is}
 use Rattle.edn_reader.proofs.Complete.{items_list, steps_items}
 use Rattle.edn_reader.proofs.Splits.{after_gap, after_begins}
 use Rattle.edn_reader.proofs.Kept.{StateFits, step_fits}
@@ -129,7 +129,7 @@ pub ends_there : (text rest : List ℕ) (s : State) → next rest ≡ end → Pr
 ends_there text rest s e p ds h = let a = left text rest s ds p h in by_tokens a.0 a.1 a.2
   where
     by_tokens : (us : List Token) → Lexes us rest → steps us s ≡ Some (closed ds) → s ≡ closed ds
-    by_tokens [] l k = some_is s (closed ds) k
+    by_tokens [] l k = same_Some s (closed ds) k
     by_tokens (u ∷ us) (q, n, l) k = let x = next_from rest u q n in absurd cc
 
 pub spells_there : (text rest : List ℕ) (ds : List Datum) → next rest ≡ end → Progress text rest (closed ds)
@@ -242,5 +242,5 @@ same_tokens (t ∷ ts) (u ∷ us) bytes (r, m, h) (q, n, k) =
 pub one_reading_of : (ds es : List Datum) (text : List ℕ) → Spells ds text → Spells es text → ds ≡ es
 one_reading_of ds es text h k =
     let ts : list_tokens ds ≡ list_tokens es = same_tokens (list_tokens ds) (list_tokens es) text h.tokens k.tokens in
-    closed_are ds es (some_is (closed ds) (closed es)
+    closed_are ds es (same_Some (closed ds) (closed es)
     (sym (leads ds text h) ∙ ap (λ (x : List Token). steps x opening) ts ∙ leads es text k))

@@ -4,11 +4,12 @@ use Rattle.std.proofs.Common.{◌≡◌, ℕ, ◌<◌, ◌-◌, false, Option, S
 use Rattle.std.proofs.Common.{sym, ap, ◌∙◌, arith, inl, inr}
 use Rattle.std.specs.Prelude.{◌==◌, option_map}
 use Rattle.std.proofs.lemmas.Bool.{ne_eqb}
+use Rattle.std.proofs.lemmas.Option.{same_Some}
 use Rattle.edn_reader.specs.Spells.{escape_of, IsQuoted, IsEscaped}
 use Rattle.edn_reader.specs.Reading.{with_byte, string_at, string_end, got, got_string}
 use Rattle.edn_reader.specs.Pieces.{unquoted, unescaped}
 use Rattle.edn_reader.proofs.FrontsInTexts.{take-front}
-use Rattle.edn_reader.proofs.Strings.{some_is, string_is, string_less}
+use Rattle.edn_reader.proofs.Strings.{string_is, string_less}
 use Rattle.edn_reader.specs.Datum.{string, atom}
 use Rattle.edn_reader.specs.Token.{leaf}
 
@@ -50,7 +51,7 @@ raw_is text rest h = by_string (string_at text) refl h
         → string_at text ≡ Some (unquoted (take (length text - length rest - 1) text), rest)
     by_string None e k = absurd cc
     by_string (Some p) e k =
-        let r : p.1 ≡ rest = some_is p.1 rest k in
+        let r : p.1 ≡ rest = same_Some p.1 rest k in
         let q = string_is text p.0 p.1 e in
         let n : length text - length rest - 1 ≡ length text - length (34 ∷ rest) = omega arith in
         let w : q.0 ++ 34 ∷ rest ≡ text = ap (λ (x : List ℕ). q.0 ++ 34 ∷ x) (sym r) ∙ sym q.2 in

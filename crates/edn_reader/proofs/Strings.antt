@@ -4,12 +4,10 @@ use Rattle.std.proofs.Common.{◌≡◌, ℕ, ◌<◌, Bool, true, false, cond, 
 use Rattle.std.proofs.Common.{refl, sym, ap, arith, inl, inr}
 use Rattle.std.specs.Prelude.{◌==◌, option_and_then}
 use Rattle.std.proofs.lemmas.List.{length-append}
+use Rattle.std.proofs.lemmas.Option.{same_Some}
 use Rattle.std.proofs.lemmas.Bool.{eqb-true, eqb-false, ne_eqb}
 use Rattle.edn_reader.specs.Spells.{escape_of, IsQuoted, IsEscaped}
 use Rattle.edn_reader.specs.Reading.{with_byte, string_at, escaped_at}
-
-pub some_is : {A : Type 0} (x y : A) → Some x ≡ Some y → x ≡ y
-some_is x y e = cc
 
 mutual
   pub string_from : (own s rest : List ℕ) → IsQuoted own s → string_at (own ++ 34 ∷ rest) ≡ Some (s, rest)
@@ -42,7 +40,7 @@ with_byte_is : (b : ℕ) (o : Option (List ℕ × List ℕ)) (s rest : List ℕ)
     → (t : List ℕ) × (o ≡ Some (t, rest)) × (s ≡ b ∷ t)
 with_byte_is b None s rest e = absurd cc
 with_byte_is b (Some p) s rest e =
-    let q = some_is {A = List ℕ × List ℕ} (b ∷ p.0, p.1) (s, rest) e in
+    let q = same_Some {A = List ℕ × List ℕ} (b ∷ p.0, p.1) (s, rest) e in
     (p.0, ap (λ (x : List ℕ × List ℕ). found p.0 x.1) q, ap (λ (x : List ℕ × List ℕ). x.0) (sym q))
 
 -- by the first byte b: m says whether it is a quote, n whether it is a backslash
@@ -52,7 +50,7 @@ quoted_by : (b : ℕ) (bs s rest : List ℕ) (m n : Bool) → (b == 34) ≡ m �
     → cond m (Some ([], bs)) (cond n (escaped_at bs) (with_byte b (string_at bs))) ≡ Some (s, rest)
     → Quoted (b ∷ bs) s rest
 quoted_by b bs s rest true n hm hn ih jh e =
-    let q = some_is {A = List ℕ × List ℕ} ([], bs) (s, rest) e in (
+    let q = same_Some {A = List ℕ × List ℕ} ([], bs) (s, rest) e in (
       [],
       ap (λ (x : List ℕ × List ℕ). x.0) (sym q),
       rw (eqb-true b 34 hm) (ap (λ (x : List ℕ × List ℕ). 34 ∷ x.1) q),

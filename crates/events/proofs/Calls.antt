@@ -5,7 +5,7 @@ use Rattle.std.proofs.Common.{◌≡◌, ℕ, ◌==◌, ◌&&◌, Bool, true, fa
 use Rattle.std.proofs.Common.{Some, None, refl, ap, sym, ◌∙◌, subst}
 use Rattle.std.specs.List.{cons_option}
 use Rattle.std.specs.Option.{option_or}
-use Rattle.std.proofs.lemmas.Bool.{eqb-true, eqb-false, eq-eqb, ne_eqb}
+use Rattle.std.proofs.lemmas.Bool.{and_from, eqb-true, eqb-false, eq-eqb, ne_eqb}
 use Rattle.std.proofs.lemmas.List.Elements.{filter_map-append}
 use Rattle.model.specs.declared.AnyOp.{AnyOp}
 use Rattle.model.specs.Orders.{Numbered, Return, Call, ProcessCall, response_of, calls_in, calls_on}
@@ -16,6 +16,8 @@ use Rattle.events.specs.Events.{next_event, is_fail, fails, denoted_by, denoted,
 use Rattle.events.specs.Operations.{end_by, end_at, begun, operations_on, return_of, call_with, call_of, calls_of}
 use Rattle.events.proofs.ProcessRuns.{State, idle, busy, closed, state_by, MayDo, Runs, runs_from_start}
 use Rattle.events.proofs.WellFormed.{event_at}
+
+-- ---- responses
 
 -- what is before the responses of a process does not matter to it
 skips : (p x : ℕ) (e : Event) (failed : Bool) (rest : List Numbered) → (e.process == p) ≡ false
@@ -56,12 +58,9 @@ answered_own : (n p y : ℕ) (a : Action) (es : List Event) (x : ℕ) (op : AnyO
     → Runs p (state_by y a) es → Answered p x (event_at n p y a ∷ es)
 answered_own n p y (Invoke o) es x op may rest = absurd may
 answered_own n p y (Ok r) es x op may rest = λ h.
-    let is : ((p == p) && (x == y)) ≡ true = both (p == p) (x == y) (eq-eqb p p refl) (eq-eqb x y (sym may.0)) in
+    let is : ((p == p) && (x == y)) ≡ true = and_from (p == p) (x == y) (eq-eqb p p refl) (eq-eqb x y (sym may.0)) in
     ap (λ t. option_or (cond t (Some (record { at = n; reply = r })) None) (response_of p x (denoted es))) is
     ∙ sym (ap (λ (o : Option Event). return_of (end_at o)) (next_own n p y (Ok r) es))
-  where
-    both : (b c : Bool) → b ≡ true → c ≡ true → (b && c) ≡ true
-    both b c q r = cc
 answered_own n p y Fail es x op may rest = λ h.
     let failed : fails (next_event p (event_at n p y Fail ∷ es)) ≡ true = ap fails (next_own n p y Fail es) in
     absurd (cc (h, failed))

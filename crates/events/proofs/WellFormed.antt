@@ -1,9 +1,10 @@
 -- Proper events denote a well-formed history (`denoted_is_history`): of each process it has an invocation, then its
 -- response, in turn. By induction along the events, for each process by itself. In the lemmas n is the number of an
 -- event, p its process, x its object and a its action; es are the events after it, and s is the process's state.
-use Rattle.std.proofs.Common.{◌≡◌, ℕ, ◌==◌, ◌<◌, ◌&&◌, Bool, true, false, cond, IsTrue, ◌⊎◌, inl, inr, List, []}
-use Rattle.std.proofs.Common.{◌∷◌, ◌++◌, map, Some, refl, ap, sym, ◌∙◌, subst, arith}
-use Rattle.std.proofs.lemmas.Bool.{eqb-true, eq-eqb}
+use Rattle.std.proofs.Common.{◌≡◌, ℕ, ◌==◌, ◌<◌, Bool, true, false, cond, IsTrue, ◌⊎◌, inl, inr, List, []}
+use Rattle.std.proofs.Common.{◌∷◌, ◌++◌, Some, refl, ap, sym, ◌∙◌, subst, arith}
+use Rattle.std.proofs.lemmas.Bool.{and_from, eqb-true, eq-eqb}
+use Rattle.std.proofs.lemmas.List.{map-append}
 use Rattle.std.proofs.lemmas.List.Elements.{filter-append}
 use Rattle.model.specs.declared.AnyOp.{AnyOp}
 use Rattle.model.specs.declared.AnyReply.{AnyReply}
@@ -25,10 +26,6 @@ own p es = by_process p (events (denoted es))
 -- what one event leaves there
 abbrev pub own_first : ℕ → Event → Bool → List model.Event
 own_first p e failed = by_process p (events (denoted_by e.number e.process e.object e.action failed))
-
-map-append : {X Y : Type 0} (f : X → Y) (xs ys : List X) → map f (xs ++ ys) ≡ map f xs ++ map f ys
-map-append f [] ys = refl
-map-append f (x ∷ xs) ys = ap (λ zs. f x ∷ zs) (map-append f xs ys)
 
 own_cons : (p : ℕ) (e : Event) (es : List Event)
     → own p (e ∷ es) ≡ own_first p e (fails (next_event e.process es)) ++ own p es
@@ -66,11 +63,10 @@ invoked : (p x : ℕ) (op : AnyOp) (s : List model.Event) → Answers p x s → 
 invoked p x op s (inl e) = subst (λ t. IsSequential (Inv p x op ∷ t)) (sym e) refl
 invoked p x op s (inr a) = subst (λ t. IsSequential (Inv p x op ∷ t)) (sym a.2) (own_match, a.3)
   where
-    both : (b c : Bool) → b ≡ true → c ≡ true → (b && c) ≡ true
-    both b c q r = cc
-
     own_match : IsTrue (matches (Inv p x op) (Res p x a.0))
-    own_match = both (p == p) (x == x) (eq-eqb p p refl) (eq-eqb x x refl)
+    own_match = and_from (p == p) (x == x) (eq-eqb p p refl) (eq-eqb x x refl)
+
+-- ---- from one event on
 
 -- the event with this number, process, object and action
 abbrev pub event_at : ℕ → ℕ → ℕ → Action → Event

@@ -2,7 +2,7 @@
 -- is the first fault of all (`first_fault`). By what one more form adds to events and to what is kept.
 use Rattle.std.proofs.Common.{◌≡◌, ℕ, ◌+◌, ◌<◌, ◌≤◌, ◌⊎◌, inl, inr, List, [], ◌∷◌, ◌++◌, length, take, drop, get_or}
 use Rattle.std.proofs.Common.{zero, suc, zero-add, refl, ap, sym, ◌∙◌, subst, arith}
-use Rattle.std.proofs.lemmas.List.{append-nil, length-append, map_push, take_more, take_all}
+use Rattle.std.proofs.lemmas.List.{append-nil, length-append, take_all}
 use Rattle.edn_reader.specs.Datum.{Datum}
 use Rattle.edn_reader.specs.View.{view, views}
 use Rattle.edn_reader.specs.declared.form.Form.{Form}
@@ -12,6 +12,7 @@ use Rattle.history.specs.declared.fault.HistoryFault.{HistoryFault}
 use Rattle.history.specs.declared.fault.HistoryFaultKind.{HistoryFaultKind}
 use Rattle.history.specs.Maps.{client_of}
 use Rattle.edn.specs.FirstFaults.{AreFaultless}
+use Rattle.edn.proofs.FormsRead.{views_more}
 use Rattle.history.specs.Faults.{max_maps, IsHistoryFormFault, HasNoHistoryFault, IsFirstFault}
 use Rattle.history.specs.Denotes.{event_of, events_of_forms, Denotes}
 use Rattle.history.specs.Seen.{IsSeen, HasNoFault, HasFirst, IsFormRead}
@@ -74,11 +75,6 @@ next_form_read old new number ds d es more h few small r =
 
 -- ---- the forms so far
 
--- and one more
-one_form : (fs : List Form) (i : ℕ) (f : Form) → i < length fs → f ≡ get_or fs i f → views (take (i + 1) fs) ≡ views
-    (take i fs) ++ view f ∷ []
-one_form fs i f l is = rw (take_more fs i f l, ← is) (map_push view (take i fs) f)
-
 -- the forms up to the next one have no fault, if it has none
 pub faultless_more : (seen : Seen) (fs : List Form) (i : ℕ) (f : Form) (es : List Event) → i < length fs
     → f ≡ get_or fs i f
@@ -86,7 +82,7 @@ pub faultless_more : (seen : Seen) (fs : List Form) (i : ℕ) (f : Form) (es : L
     → HasNoHistoryFault
     (views (take (i + 1) fs))
 faultless_more seen fs i f es l is h none =
-    rw (one_form fs i f l is) (faultless_push IsHistoryFormFault (views (take i fs)) (view f) h.faultless none)
+    rw (views_more fs i f l is) (faultless_push IsHistoryFormFault (views (take i fs)) (view f) h.faultless none)
 
 -- one form more
 pub one_read : (old new : Seen) (fs : List Form) (i : ℕ) (f : Form) (es more : List Event) → i < length fs
@@ -95,7 +91,7 @@ pub one_read : (old new : Seen) (fs : List Form) (i : ℕ) (f : Form) (es more :
     → AreEventsRead new (i + 1)
     (views (take (i + 1) fs)) (es ++ more)
 one_read old new fs i f es more l is few small h r =
-    rw (one_form fs i f l is) (next_form_read old new i (views (take i fs)) (view f) es more h few small r)
+    rw (views_more fs i f l is) (next_form_read old new i (views (take i fs)) (view f) es more h few small r)
 
 -- the fault of the next form is the first of all, if the forms before it have none
 pub first_fault : (seen : Seen) (fs : List Form) (i : ℕ) (f : Form) (es : List Event) (k : HistoryFaultKind)

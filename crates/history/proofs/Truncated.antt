@@ -2,6 +2,7 @@
 -- process, t a type, f a function and x an object, as a map has them, and v and w are two values.
 use Rattle.std.proofs.Common.{arith, ◌≡◌, ℕ, Option, Some, None, List, codes, refl, sym, ap, subst, ◌∙◌}
 use Rattle.std.specs.Prelude.{option_map, is_some}
+use Rattle.std.proofs.lemmas.Option.{same_Some}
 use Rattle.edn_reader.specs.Truncation.{most_items, truncated_item, truncated_items, truncated_value, truncated_entries}
 use Rattle.edn_reader.specs.Truncation.{truncated, integer_in}
 use Rattle.edn_reader.specs.Datum.{Datum, vector, dictionary, Items, no_items, item, Entries}
@@ -11,7 +12,6 @@ use Rattle.history.specs.Maps.{MapType, type_in, object_at, tuple_in, plain_valu
 use Rattle.history.specs.Views.{client_map, IsClient, Says}
 use Rattle.history.specs.declared.client_map.ClientMap as code
 use Rattle.history.specs.Names.{function_named}
-use Rattle.edn_reader.proofs.Strings.{some_is}
 use Rattle.history.specs.declared.client_map.OperationMap.{OperationMap}
 use Rattle.history.specs.declared.client_map.OperationMap.TheVariants.{OfClient, Ignored, Neither}
 
@@ -42,7 +42,7 @@ another : (p : Option ℕ) (t : Option MapType) (f : Option (List ℕ)) (x : Opt
     → IsClient (Some c) (client_with p t f x v) → IsClient (Some c) (client_with p t f x w)
 another (Some p) (Some t) (Some f) (Some x) v w c e (u, q, k) =
     let m : ClientMap = record { process = p; type = t; function = function_named f; object = x; value = v } in
-    let s : m ≡ client_map c u = some_is m (client_map c u) q in (
+    let s : m ≡ client_map c u = same_Some m (client_map c u) q in (
       w,
       ap (λ (n : ClientMap). Some (record n { value = w })) s,
       sym e ∙ ap (λ (n : ClientMap). plain_value n.value) s ∙ k,

@@ -22,7 +22,7 @@ use Rattle.seq_objects.specs.Functions.{name_of}
 use Rattle.edn.specs.Fields.{same_bytes, value_at}
 use Rattle.edn.proofs.Finding.{same_bytes_is}
 use Rattle.history.specs.Maps as spec
-use Rattle.history.specs.Maps.{type_named, short_in, object_at, client_with, plain_value}
+use Rattle.history.specs.Maps.{type_named, short_in, object_at, plain_value}
 use Rattle.history.specs.Views.{map_type, client_map}
 use Rattle.history.specs.UsualForms.{ReadsUsual, type_name, ReadsValue, LackEach, operation_keys, keys_to_object}
 use Rattle.history.specs.UsualForms.{keys_to_index, IsNoneOf, ReadsLast}

@@ -1,8 +1,9 @@
 -- A status of yes means that a certificate is found for each object (`yes_of`, `each_found`), and the text is that of
 -- the certificates (`found_text`). By induction over the answers.
-use Rattle.std.proofs.Common.{arith, ◌≡◌, ◌∙◌, ◌&&◌, Bool, true, ℕ, List, [], ◌∷◌, ◌++◌, All, Option, Some, IsSome}
+use Rattle.std.proofs.Common.{arith, ◌≡◌, ◌∙◌, Bool, true, ℕ, List, [], ◌∷◌, ◌++◌, All, Option, Some, IsSome}
 use Rattle.std.proofs.Common.{refl, ap, sym, subst, inl, inr}
 use Rattle.std.specs.List.{list_all, cons_option, filter_map}
+use Rattle.std.proofs.lemmas.Bool.{and_parts}
 use Rattle.std.proofs.lemmas.List.{append-nil}
 use Rattle.model.specs.Lists.{In}
 use Rattle.model.proofs.Lists.{all_from_in}
@@ -23,9 +24,6 @@ no_of b c e = grind arith
 
 -- ---- all found
 
-pub both_true : (a b : Bool) → (a && b) ≡ true → (a ≡ true) × (b ≡ true)
-both_true a b e = grind arith
-
 -- answers with or without a certificate, and the text that their lines make up
 module _ {A : Type 0} (is_found : A → Bool) (certificate : A → Option Certificate) (line : A → List ℕ)
     (text : List A → List ℕ)
@@ -35,7 +33,7 @@ module _ {A : Type 0} (is_found : A → Bool) (certificate : A → Option Certif
   each_in : (answers : List A) → list_all is_found answers ≡ true → (a : A) → In a answers → IsSome (certificate a)
   each_in [] e a i = absurd i
   each_in (b ∷ rest) e a i =
-      let parts = both_true (is_found b) (list_all is_found rest) e in
+      let parts = and_parts (is_found b) (list_all is_found rest) e in
       elim i [
         | inl s ↦ subst (λ (x : A). IsSome (certificate x)) (sym s) (subst IsSome (sym (found b parts.0).1) refl)
         | inr j ↦ each_in rest parts.1 a j
@@ -48,7 +46,7 @@ module _ {A : Type 0} (is_found : A → Bool) (certificate : A → Option Certif
       → text answers ≡ certificate_lines (filter_map certificate answers)
   found_text [] e = nothing
   found_text (a ∷ rest) e =
-      let parts = both_true (is_found a) (list_all is_found rest) e in
+      let parts = and_parts (is_found a) (list_all is_found rest) e in
       let one = found a parts.0 in
       more a rest ∙ ap (λ x. x ++ text rest) (one.2 ∙ append-nil (certificate_line one.0))
       ∙ ap (λ x. certificate_line one.0 ++ x) (found_text rest parts.1)

@@ -3,6 +3,7 @@
 use Rattle.std.proofs.Common.{arith, ◌≡◌, ◌∙◌, ◌||◌, ℕ, true, false, Bool, cond, List, [], ◌∷◌, ◌++◌, inl, inr, refl}
 use Rattle.std.proofs.Common.{ap, sym, subst, map, Any, IsSome, append_assoc}
 use Rattle.std.specs.List.{AllZip, flat_map, list_all, list_any}
+use Rattle.std.proofs.lemmas.Bool.{and_parts}
 use Rattle.std.proofs.lemmas.List.Folds.{Any-from_list_any}
 use Rattle.std.proofs.lemmas.List.{flat_map_more, map_push}
 use Rattle.std.proofs.lemmas.List.Sorted.{Contains-permutation}
@@ -32,7 +33,6 @@ use Rattle.history_commands.specs.declared.finding.Finding.TheVariants.{Certifie
 use Rattle.history_commands.specs.declared.merging.Merging.{Merging}
 use Rattle.history_commands.specs.declared.status.Status.{Status}
 use Rattle.history_commands.specs.declared.status.Status.TheVariants as ends
-use Rattle.history_commands.proofs.AllFound.{both_true}
 use Rattle.history_commands.proofs.Findings.{all_certified, no_refuted, own_finding, some_refuted, worst_push}
 use Rattle.history_commands.proofs.Findings.{yes_certified}
 
@@ -92,7 +92,7 @@ certificates : (ds : List (ℕ × Decision)) → list_all (λ d. is_order d.1) d
     → IsSome (certificate_decided d.1)
 certificates [] e d i = absurd i
 certificates (b ∷ ds) e d i =
-    let parts = both_true (is_order b.1) (list_all (λ c. is_order c.1) ds) e in
+    let parts = and_parts (is_order b.1) (list_all (λ c. is_order c.1) ds) e in
     elim i [
       | inl q ↦ subst (λ (x : ℕ × Decision). IsSome (certificate_decided x.1)) (sym q) (order_certificate b.1 parts.0)
       | inr j ↦ certificates ds parts.1 d j

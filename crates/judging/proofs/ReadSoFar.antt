@@ -1,23 +1,12 @@
 -- The text that was read so far is a beginning of what the source gives; one more piece keeps this (`next_piece`).
 -- At the end of the source, or at the limit, it is all (`came_to_end`, `came_to_limit`).
-use Rattle.std.proofs.Common.{◌-◌, take, subst, ◌≡◌, ℕ, ◌+◌, ◌<◌, ◌≤◌, List, [], ◌++◌, length}
-use Rattle.std.proofs.Common.{Option, Some, None, false, Bool, refl, ap, sym, ◌∙◌, arith}
+use Rattle.std.proofs.Common.{◌-◌, take, subst, ◌≡◌, ℕ, ◌+◌, ◌<◌, ◌≤◌, List, [], ◌++◌, length, Option, false, Bool}
+use Rattle.std.proofs.Common.{ap, sym, ◌∙◌, arith}
 use Rattle.std.specs.Io.KnownBytes.{Consumes}
-use Rattle.std.proofs.lemmas.List.{append_assoc, length-append, length-take-le, append-nil}
+use Rattle.std.proofs.KnownBytes.{Consumes-nil, Consumes-trans}
+use Rattle.std.proofs.lemmas.List.{length-append, length-take-le, append-nil}
 use Rattle.std.proofs.Math.Seq.{take-append_seam}
 use Rattle.edn.specs.Given.{GivesBytes, WasRead}
-
-pub nothing_consumed : (o : Option (List ℕ)) → Consumes o o []
-nothing_consumed None = tt
-nothing_consumed (Some xs) = refl
-
--- two pieces, one after the other
-pub next_consumed : (old mid new : Option (List ℕ)) (xs ys : List ℕ) → Consumes old mid xs
-    → Consumes mid new ys → Consumes old new (xs ++ ys)
-next_consumed None mid new xs ys h k = tt
-next_consumed (Some os) None new xs ys h k = absurd h
-next_consumed (Some os) (Some ms) None xs ys h k = absurd k
-next_consumed (Some os) (Some ms) (Some ns) xs ys h k = h ∙ (ap (λ z. xs ++ z) k ∙ sym (append_assoc xs ys ns))
 
 -- what was read so far; the buffer has room for this many bytes
 pub record IsReading (limit : ℕ) (old now : Option (List ℕ)) (bytes : List ℕ) (room : ℕ) (broken : Bool) : Type 0 where
@@ -45,7 +34,7 @@ next_piece limit old now new bytes whole buf behind stored n room given len was 
     ∙ (length-append bytes (take given buf) ∙ ap (λ k. length bytes + k) (length-take-le given buf within)) in
     record {
       consumed = subst (Consumes old new) (sym reads)
-          (next_consumed old now new bytes (take given buf) h.consumed gave.consumed);
+          (Consumes-trans old now new bytes (take given buf) h.consumed gave.consumed);
       within = (let r = h.some in omega arith);
       some = (let r = h.some in omega arith);
       usable = usable;
@@ -59,7 +48,7 @@ pub came_to_end : (limit : ℕ) (old now new : Option (List ℕ)) (bytes buf : L
 came_to_end limit old now new bytes buf n room given len was h is below cut long none gave =
     record {
       consumed = subst (Consumes old new) (append-nil bytes)
-          (next_consumed old now new bytes [] h.consumed
+          (Consumes-trans old now new bytes [] h.consumed
           (subst (λ k. Consumes now new (take k buf)) none gave.consumed));
       within = h.within;
       whole = λ l. gave.ended none (let r = h.some in omega arith);
@@ -75,7 +64,7 @@ came_to_limit limit old now bytes n room was h is full = record
 pub begins : (limit : ℕ) (o : Option (List ℕ)) (bytes : List ℕ) (room : ℕ) (broken : Bool) → bytes ≡ [] → 0 < room
     → broken ≡ false → IsReading limit o o bytes room broken
 begins limit o bytes room broken is some usable = record {
-  consumed = subst (Consumes o o) (sym is) (nothing_consumed o);
+  consumed = subst (Consumes o o) (sym is) (Consumes-nil o);
   within = subst (λ xs. length xs ≤ limit) (sym is) (omega arith);
   some = some;
   usable = usable;

@@ -14,6 +14,7 @@ use Rattle.std.specs.Map.{lookup}
 use Rattle.std.proofs.Math.Nat.{mod-lt}
 use Rattle.std.proofs.lemmas.Bool.{cases_eq}
 use Rattle.std.proofs.lemmas.List.{append-nil}
+use Rattle.std.proofs.lemmas.Option.{same_Some}
 use Rattle.std.proofs.lemmas.Map.Keys.{sorted_head, sorted_tail}
 use Rattle.std.proofs.lemmas.Map.Lookups.{exact_unsigned}
 use Rattle.std.proofs.lemmas.Map.Views.{All-found, btree_map_get_iff}
@@ -161,7 +162,7 @@ whole_more : (es : List Event) (n parts : ℕ) (os : List ObjectCalls) (m next :
 whole_more es n parts os m next part put h = record {
   right = λ x o is. elim (put x) [
     | inl p ↦
-        let same : p.0 ≡ o = some_is p.0 o (sym p.3 ∙ is) in
+        let same : p.0 ≡ o = same_Some p.0 o (sym p.3 ∙ is) in
         subst (IsHistoryOfObject es x) same
         (subst (λ y. IsHistoryOfObject es y p.0) p.2 (of_part es n parts os p.0 part (in_from_contains os p.0 p.1)))
     | inr p ↦ h.right x o (sym p.1 ∙ is)
@@ -175,9 +176,6 @@ whole_more es n parts os m next part put h = record {
   ];
 }
   where
-    some_is : (a b : ObjectCalls) → Some a ≡ Some b → a ≡ b
-    some_is a b q = cc
-
     below : (a b : ℕ) → a < b + 1 → a ≢ b → a < b
     below a b l ne = elim (cases_eq a b) [ inl e ↦ absurd (ne e) | inr d ↦ omega (arith, l, d) ]
 

@@ -4,7 +4,7 @@ use Rattle.std.proofs.lemmas.List.{append-nil}
 use Rattle.std.proofs.Math.Seq.{take-append_seam}
 use Rattle.std.specs.Io.KnownBytes.{Consumes}
 use Rattle.edn.specs.Given.{GivesBytes}
-use Rattle.judging.proofs.ReadSoFar.{nothing_consumed, one_more_consumed}
+use Rattle.std.proofs.KnownBytes.{Consumes-nil, Consumes-trans}
 
 -- what was read of the source since it had so much left, and how the text has grown by it
 pub record IsMore (left left_after : Option (List ℕ)) (text text_after : List ℕ) : Type 0 where
@@ -13,7 +13,7 @@ pub record IsMore (left left_after : Option (List ℕ)) (text text_after : List 
   pub grown : text_after ≡ text ++ more
 
 pub no_more : (left : Option (List ℕ)) (text : List ℕ) → IsMore left left text text
-no_more left text = record { more = []; consumed = nothing_consumed left; grown = sym (append-nil text) }
+no_more left text = record { more = []; consumed = Consumes-nil left; grown = sym (append-nil text) }
 
 -- what is stored in the buffer are the bytes that were put there
 pub some_more : {left now left_after : Option (List ℕ)} {text mid buf : List ℕ} {given : ℕ}
@@ -24,7 +24,7 @@ some_more {left} {now} {left_after} {text} {mid} {buf} {given} text_after behind
     let same : stored ≡ buf = rw (at, ← long) (take-append_seam buf behind) in
     record {
       more = h.more ++ take given buf;
-      consumed = one_more_consumed left now left_after h.more (take given buf) h.consumed gave.consumed;
+      consumed = Consumes-trans left now left_after h.more (take given buf) h.consumed gave.consumed;
       grown = joined ∙ rw same (ap (λ xs. xs ++ take given buf) h.grown ∙ append_assoc text h.more (take given buf));
     }
 
@@ -34,6 +34,6 @@ pub came_to_end : {left now left_after : Option (List ℕ)} {text mid buf : List
 came_to_end {left} {now} {left_after} h gave none = record {
   more = h.more;
   consumed = rw (append-nil h.more) at
-      (one_more_consumed left now left_after h.more [] h.consumed (rw none at gave.consumed));
+      (Consumes-trans left now left_after h.more [] h.consumed (rw none at gave.consumed));
   grown = h.grown;
 }

@@ -1,6 +1,6 @@
 -- One claim after another: what each makes of the decisions on all objects.
 use Rattle.std.proofs.Common.{◌≡◌, ◌≢◌, ◌∙◌, ◌<◌, ◌≤◌, ◌⊎◌, ℕ, List, [], ◌∷◌, ◌++◌, All, AllPairs, length, map}
-use Rattle.std.proofs.Common.{get_or, inl, inr, refl, ap, sym, subst, arith}
+use Rattle.std.proofs.Common.{get_or, inl, inr, refl, ap, sym, arith}
 use Rattle.std.proofs.Math.ListN.{set}
 use Rattle.std.proofs.Math.Seq.{map-set_same}
 use Rattle.std.proofs.lemmas.Bool.{cases_eq, cases_order}
@@ -22,7 +22,7 @@ use Rattle.verifying.specs.declared.claim.Claim.{Claim}
 use Rattle.verifying.specs.Denotes.{claim_object}
 use Rattle.verifying.specs.declared.decision.Decision.{Decision}
 use Rattle.verifying.specs.Decisions.{IsDecision}
-use Rattle.verifying.specs.Taking.{AreAllOpen, AreDecided, AreDecisionsTaken, IsDecidedAt, IsNextDecision, no_answer}
+use Rattle.verifying.specs.Taking.{AreAllOpen, AreDecided, AreDecisionsTaken, IsNextDecision, no_answer}
 use Rattle.verifying.proofs.Decided.{IsDecided}
 use Rattle.verifying.proofs.Further.{other_stays}
 

@@ -6,7 +6,8 @@ use Rattle.edn_reader.specs.View.{views}
 use Rattle.edn_reader.specs.declared.form.Form.{Form}
 use Rattle.certificate.specs.Denotes.{Denotes, AreDistinct}
 use Rattle.certificate.specs.Texts.{IsCertFaultIn, IsCertificateReading}
-use Rattle.certificate.proofs.Reading.{not_denoted, taken_one_more}
+use Rattle.edn.proofs.FormsRead.{views_more}
+use Rattle.certificate.proofs.Reading.{not_denoted}
 use Rattle.certificate.proofs.reader.read_certificates.Goals as goal
 
 pub loop-form-init : goal.loop-form-init
@@ -20,7 +21,7 @@ loop-form-preserved c =
     let lt : i < length fs = omega (arith, c.loop-form-test.true, ap length c.deref-form-items.ensures.value) in
     let is : f ≡ get_or fs i f =
     c.form-item.is ∙ ap (λ (xs : List Form). get_or xs i f) c.deref-form-items.ensures.value in
-    rw (taken_one_more fs i f lt is) (c.take.ensures (views (take i fs)) c.loop-form.invariant)
+    rw (views_more fs i f lt is) (c.take.ensures (views (take i fs)) c.loop-form.invariant)
 
 all_read : (c : goal.After-drop-forms) → IsCertificateReading c.loop-form.reading (views c.args.forms.items)
 all_read c =

@@ -5,9 +5,8 @@ use Rattle.std.proofs.lemmas.List.{append-nil, nil_from_length}
 use Rattle.events.specs.Operations.{ObjectCalls}
 use Rattle.checker.proofs.Certificates.{are_objects}
 use Rattle.checker.proofs.Collected.{distinct, valid}
-use Rattle.verifying.specs.declared.claim.Claim.{Claim}
 use Rattle.verifying.specs.Decisions.{certificate_decided}
-use Rattle.verifying.specs.Taking.{AreAllOpen, AreDecided, AreDecisionsTaken}
+use Rattle.verifying.specs.Taking.{AreDecisionsTaken}
 use Rattle.verifying.proofs.Decided.{IsDecided, certifies, lacks_order, not_linearizable}
 use Rattle.verifying.proofs.Taken.{decided_on_all, none_claimed, claim_taken, same_length}
 use Rattle.verifying.proofs.all.decide_by_claims.Goals as goal
