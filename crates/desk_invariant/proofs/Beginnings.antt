@@ -21,7 +21,7 @@ use Rattle.desk_invariant.specs.declared.board.Held.TheVariants as held
 use Rattle.desk_invariant.specs.declared.board.PutBack.{PutBack}
 use Rattle.desk_invariant.specs.declared.board.Role.TheVariants as role
 use Rattle.desk_invariant.specs.declared.board.DeskView.{DeskView}
-use Rattle.desk_model.specs.World.{AnyRequest, absent, idle, posted, picked, World, initial_world, kind_at}
+use Rattle.desk_model.specs.World.{absent, idle, posted, World, initial_world, kind_at}
 use Rattle.desk_model.specs.World.{entries_of_client, StartsWith, request_of}
 use Rattle.desk_model.specs.Transitions.{changed, staged}
 use Rattle.desk_model.proofs.Changed.{changed_here, changed_else}
@@ -31,7 +31,7 @@ use Rattle.desk_invariant.specs.Views.{seen_of, received_of, with_own}
 use Rattle.desk_invariant.specs.Rule.{row_word, OwnCallAgrees, SeatAgrees, HasLeft, ViewAgrees, HasOneMaker, CoreFits}
 use Rattle.desk_invariant.specs.Rule.{CallAt}
 use Rattle.desk_invariant.specs.Plays as play
-use Rattle.desk_invariant.proofs.Seats.{row_leaves, alike, kept_after, come_after, mine, Rule}
+use Rattle.desk_invariant.proofs.Seats.{row_leaves, alike, After, kept_after, come_after, mine, Rule}
 use Rattle.desk_invariant.proofs.Ties.{tied_coming}
 use Rattle.desk_invariant.proofs.Calls.{later_gone, seat_unanswered, covers_own}
 use Rattle.publication_list.proofs.RosterMaking.{at_end}
@@ -42,8 +42,9 @@ get_or-replicate_same a zero i = refl
 get_or-replicate_same a (suc n) zero = refl
 get_or-replicate_same a (suc n) (suc i) = get_or-replicate_same a n i
 
-unseen : (kinds : List Kind) (lists : List TableId) (c x : ℕ) → seen_of (new_client kinds lists c) x ≡ []
-unseen kinds lists c x = get_or-replicate_same [] 16 x
+unseen : (kinds : List Kind) (lists : List TableId) (client object : ℕ)
+    → seen_of (new_client kinds lists client) object ≡ []
+unseen kinds lists client object = get_or-replicate_same [] 16 object
 
 only : {A : Type 0} (a b : A) (j : ℕ) → get_elem? (a ∷ []) j ≡ some b → (j ≡ 0) × (a ≡ b)
 only a b zero e = (refl, some-injective a b e)
@@ -51,21 +52,26 @@ only a b (suc j) e = absurd (some-ne-none b (sym e))
 
 -- ---- the maker, and the client that it made
 
--- the maker, after it has made a client
-one_made : (kinds : List Kind) (lists : List TableId) (w : World) (so so' : ℕ → ℕ) (i j : ℕ) (v : DeskView)
-    → v.role ≡ role.Maker → ViewAgrees kinds lists w so i v → ViewAgrees kinds lists w so' j (after_making v)
-one_made kinds lists w so so' i j v is ok = let none_held : (c : ℕ) → v.made + 1 ≤ c → (x : ℕ)
-    → w.holder x ≢ Some c = λ c l. (ok.unmade is c (omega arith)).3 in grind arith
+-- the view of the maker is true after it has made a client
+one_made : (kinds : List Kind) (lists : List TableId) (world : World) (seat_of seat_of' : ℕ → ℕ) (i j : ℕ)
+    (view : DeskView) → view.role ≡ role.Maker → ViewAgrees kinds lists world seat_of i view
+    → ViewAgrees kinds lists world seat_of' j (after_making view)
+one_made kinds lists world seat_of seat_of' i j view is ok =
+    let none_held : (c : ℕ) → view.made + 1 ≤ c → (x : ℕ) → world.holder x ≢ Some c =
+    λ c l. (ok.unmade is c (omega arith)).3 in
+    grind arith
 
--- the maker at id has become l, and new has come
-makers_made : (clients : ℕ) (vs us : List DeskView) (id : ℕ) (v l new : DeskView) → v.role ≡ role.Maker
-    → get_elem? vs id ≡ some v → l.role ≡ v.role → l.made ≡ v.made + 1 → new.role ≡ role.Client → new.number ≡ v.made
-    → v.made < clients → ((a : ℕ) (z : DeskView) → get_elem? us a ≡ some z
-    → ((a ≡ id) × (l ≡ z)) ⊎ (((a ≢ id) × (get_elem? vs a ≡ some z)) ⊎ (new ≡ z)))
-    → HasOneMaker clients vs → HasOneMaker clients us
-makers_made clients vs us id v l new is at role made new_role number low known k = record {
-  made = λ j u e f i y g. grind (arith, known j u e, known i y g, k.made id v at is j u, k.made id v at is i y);
-  numbers = λ j u e f. grind (arith, known j u e, k.numbers j u);
+-- There is one maker still, after it has made one client more: its view became `maker`, and the client's is `new`.
+makers_made : (clients : ℕ) (views views' : List DeskView) (id : ℕ) (view maker new : DeskView) → view.role ≡ role.Maker
+    → get_elem? views id ≡ some view → maker.role ≡ view.role → maker.made ≡ view.made + 1 → new.role ≡ role.Client
+    → new.number ≡ view.made → view.made < clients
+    → ((j : ℕ) (u : DeskView) → get_elem? views' j ≡ some u
+    → ((j ≡ id) × (maker ≡ u)) ⊎ (((j ≢ id) × (get_elem? views j ≡ some u)) ⊎ (new ≡ u)))
+    → HasOneMaker clients views → HasOneMaker clients views'
+makers_made clients views views' id view maker new is at role made new_role number low known makers = record {
+  made = λ j u e f i y g.
+      grind (arith, known j u e, known i y g, makers.made id view at is j u, makers.made id view at is i y);
+  numbers = λ j u e f. grind (arith, known j u e, makers.numbers j u);
 }
 
 module _ {S O R : Type 0} (content : S → Content) (op_in : O → AnyOp) (reply_in : R → AnyReply) (kinds : List Kind)
@@ -104,77 +110,89 @@ module _ {S O R : Type 0} (content : S → Content) (op_in : O → AnyOp) (reply
       cores = λ x l e. let k = cores x l in (k.0, at_map some slots x (slot.Core k.0) k.1, k.2);
       calls = λ r l. at_map some slots (16 + r) slot.Nothing (others (16 + r) (omega arith) (omega arith));
       journals = λ c l. record {
-        at_first =
-            λ e. at_map some slots (48 + c) slot.Nothing (others (48 + c) (omega arith) (omega arith));
+        at_first = λ e. at_map some slots (48 + c) slot.Nothing (others (48 + c) (omega arith) (omega arith));
         at_last = λ e. absurd (cc);
       };
     };
     -- the only view is the maker's
-    seats = λ j v e. let a = only (first_maker kinds lists) v j e in
+    seats = λ j v e.
+        let a = only (first_maker kinds lists) v j e in
         let seen : (x : ℕ) → StartsWith [] (seen_of (first_maker kinds lists) x) =
         λ x. ([], ap (λ z. z ++ []) (sym (get_or-replicate_same [] 16 x))) in
         let received : (x : ℕ) → StartsWith [] (received_of (first_maker kinds lists) x) = λ x. ([], refl) in
         let left = All-nil (HasLeft initial_world) in
         subst (λ z. ViewAgrees kinds lists initial_world (λ _. 0) j z) a.1 (grind arith);
     makers = record {
-      made = λ j v e is i u f. let a = only (first_maker kinds lists) v j e in
-          let b = only (first_maker kinds lists) u i f in ((λ tc. absurd cc), λ tm. b.0 ∙ sym a.0);
+      made = λ j v e is i u f.
+          let a = only (first_maker kinds lists) v j e in
+          let b = only (first_maker kinds lists) u i f in
+          ((λ tc. absurd cc), λ tm. b.0 ∙ sym a.0);
       numbers = λ j v e is. let a = only (first_maker kinds lists) v j e in absurd cc;
     };
   }
 
   -- ---- making a client
 
-  pub making_keeps_rule : (id : ℕ) (v : DeskView) → v.role ≡ role.Maker → v.made < clients
-      → Splits DeskRule id v (after_making v) (new_client v.kinds v.lists v.made)
-  making_keeps_rule id v is low s k at =
-      let w : World = k.world in let c : ℕ = v.made in let l : DeskView = after_making v in
-      let new : DeskView = new_client v.kinds v.lists c in let here : ℕ = length (set s.views id l) in
-      let so' : ℕ → ℕ = changed k.seat_of c here in let old = k.seats id v at in
-      let none_yet = old.unmade is c (omega arith) in let few = k.few_clients in record {
-        world = w;
-        seat_of = so';
-        lists = k.lists;
-        few_calls = k.few_calls;
-        few_clients = k.few_clients;
-        holders = k.holders;
-        come = k.come;
-        sound = k.sound;
-        tied = k.tied;
+  pub making_keeps_rule : (id : ℕ) (view : DeskView) → view.role ≡ role.Maker → view.made < clients
+      → Splits DeskRule id view (after_making view) (new_client view.kinds view.lists view.made)
+  making_keeps_rule id view is low state rule at =
+      let world : World = rule.world in
+      let client : ℕ = view.made in
+      let maker : DeskView = after_making view in
+      let new : DeskView = new_client view.kinds view.lists client in
+      let here : ℕ = length (set state.views id maker) in
+      let seat_of' : ℕ → ℕ = changed rule.seat_of client here in
+      let old = rule.seats id view at in
+      let none_yet = old.unmade is client (omega arith) in
+      let few = rule.few_clients in
+      let nothing_seen : (x : ℕ) → StartsWith (world.log x) (seen_of new x) =
+      λ x. (world.log x, ap (λ z. z ++ world.log x) (sym (unseen view.kinds view.lists client x))) in
+      -- the new client, which knows nothing yet
+      let knows : SeatAgrees kinds world client new = record {
+        number = refl;
+        small = omega arith;
+        kinds_are = old.maker_kinds is;
+        done = sym none_yet.1;
+        own = none_yet.0;
+        ready = λ f. absurd (cc);
+        wide_seen = refl;
+        seen = nothing_seen;
+        covers = λ x. ([], ap (entries_of_client client) (unseen view.kinds view.lists client x));
+        held = none_yet.3;
+        ended = none_yet.2;
+        retired = All-nil (λ d. world.ended d ≡ true);
+        back = All-nil (λ (b : PutBack). (world.stage b.row ≡ posted b.request)
+            × (world.holder b.request.object ≡ Some client));
+      } in
+      record {
+        world = world;
+        seat_of = seat_of';
+        lists = rule.lists;
+        few_calls = rule.few_calls;
+        few_clients = rule.few_clients;
+        holders = rule.holders;
+        come = rule.come;
+        sound = rule.sound;
+        tied = rule.tied;
         -- the views of the maker, of the other clients, and of the new one
-        seats = λ j u e. elim (at_end (set s.views id l) new u j e) [
-          | inl t ↦ elim (at_set s.views id j l u t) [
-            | inl h ↦ subst (λ z. ViewAgrees kinds k.lists w so' j z) h.1
-                (one_made kinds k.lists w k.seat_of so' id j v is old)
-            | inr h ↦ let b = k.seats j u h.1 in
-                let client : u.role ≡ role.Client → (so' u.number ≡ j) × SeatAgrees kinds w u.number u = λ f.
-                let low' = (k.makers.made id v at is j u h.1).0 f in let g = b.client f in
-                (changed_else k.seat_of c here u.number (λ x. omega arith) ∙ g.0, g.1) in assumption client
+        seats = λ j u e. elim (at_end (set state.views id maker) new u j e) [
+          | inl t ↦ elim (at_set state.views id j maker u t) [
+            | inl h ↦ subst (λ z. ViewAgrees kinds rule.lists world seat_of' j z) h.1
+                (one_made kinds rule.lists world rule.seat_of seat_of' id j view is old)
+            | inr h ↦
+                let b = rule.seats j u h.1 in
+                let seat : u.role ≡ role.Client → (seat_of' u.number ≡ j) × SeatAgrees kinds world u.number u =
+                λ f.
+                let low' = (rule.makers.made id view at is j u h.1).0 f in
+                let g = b.client f in
+                (changed_else rule.seat_of client here u.number (λ x. omega arith) ∙ g.0, g.1) in
+                assumption seat
           ]
-          -- the new client, which knows nothing yet
-          | inr t ↦ subst (λ z. ViewAgrees kinds k.lists w so' j z) t.1 record {
-            seen = λ x. (w.log x, ap (λ z. z ++ w.log x) (sym (unseen v.kinds v.lists c x)));
-            received = λ x. (w.log x, refl);
-            left = All-nil (HasLeft w);
-            client = λ _. (
-              changed_here k.seat_of c here ∙ sym t.0,
-              record {
-                number = refl;
-                small = omega arith;
-                kinds_are = old.maker_kinds is;
-                done = sym none_yet.1;
-                own = none_yet.0;
-                ready = λ f. absurd (cc);
-                wide_seen = refl;
-                seen = λ x. (w.log x, ap (λ z. z ++ w.log x) (sym (unseen v.kinds v.lists c x)));
-                covers = λ x. ([], ap (entries_of_client c) (unseen v.kinds v.lists c x));
-                held = none_yet.3;
-                ended = none_yet.2;
-                retired = All-nil (λ d. w.ended d ≡ true);
-                back = All-nil (λ (b : PutBack). (w.stage b.row ≡ posted b.request)
-                    × (w.holder b.request.object ≡ Some c));
-              },
-            );
+          | inr t ↦ subst (λ z. ViewAgrees kinds rule.lists world seat_of' j z) t.1 record {
+            seen = nothing_seen;
+            received = λ x. (world.log x, refl);
+            left = All-nil (HasLeft world);
+            client = λ _. (changed_here rule.seat_of client here ∙ sym t.0, knows);
             unmade = λ f. absurd (cc);
             maker_kinds = λ f. absurd (cc);
             lists_are = λ _. old.maker_lists is;
@@ -182,50 +200,66 @@ module _ {S O R : Type 0} (content : S → Content) (op_in : O → AnyOp) (reply
           }
         ];
         -- the numbers of the clients
-        makers = makers_made clients s.views (set s.views id l ++ new ∷ []) id v l new is at refl refl refl refl low
-            (λ a z q. elim (at_end (set s.views id l) new z a q) [
-              | inl t ↦ elim (at_set s.views id a l z t) [ inl h ↦ inl h | inr h ↦ inr (inl h) ]
+        makers = makers_made clients state.views (set state.views id maker ++ new ∷ []) id view maker new is at refl
+            refl refl refl low
+            (λ j u e. elim (at_end (set state.views id maker) new u j e) [
+              | inl t ↦ elim (at_set state.views id j maker u t) [ inl h ↦ inl h | inr h ↦ inr (inl h) ]
               | inr t ↦ inr (inr t.1)
-            ]) k.makers;
+            ]) rule.makers;
       }
 
   -- ---- a client's first step
 
-  pub begin_keeps_rule : (slots id c : ℕ) (m : Me (Slot S O R) DeskView) → m.0.role ≡ role.Client → m.0.number ≡ c
-      → c < 32 → m.0.own ≡ own.Absent → m.0.held ≡ held.Free → m.0.ended ≡ false
-      → Allows DeskRule slots id m (row_place c) (λ f. f)
-      (play.begins content op_in reply_in (step slots (row_place c) 0 0 maybe.none) m)
-  begin_keeps_rule slots id c m cl number low is free going s k deep at small =
-      let w : World = k.world in
-      let ok = subst (λ z. SeatAgrees kinds w z m.0) number (mine k id cl at) in
-      let v' : DeskView = with_own own.Idle m.0 in
-      let was : w.stage c ≡ absent = subst (λ o. OwnCallAgrees o (w.stage c)) is ok.own in let word = k.tied.rows c
-      low in
-      let before : (p : AnyRequest) → w.stage c ≢ picked p = λ p e. absurd cc in
-      let message : get_elem? s.homes (16 + c) ≡ some (some slot.Nothing) =
-      subst (CallAt content op_in reply_in (get_elem? s.homes (16 + c))) was (k.tied.calls c low) in
-      let journal = (k.tied.journals c low).at_first was in (
-        v',
-        chain (takes (48 + c) slot.Nothing) (takes (16 + c) slot.Nothing),
-        (journal, set_else s.homes (48 + c) (16 + c) maybe.none (λ e. omega arith) ∙ message),
-        kept_after k id v' at cl alike record {
-          world = staged w c idle;
-          holders = k.holders;
-          come = come_after clients w c idle (subst (λ z. z < clients) number (k.makers.numbers id m.0 at cl)) k.come;
-          sound = sound_coming kinds quota w c was k.sound;
-          -- the words and the slots agree with the new world
-          tied = tied_coming c (get_or s.words (row_place c) 0) idle low (λ e. absurd (cc))
-              (ok.ended ∙ going) (word ∙ ap row_word was) (λ home. tt) k.tied;
-          leave = row_leaves w c idle (ap request_of was);
-          -- the other clients keep what they know
-          others = λ d other. later_gone w w.clock c d idle w.done before
-              (λ p e. absurd cc) refl (λ e. other (e ∙ sym number));
-          -- the client has come, and has no call yet
-          own = subst (λ z. SeatAgrees kinds (staged w c idle) z v') (sym number)
-              (seat_unanswered kinds w w.clock c idle w.done m.0 own.Idle m.0.done
-              (λ p e. absurd cc) (λ p e. absurd cc) (λ p a e. absurd cc) refl ok.done
-              (covers_own kinds w c m.0 own.Absent is ok) ok);
-        },
-        λ d same. let e : c ≡ d = omega arith in
-            ap (λ (z : ℕ). (v', (16 + z, slot.Nothing) ∷ (48 + z, slot.Nothing) ∷ m.1)) e,
+  pub begin_keeps_rule : (slots id client : ℕ) (me : Me (Slot S O R) DeskView) → me.0.role ≡ role.Client
+      → me.0.number ≡ client
+      → client < 32 → me.0.own ≡ own.Absent → me.0.held ≡ held.Free → me.0.ended ≡ false
+      → Allows DeskRule slots id me (row_place client) (λ f. f)
+      (play.begins content op_in reply_in (step slots (row_place client) 0 0 maybe.none) me)
+  begin_keeps_rule slots id client me is_client number low is free going state rule deep at small =
+      let world : World = rule.world in
+      let found : ℕ = get_or state.words (row_place client) 0 in
+      let ok = subst (λ z. SeatAgrees kinds world z me.0) number (mine rule id is_client at) in
+      let was : world.stage client ≡ absent = subst (λ o. OwnCallAgrees o (world.stage client)) is ok.own in
+      let word : found ≡ row_word (world.stage client) = rule.tied.rows client low in
+      let numbered : client < clients = subst (λ z. z < clients) number (rule.makers.numbers id me.0 at is_client) in
+      let world' : World = staged world client idle in
+      let view' : DeskView = with_own own.Idle me.0 in
+      -- the client's two slots are at home
+      let homes : List (maybe.Option (Slot S O R)) = set state.homes (48 + client) maybe.none in
+      let journal : get_elem? state.homes (48 + client) ≡ some (some slot.Nothing) =
+      (rule.tied.journals client low).at_first was in
+      let call : get_elem? state.homes (16 + client) ≡ some (some slot.Nothing) =
+      subst (CallAt content op_in reply_in (get_elem? state.homes (16 + client))) was (rule.tied.calls client low) in
+      let call' : get_elem? homes (16 + client) ≡ some (some slot.Nothing) =
+      set_else state.homes (48 + client) (16 + client) maybe.none (λ e. omega arith) ∙ call in
+      let after : After rule me.0 view' (set state.words (row_place client) found)
+      (set homes (16 + client) maybe.none) =
+      record {
+        world = world';
+        holders = rule.holders;
+        come = come_after clients world client idle numbered rule.come;
+        sound = sound_coming kinds quota world client was rule.sound;
+        -- the words and the slots agree with the new world
+        tied = tied_coming client found idle low (λ e. absurd (cc)) (ok.ended ∙ going) (word ∙ ap row_word was)
+            (λ home. tt) rule.tied;
+        leave = row_leaves world client idle (ap request_of was);
+        -- the other clients keep what they know
+        others = λ another other. later_gone world world.clock client idle world.done another (λ p e. absurd cc)
+            (λ p e. absurd cc) refl (λ e. other (e ∙ sym number));
+        -- the client has come, and has no call yet
+        own = subst (λ z. SeatAgrees kinds world' z view') (sym number)
+            (seat_unanswered world world.clock client idle world.done kinds me.0 own.Idle me.0.done (λ p e. absurd cc)
+            (λ p e. absurd cc) (λ p a e. absurd cc) refl ok.done (covers_own kinds world client me.0 own.Absent is ok)
+            ok);
+      } in
+      let told : play.begins content op_in reply_in (step slots (row_place client) 0 0 maybe.none) me found
+      (view', (16 + client, slot.Nothing) ∷ (48 + client, slot.Nothing) ∷ me.1) =
+      λ client' place.
+      let same : client ≡ client' = omega arith in
+      ap (λ (z : ℕ). (view', (16 + z, slot.Nothing) ∷ (48 + z, slot.Nothing) ∷ me.1)) same in (
+        view',
+        chain (takes (48 + client) slot.Nothing) (takes (16 + client) slot.Nothing),
+        (journal, call'),
+        kept_after rule id view' at is_client alike after,
+        told,
       )

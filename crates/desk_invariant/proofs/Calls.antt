@@ -1,7 +1,8 @@
 -- The steps of a client's own call keep the rule: drawing tickets, posting, and taking the answer. The client's call
 -- is in no hand, so no other client knows its stage (`later_gone`), and its own view changes with it (`seat_gone`).
-use Rattle.std.proofs.Common.{◌≡◌, ◌≢◌, ℕ, ◌+◌, ◌%◌, ◌^◌, ◌<◌, eqb, true, false, List, [], ◌∷◌, ◌++◌, length, get_or}
-use Rattle.std.proofs.Common.{None, Some, All, refl, sym, ap, subst, ◌∙◌, inl, arith, eq-eqb, ne_eqb, append-nil}
+use Rattle.std.proofs.Common.{◌≡◌, ◌≢◌, ℕ, ◌+◌, ◌%◌, ◌^◌, ◌<◌, eqb, true, false, List, [], ◌∷◌, ◌++◌, length, set}
+use Rattle.std.proofs.Common.{get_or, None, Some, All, refl, sym, ap, subst, ◌∙◌, inl, arith, eq-eqb, ne_eqb}
+use Rattle.std.proofs.Common.{append-nil}
 use Rattle.std.proofs.lemmas.Bool.{false_from_ne_true}
 use mathlib.Core.Logic.{dite}
 use mathlib.Core.Option as maybe
@@ -9,7 +10,7 @@ use mathlib.Core.Option.{some}
 use native.Mathlib.Decide.{ℕ_discrete}
 use lib.ListN.{get_elem?}
 use prog.Atomic.{either}
-use Rattle.atomic_table.specs.Table.{State, Me, step, keeps, takes, gives, rest, Allows}
+use Rattle.atomic_table.specs.Table.{State, Me, Step, step, keeps, takes, gives, rest, Allows}
 use Rattle.model.specs.declared.Kind.{Kind}
 use Rattle.model.specs.declared.AnyOp.{AnyOp}
 use Rattle.model.specs.declared.AnyReply.{AnyReply}
@@ -31,86 +32,103 @@ use Rattle.desk_model.specs.Transitions.{changed, staged, ticked}
 use Rattle.desk_model.specs.Images.{request_in, answer_in}
 use Rattle.desk_model.proofs.Changed.{changed_here, changed_else}
 use Rattle.desk_model.proofs.Entries.{starts_same, logged_here, logged_else, served_more}
-use Rattle.desk_model.proofs.Effects.{sound_staged, sound_called, sound_returned, clock_low}
+use Rattle.desk_model.proofs.Effects.{NotPicked, sound_staged, sound_called, sound_returned, clock_low}
 use Rattle.desk_invariant.specs.Views.{row_place, clock_place, seen_of, owed, after_miss, with_own, after_take}
 use Rattle.desk_invariant.specs.Views.{after_return, after_meet}
 use Rattle.desk_invariant.specs.Rule.{row_word, OwnCallAgrees, HeldAgrees, SeatAgrees, CallAt}
 use Rattle.desk_invariant.specs.Plays as play
-use Rattle.desk_invariant.proofs.Seats.{Later, Leaves, row_leaves, alike, kept_after, come_after, looks, mine, misses}
-use Rattle.desk_invariant.proofs.Seats.{Rule}
+use Rattle.desk_invariant.proofs.Seats.{NotPosted, NotAnswered, Later, Leaves, row_leaves, alike, After, kept_after}
+use Rattle.desk_invariant.proofs.Seats.{come_after, looks, mine, misses, Rule}
 use Rattle.desk_invariant.proofs.Seeing.{all_covered, saw, seen_all}
 use Rattle.desk_invariant.proofs.Ties.{tied_row, tied_clock}
 use Rattle.desk_model.proofs.Tickets.{all_before}
 
 -- ---- the own call, which is in no hand, goes to another stage
 
--- the client c, whose call is in no hand, goes to the stage t, with these calls over
-abbrev pub gone : World → ℕ → ℕ → Stage → (ℕ → List AnyDone) → World
-gone w n c t dones = record w { clock = n; stage = changed w.stage c t; done = dones }
+-- What the client has seen of each object has its calls that are over, and of its own call what the log is known to
+-- have.
+abbrev pub Covers : ℕ → DeskView → List AnyDone → Own → Type 0
+Covers client view done call = (x : ℕ)
+    → StartsWith (entries_of_client client (seen_of view x)) (served x client done ++ owed x client call)
 
--- another client
-pub later_gone : (w : World) (n c d : ℕ) (t : Stage) (dones : ℕ → List AnyDone)
-    → ((q : AnyRequest) → w.stage c ≢ picked q)
-    → ((q : AnyRequest) → w.stage c ≢ posted q) → dones d ≡ w.done d → d ≢ c → Later w (gone w n c t dones) d
-later_gone w n c d t dones before apart same other = let here = changed_else w.stage c t d other in
-    let own : (o : Own) → OwnCallAgrees o (w.stage d) → OwnCallAgrees o (changed w.stage c t d) = λ o e. rw here e in
-    let logs : (y : ℕ) → StartsWith (w.log y) (w.log y) = λ y. starts_same (w.log y) in assumption (
-      λ (q : AnyRequest) (a : AnyAnswer) (e : w.stage d ≡ answered q a). here ∙ e,
-      λ (y j : ℕ) (p : AnyRequest) (g : w.holder y ≡ Some d) (h : w.hand y ≡ Some j) (e : w.stage j ≡ picked p).
-          changed_else w.stage c t j (λ same. before p (ap w.stage (sym same) ∙ e)) ∙ e,
-      λ (j : ℕ) (p : AnyRequest) (g : w.holder p.object ≡ Some d) (e : w.stage j ≡ posted p).
-          changed_else w.stage c t j (λ same. apart p (ap w.stage (sym same) ∙ e)) ∙ e,
-    )
+-- the client goes to the stage, the clock to this number, and these calls are over
+module _ (world : World) (clock client : ℕ) (stage : Stage) (dones : ℕ → List AnyDone) where
+  abbrev pub gone : World
+  gone = record world { clock = clock; stage = changed world.stage client stage; done = dones }
 
--- the client c has not ended
-pub gone_leaves : (w : World) (n c : ℕ) (t : Stage) (dones : ℕ → List AnyDone) → w.ended c ≡ false
-    → ((d : ℕ) → d ≢ c → dones d ≡ w.done d) → Leaves w (gone w n c t dones)
-gone_leaves w n c t dones going same d e =
-    let other : d ≢ c = λ f. absurd cc in
-    (e, λ i. journal_of (same d other i) (request_of (changed_else w.stage c t d other i)))
+  -- another client keeps what it knows
+  pub later_gone : (another : ℕ) → NotPicked (world.stage client) → NotPosted (world.stage client)
+      → dones another ≡ world.done another → another ≢ client → Later world gone another
+  later_gone another unpicked unposted same other =
+      let here = changed_else world.stage client stage another other in
+      let own : (o : Own) → OwnCallAgrees o (world.stage another)
+      → OwnCallAgrees o (changed world.stage client stage another) =
+      λ o e. rw here e in
+      let logs : (y : ℕ) → StartsWith (world.log y) (world.log y) = λ y. starts_same (world.log y) in
+      assumption (
+        λ (q : AnyRequest) (a : AnyAnswer) (e : world.stage another ≡ answered q a). here ∙ e,
+        λ (y j : ℕ) (p : AnyRequest) (g : world.holder y ≡ Some another) (h : world.hand y ≡ Some j)
+            (e : world.stage j ≡ picked p).
+            changed_else world.stage client stage j (λ same. unpicked p (ap world.stage (sym same) ∙ e)) ∙ e,
+        λ (j : ℕ) (p : AnyRequest) (g : world.holder p.object ≡ Some another) (e : world.stage j ≡ posted p).
+            changed_else world.stage client stage j (λ same. unposted p (ap world.stage (sym same) ∙ e)) ∙ e,
+      )
 
--- what the client holds, whose call is in no hand
-held_gone : (count : ℕ) (w : World) (n c : ℕ) (t : Stage) (dones : ℕ → List AnyDone) (o : Held)
-    → ((q : AnyRequest) → w.stage c ≢ picked q) → HeldAgrees count w c o → HeldAgrees count (gone w n c t dones) c o
-held_gone count w n c t dones o before h = grind (
-  arith,
-  before,
-  λ (r : ℕ) (q : AnyRequest) (e : w.stage r ≡ picked q).
-      changed_else w.stage c t r (λ same. before q (ap w.stage (sym same) ∙ e)) ∙ e,
-)
+  -- who has ended stays so, if the client has not
+  pub gone_leaves : world.ended client ≡ false → ((d : ℕ) → d ≢ client → dones d ≡ world.done d) → Leaves world gone
+  gone_leaves going same d e =
+      let other : d ≢ client = λ f. absurd cc in
+      (e, λ i. journal_of (same d other i) (request_of (changed_else world.stage client stage d other i)))
 
--- the client itself, whose call is neither posted nor in a hand
-seat_gone : (kinds : List Kind) (w : World) (n c : ℕ) (t : Stage) (dones : ℕ → List AnyDone) (v : DeskView) (o : Own)
-    (ds : List AnyDone)
-    → ((q : AnyRequest) → w.stage c ≢ picked q) → ((q : AnyRequest) → w.stage c ≢ posted q) → OwnCallAgrees o t → ds
-    ≡ dones c
-    → ((x : ℕ) → StartsWith (entries_of_client c (seen_of v x)) (served x c ds ++ owed x c o)) → SeatAgrees kinds w c v
-    → SeatAgrees kinds (gone w n c t dones) c (record v { own = o; done = ds; ready = false })
-seat_gone kinds w n c t dones v o ds before apart is over covers ok =
-    let ready : false ≡ true → (q : AnyRequest) × (a : AnyAnswer) × (changed w.stage c t c ≡ answered q a) =
-    λ e. absurd cc in let own : OwnCallAgrees o (changed w.stage c t c) = rw (changed_here w.stage c t) is in
-    let back : All (λ b. (changed w.stage c t b.row ≡ posted b.request) × (w.holder b.request.object ≡ Some c)) v.back =
-    λ i d l. let b = ok.back i d l in let p = get_or v.back i d in
-    (changed_else w.stage c t p.row (λ same. apart p.request (ap w.stage (sym same) ∙ b.0)) ∙ b.0, b.1) in
-    assumption (held_gone (length kinds) w n c t dones v.held before ok.held)
+  -- the client holds what it held
+  held_gone : (count : ℕ) (holding : Held) → NotPicked (world.stage client) → HeldAgrees count world client holding
+      → HeldAgrees count gone client holding
+  held_gone count holding unpicked holds = grind (
+    arith,
+    unpicked,
+    λ (r : ℕ) (q : AnyRequest) (e : world.stage r ≡ picked q).
+        changed_else world.stage client stage r (λ same. unpicked q (ap world.stage (sym same) ∙ e)) ∙ e,
+  )
 
--- the same of a client whose row is not answered before either
-pub seat_unanswered : (kinds : List Kind) (w : World) (n c : ℕ) (t : Stage) (dones : ℕ → List AnyDone) (v : DeskView)
-    (o : Own) (ds : List AnyDone)
-    → ((q : AnyRequest) → w.stage c ≢ picked q) → ((q : AnyRequest) → w.stage c ≢ posted q)
-    → ((q : AnyRequest) (a : AnyAnswer) → w.stage c ≢ answered q a) → OwnCallAgrees o t → ds ≡ dones c
-    → ((x : ℕ) → StartsWith (entries_of_client c (seen_of v x)) (served x c ds ++ owed x c o)) → SeatAgrees kinds w c v
-    → SeatAgrees kinds (gone w n c t dones) c (record v { own = o; done = ds })
-seat_unanswered kinds w n c t dones v o ds before apart never is over covers ok =
-    let not : v.ready ≡ false = false_from_ne_true v.ready (λ e. let a = ok.ready e in never a.0 a.1 a.2) in
-    subst (λ b. SeatAgrees kinds (gone w n c t dones) c (record v { own = o; done = ds; ready = b })) (sym not)
-    (seat_gone kinds w n c t dones v o ds before apart is over covers ok)
+  -- the client agrees with the world then, if its view says of its own call and of its calls that are over what is true
+  pub seat_gone : (kinds : List Kind) (view : DeskView) (call : Own) (done : List AnyDone)
+      → NotPicked (world.stage client) → NotPosted (world.stage client) → OwnCallAgrees call stage → done ≡ dones client
+      → Covers client view done call → SeatAgrees kinds world client view
+      → SeatAgrees kinds gone client (record view { own = call; done = done; ready = false })
+  seat_gone kinds view call done unpicked unposted is over covers ok =
+      let ready : false ≡ true → (q : AnyRequest) × (a : AnyAnswer)
+      × (changed world.stage client stage client ≡ answered q a) =
+      λ e. absurd cc in
+      let own : OwnCallAgrees call (changed world.stage client stage client) =
+      rw (changed_here world.stage client stage) is in
+      let back : All (λ b. (changed world.stage client stage b.row ≡ posted b.request)
+      × (world.holder b.request.object ≡ Some client)) view.back =
+      λ i d l.
+      let b = ok.back i d l in
+      let p = get_or view.back i d in
+      let other : p.row ≢ client = λ same. unposted p.request (ap world.stage (sym same) ∙ b.0) in
+      (changed_else world.stage client stage p.row other ∙ b.0, b.1) in
+      assumption (held_gone (length kinds) view.held unpicked ok.held)
+
+  -- the same of a client whose row was not answered
+  pub seat_unanswered : (kinds : List Kind) (view : DeskView) (call : Own) (done : List AnyDone)
+      → NotPicked (world.stage client) → NotPosted (world.stage client) → NotAnswered (world.stage client)
+      → OwnCallAgrees call stage → done ≡ dones client
+      → Covers client view done call → SeatAgrees kinds world client view
+      → SeatAgrees kinds gone client (record view { own = call; done = done })
+  seat_unanswered kinds view call done unpicked unposted unanswered is over covers ok =
+      let not : view.ready ≡ false =
+      false_from_ne_true view.ready (λ e. let a = ok.ready e in unanswered a.0 a.1 a.2) in
+      subst (λ b. SeatAgrees kinds gone client (record view { own = call; done = done; ready = b })) (sym not)
+      (seat_gone kinds view call done unpicked unposted is over covers ok)
 
 -- what the client has seen of each object, where its own call is this
-pub covers_own : (kinds : List Kind) (w : World) (c : ℕ) (v : DeskView) (o : Own) → v.own ≡ o → SeatAgrees kinds w c v
-    → (x : ℕ) → StartsWith (entries_of_client c (seen_of v x)) (served x c v.done ++ owed x c o)
-covers_own kinds w c v o is ok x =
-    subst (λ o. StartsWith (entries_of_client c (seen_of v x)) (served x c v.done ++ owed x c o)) is (ok.covers x)
+pub covers_own : (kinds : List Kind) (world : World) (client : ℕ) (view : DeskView) (call : Own) → view.own ≡ call
+    → SeatAgrees kinds world client view → Covers client view view.done call
+covers_own kinds world client view call is ok object =
+    subst
+    (λ o. StartsWith (entries_of_client client (seen_of view object))
+    (served object client view.done ++ owed object client o)) is (ok.covers object)
 
 module _ {S O R : Type 0} (content : S → Content) (op_in : O → AnyOp) (reply_in : R → AnyReply) (kinds : List Kind)
     (clients quota : ℕ) where
@@ -124,63 +142,74 @@ module _ {S O R : Type 0} (content : S → Content) (op_in : O → AnyOp) (reply
   -- ---- drawing the ticket of a call
 
   -- the clock goes on by one
-  pub more_by_one : (s : State (Slot S O R) DeskView) (k : DeskRule s)
-      → (get_or s.words clock_place 0 + 1) % 2 ^ 64 ≡ k.world.clock + 1
-  more_by_one s k = let low = clock_low kinds quota k.world k.few_calls k.sound in let is = k.tied.clock in omega arith
+  pub more_by_one : (state : State (Slot S O R) DeskView) (rule : DeskRule state)
+      → (get_or state.words clock_place 0 + 1) % 2 ^ 64 ≡ rule.world.clock + 1
+  more_by_one state rule =
+      let low = clock_low kinds quota rule.world rule.few_calls rule.sound in
+      let is = rule.tied.clock in
+      omega arith
 
-  -- where the object of the request is there in each state
-  draws_where : (slots id i : ℕ) (m : Me (Slot S O R) DeskView) (p : Request O) (tl : List (ℕ × Slot S O R))
-      → m.0.role ≡ role.Client
-      → m.0.own ≡ own.Idle → m.0.ended ≡ false → m.1 ≡ (i, slot.Request p) ∷ tl
-      → ((s : State (Slot S O R) DeskView) → DeskRule s → get_elem? s.views id ≡ some m.0 → p.object < length kinds)
-      → kind_of (op_in p.op) ≡ kind_at kinds p.object → length m.0.done < quota
-      → Allows DeskRule slots id m clock_place (λ x. (x + 1) % 2 ^ 64)
-      (play.draws content op_in reply_in (step slots clock_place 1 0 maybe.none) m)
-  draws_where slots id i m p tl cl is going carried on fits few s k deep at small =
-      let w : World = k.world in let c : ℕ = m.0.number in let ok = mine k id cl at in
-      let found : ℕ = get_or s.words clock_place 0 in
-      let q : AnyRequest = request_in op_in (record p { ticket = found }) in let t : Stage = drawn q in
-      let v' : DeskView = with_own (own.Drawn q) m.0 in
-      let was : w.stage c ≡ idle = subst (λ o. OwnCallAgrees o (w.stage c)) is ok.own in
-      let before : (r : AnyRequest) → w.stage c ≢ picked r = λ r e. absurd cc in
-      let never : (r : AnyRequest) (a : AnyAnswer) → w.stage c ≢ answered r a = λ r a e. absurd cc in
-      let ticket : found ≡ w.clock = k.tied.clock in let over = ok.done in
-      let few' : calls_made (w.done c) None < quota = subst (λ z. calls_made z None < quota) over (omega arith) in (
-        v',
-        keeps,
-        tt,
-        kept_after k id v' at cl alike record {
-          world = ticked w c t (w.done c);
-          holders = k.holders;
-          come = come_after clients w c t (k.makers.numbers id m.0 at cl) k.come;
-          sound = sound_called kinds quota w c q ok.small was few' (on s k at) fits ticket k.sound;
-          -- the words and the slots agree with the new world
-          tied = tied_clock c ((found + 1) % 2 ^ 64) t (w.done c) (λ e. absurd (cc))
-              (ok.ended ∙ going) (ap row_word was) (λ home. tt) (more_by_one s k) k.tied;
-          leave = gone_leaves w (w.clock + 1) c t (changed w.done c (w.done c)) (ok.ended ∙ going)
-              (changed_else w.done c (w.done c));
-          -- the other clients keep what they know
-          others = λ d other. later_gone w (w.clock + 1) c d t (changed w.done c (w.done c)) before
-              (λ r e. absurd cc) (changed_else w.done c (w.done c) d other) other;
-          -- the own call has its ticket
-          own = seat_unanswered kinds w (w.clock + 1) c t (changed w.done c (w.done c)) m.0
-              (own.Drawn q) m.0.done before
-              (λ r e. absurd cc) never refl (over ∙ sym (changed_here w.done c (w.done c)))
-              (covers_own kinds w c m.0 own.Idle is ok) ok;
-        },
-        λ i' p' tl' carried'. ap
-            (λ (z : Request O). (with_own (own.Drawn (request_in op_in (record z { ticket = found }))) m.0, m.1))
-            (ap (request_carried p) (sym carried ∙ carried')),
-      )
+  -- drawing keeps the rule, where the object of the request is there in each state
+  draws_where : (slots id i : ℕ) (me : Me (Slot S O R) DeskView) (sent : Request O) (more : List (ℕ × Slot S O R))
+      → me.0.role ≡ role.Client
+      → me.0.own ≡ own.Idle → me.0.ended ≡ false → me.1 ≡ (i, slot.Request sent) ∷ more
+      → ((state : State (Slot S O R) DeskView) → DeskRule state → get_elem? state.views id ≡ some me.0
+      → sent.object < length kinds)
+      → kind_of (op_in sent.op) ≡ kind_at kinds sent.object → length me.0.done < quota
+      → Allows DeskRule slots id me clock_place (λ x. (x + 1) % 2 ^ 64)
+      (play.draws content op_in reply_in (step slots clock_place 1 0 maybe.none) me)
+  draws_where slots id i me sent more is_client is going carried on fits few state rule deep at small =
+      let world : World = rule.world in
+      let client : ℕ = me.0.number in
+      let found : ℕ = get_or state.words clock_place 0 in
+      let ok = mine rule id is_client at in
+      let over = ok.done in
+      let was : world.stage client ≡ idle = subst (λ o. OwnCallAgrees o (world.stage client)) is ok.own in
+      let ticket : found ≡ world.clock = rule.tied.clock in
+      let few' : calls_made (world.done client) None < quota =
+      subst (λ z. calls_made z None < quota) over (omega arith) in
+      -- the client goes on to the call that is drawn
+      let request : AnyRequest = request_in op_in (record sent { ticket = found }) in
+      let stage : Stage = drawn request in
+      let dones : ℕ → List AnyDone = changed world.done client (world.done client) in
+      let same : (d : ℕ) → d ≢ client → dones d ≡ world.done d = changed_else world.done client (world.done client) in
+      let view' : DeskView = with_own (own.Drawn request) me.0 in
+      let unpicked : NotPicked (world.stage client) = λ q e. absurd cc in
+      let unposted : NotPosted (world.stage client) = λ q e. absurd cc in
+      let unanswered : NotAnswered (world.stage client) = λ q a e. absurd cc in
+      let after : After rule me.0 view' (set state.words clock_place ((found + 1) % 2 ^ 64)) state.homes = record {
+        world = ticked world client stage (world.done client);
+        holders = rule.holders;
+        come = come_after clients world client stage (rule.makers.numbers id me.0 at is_client) rule.come;
+        sound = sound_called kinds quota world client request ok.small was few' (on state rule at) fits ticket
+            rule.sound;
+        -- the words and the slots agree with the new world
+        tied = tied_clock client ((found + 1) % 2 ^ 64) stage (world.done client) (λ e. absurd (cc)) (ok.ended ∙ going)
+            (ap row_word was) (λ home. tt) (more_by_one state rule) rule.tied;
+        leave = gone_leaves world (world.clock + 1) client stage dones (ok.ended ∙ going) same;
+        -- the other clients keep what they know
+        others = λ another other. later_gone world (world.clock + 1) client stage dones another unpicked unposted
+            (same another other) other;
+        -- the own call has its ticket
+        own = seat_unanswered world (world.clock + 1) client stage dones kinds me.0 (own.Drawn request) me.0.done
+            unpicked unposted unanswered refl (over ∙ sym (changed_here world.done client (world.done client)))
+            (covers_own kinds world client me.0 own.Idle is ok) ok;
+      } in
+      let told : play.draws content op_in reply_in (step slots clock_place 1 0 maybe.none) me found (view', me.1) =
+      λ i' sent' more' carried'. ap
+      (λ (z : Request O). (with_own (own.Drawn (request_in op_in (record z { ticket = found }))) me.0, me.1))
+      (ap (request_carried sent) (sym carried ∙ carried')) in
+      (view', keeps, tt, kept_after rule id view' at is_client alike after, told)
 
-  pub draw_keeps_rule : (slots id i : ℕ) (m : Me (Slot S O R) DeskView) (p : Request O) (tl : List (ℕ × Slot S O R))
-      → m.0.role ≡ role.Client
-      → m.0.own ≡ own.Idle → m.0.ended ≡ false → m.1 ≡ (i, slot.Request p) ∷ tl
-      → p.object < length kinds → kind_of (op_in p.op) ≡ kind_at kinds p.object → length m.0.done < quota
-      → Allows DeskRule slots id m clock_place (λ x. (x + 1) % 2 ^ 64)
-      (play.draws content op_in reply_in (step slots clock_place 1 0 maybe.none) m)
-  draw_keeps_rule slots id i m p tl cl is going carried on fits few =
-      draws_where slots id i m p tl cl is going carried (λ s k at. on) fits few
+  -- drawing keeps the rule, where the object of the request is there
+  pub draw_keeps_rule : (slots id i : ℕ) (me : Me (Slot S O R) DeskView) (sent : Request O)
+      (more : List (ℕ × Slot S O R)) → me.0.role ≡ role.Client
+      → me.0.own ≡ own.Idle → me.0.ended ≡ false → me.1 ≡ (i, slot.Request sent) ∷ more
+      → sent.object < length kinds → kind_of (op_in sent.op) ≡ kind_at kinds sent.object → length me.0.done < quota
+      → Allows DeskRule slots id me clock_place (λ x. (x + 1) % 2 ^ 64)
+      (play.draws content op_in reply_in (step slots clock_place 1 0 maybe.none) me)
+  draw_keeps_rule slots id i me sent more is_client is going carried on fits few =
+      draws_where slots id i me sent more is_client is going carried (λ state rule at. on) fits few
 
   -- ---- posting the request
 
@@ -190,167 +219,209 @@ module _ {S O R : Type 0} (content : S → Content) (op_in : O → AnyOp) (reply
   request_known d (own.Taken q a) = q
   request_known d o = d
 
-  pub post_keeps_rule : (slots id j n : ℕ) (m : Me (Slot S O R) DeskView) (q : AnyRequest) (p : Request O)
-      (tl : List (ℕ × Slot S O R))
-      → m.0.role ≡ role.Client → m.0.number ≡ j → m.0.own ≡ own.Drawn q → m.0.held ≡ held.Free
-      → request_in op_in p ≡ q → n ≡ 1 + q.object → m.1 ≡ (16 + j, slot.Request p) ∷ tl
-      → Allows DeskRule slots id m (row_place j) (λ _. n)
-      (λ _. play.posts content op_in reply_in (step slots (row_place j) n 0 maybe.none) m n)
-  post_keeps_rule slots id c n m q p tl cl number is free same word carried s k deep at small =
-      let w : World = k.world in
-      let ok = subst (λ z. SeatAgrees kinds w z m.0) number (mine k id cl at) in let t : Stage = posted q in
-      let v' : DeskView = with_own (own.Waiting q) m.0 in
-      let was : w.stage c ≡ drawn q = subst (λ o. OwnCallAgrees o (w.stage c)) is ok.own in
-      let before : (r : AnyRequest) → w.stage c ≢ picked r = λ r e. absurd cc in
-      let never : (r : AnyRequest) (a : AnyAnswer) → w.stage c ≢ answered r a = λ r a e. absurd cc in (
-        v',
-        gives,
-        tt,
-        rw carried (kept_after k id v' at cl alike record {
-          world = staged w c t;
-          holders = k.holders;
-          come = come_after clients w c t (subst (λ z. z < clients) number (k.makers.numbers id m.0 at cl)) k.come;
-          sound = sound_staged kinds quota w c t before (λ r e. absurd (cc)) (ap request_of (sym was))
-              (λ e. absurd (cc)) (λ y. ap (served_now y c) (sym was)) k.sound;
-          -- the words and the slots agree with the new world
-          tied = tied_row c n t w.hand w.log (some (slot.Request p)) ok.small (λ y _. refl)
-              (λ e. absurd (cc)) (ap request_of (sym was)) word (p, refl, same) k.tied;
-          leave = row_leaves w c t (ap request_of was);
-          -- the other clients keep what they know
-          others = λ d other. later_gone w w.clock c d t w.done before
-              (λ r e. absurd cc) refl (λ e. other (e ∙ sym number));
-          -- the own call waits
-          own = subst (λ z. SeatAgrees kinds (staged w c t) z v') (sym number)
-              (seat_unanswered kinds w w.clock c t w.done m.0 (own.Waiting q) m.0.done before
-              (λ r e. absurd cc) never
-              (inl refl) ok.done (covers_own kinds w c m.0 (own.Drawn q) is ok) ok);
-        }),
-        λ r is'. ap (λ (z : AnyRequest). (with_own (own.Waiting z) m.0, rest m.1))
-            (ap (request_known q) (sym is ∙ is')),
-      )
+  -- posting keeps the rule, if the client has drawn the request, and has it in its hands
+  pub post_keeps_rule : (slots id client word : ℕ) (me : Me (Slot S O R) DeskView) (request : AnyRequest)
+      (sent : Request O) (more : List (ℕ × Slot S O R))
+      → me.0.role ≡ role.Client → me.0.number ≡ client → me.0.own ≡ own.Drawn request → me.0.held ≡ held.Free
+      → request_in op_in sent ≡ request → word ≡ 1 + request.object → me.1 ≡ (16 + client, slot.Request sent) ∷ more
+      → Allows DeskRule slots id me (row_place client) (λ _. word)
+      (λ _. play.posts content op_in reply_in (step slots (row_place client) word 0 maybe.none) me word)
+  post_keeps_rule slots id client word me request sent more is_client number is free same is_word carried state rule
+      deep at small =
+      let world : World = rule.world in
+      let ok = subst (λ z. SeatAgrees kinds world z me.0) number (mine rule id is_client at) in
+      let was : world.stage client ≡ drawn request = subst (λ o. OwnCallAgrees o (world.stage client)) is ok.own in
+      let numbered : client < clients = subst (λ z. z < clients) number (rule.makers.numbers id me.0 at is_client) in
+      let stage : Stage = posted request in
+      let view' : DeskView = with_own (own.Waiting request) me.0 in
+      let unpicked : NotPicked (world.stage client) = λ q e. absurd cc in
+      let unposted : NotPosted (world.stage client) = λ q e. absurd cc in
+      let unanswered : NotAnswered (world.stage client) = λ q a e. absurd cc in
+      let after : After rule me.0 view' (set state.words (row_place client) word)
+      (set state.homes (16 + client) (some (slot.Request sent))) =
+      record {
+        world = staged world client stage;
+        holders = rule.holders;
+        come = come_after clients world client stage numbered rule.come;
+        sound = sound_staged kinds quota world client stage unpicked (λ q e. absurd (cc)) (ap request_of (sym was))
+            (λ e. absurd (cc)) (λ y. ap (served_now y client) (sym was)) rule.sound;
+        -- the words and the slots agree with the new world
+        tied = tied_row client word stage world.hand world.log (some (slot.Request sent)) ok.small (λ y _. refl)
+            (λ e. absurd (cc)) (ap request_of (sym was)) is_word (sent, refl, same) rule.tied;
+        leave = row_leaves world client stage (ap request_of was);
+        -- the other clients keep what they know
+        others = λ another other. later_gone world world.clock client stage world.done another unpicked unposted refl
+            (λ e. other (e ∙ sym number));
+        -- the own call waits
+        own = subst (λ z. SeatAgrees kinds (staged world client stage) z view') (sym number)
+            (seat_unanswered world world.clock client stage world.done kinds me.0 (own.Waiting request) me.0.done
+            unpicked unposted unanswered (inl refl) ok.done
+            (covers_own kinds world client me.0 (own.Drawn request) is ok) ok);
+      } in
+      let told : play.posts content op_in reply_in (step slots (row_place client) word 0 maybe.none) me word
+      (view', rest me.1) =
+      λ q is'. ap (λ (z : AnyRequest). (with_own (own.Waiting z) me.0, rest me.1))
+      (ap (request_known request) (sym is ∙ is')) in
+      (view', gives, tt, rw carried (kept_after rule id view' at is_client alike after), told)
 
   -- ---- looking for the answer, and taking it
 
-  is_answered : (o : Own) (t : Stage) (q : AnyRequest) → o ≡ own.Waiting q → q.object < 16 → OwnCallAgrees o t
-      → row_word t ≡ 33 → (a : AnyAnswer) × (t ≡ answered q a)
-  is_answered o t q is low ok e = grind arith
+  is_answered : (call : Own) (stage : Stage) (request : AnyRequest) → call ≡ own.Waiting request → request.object < 16
+      → OwnCallAgrees call stage → row_word stage ≡ 33 → (answer : AnyAnswer) × (stage ≡ answered request answer)
+  is_answered call stage request is low ok word = grind arith
 
-  -- what the client has seen of each object, with the answer, after it has taken it
-  covers_taken : (kinds : List Kind) (w : World) (c : ℕ) (v : DeskView) (q : AnyRequest) (a : AnyAnswer)
-      (l : List AnyEntry) → v.own ≡ own.Waiting q → q.object < length v.seen
-      → entries_of_client c l ≡ served q.object c v.done ++ logged_on q.object c q a → SeatAgrees kinds w c v
-      → (y : ℕ) → StartsWith (entries_of_client c (seen_of (after_meet q.object l v) y))
-      (served y c v.done ++ owed y c (own.Taken q a))
-  covers_taken kinds w c v q a l is low e ok =
-      seen_all (λ y z. StartsWith (entries_of_client c z) (served y c v.done ++ logged_on y c q a)) v.seen q.object
-      l low
-      ([], e ∙ sym (append-nil (served q.object c v.done ++ logged_on q.object c q a)))
-      (λ y other. subst (λ z. StartsWith (entries_of_client c (seen_of v y)) (served y c v.done ++ z))
-      (sym (logged_else y c q a (λ f. other (sym f)))) (covers_own kinds w c v (own.Waiting q) is ok y))
+  -- a client does not know that its row is answered, if its word is another one
+  not_ready : (world : World) (client : ℕ) (view : DeskView) → SeatAgrees kinds world client view
+      → row_word (world.stage client) ≢ 33 → view.ready ≡ false
+  not_ready world client view ok miss =
+      false_from_ne_true view.ready (λ e. let a = ok.ready e in miss (ap row_word a.2))
 
-  pub look_for_answer_keeps_rule : (slots id j : ℕ) (m : Me (Slot S O R) DeskView) → m.0.role ≡ role.Client
-      → m.0.number ≡ j → j < 32
-      → Allows DeskRule slots id m (row_place j) (λ f. f)
-      (play.looks_for_answer content op_in reply_in (step slots (row_place j) 0 0 maybe.none) m)
-  look_for_answer_keeps_rule slots id c m cl number few s k deep at small =
-      let w : World = k.world in
-      let ok = subst (λ z. SeatAgrees kinds w z m.0) number (mine k id cl at) in
-      let word : get_or s.words (row_place c) 0 ≡ row_word (w.stage c) = k.tied.rows c few in
-      dite (ℕ_discrete (get_or s.words (row_place c) 0) 33)
-      (λ hit. (
-        m.0,
-        keeps,
-        tt,
-        looks k (row_place c) id m.1 cl at,
-        λ d p own_row here is. ((λ _. refl), λ miss. absurd (miss hit)),
-      ))
-      (λ miss. (
-        after_miss (row_place c) m.0,
-        keeps,
-        tt,
-        misses k (row_place c) id m.1 cl at,
-        λ d p own_row here is. (
-          (λ hit. absurd (miss hit)),
-          λ _. (refl, false_from_ne_true m.0.ready (λ e. let a = ok.ready e in miss (word ∙ ap row_word a.2))),
-        ),
-      ))
+  -- what the client has seen of each object, after it has taken the answer with a log that has it
+  covers_taken : (world : World) (client : ℕ) (view : DeskView) (request : AnyRequest) (answer : AnyAnswer)
+      (log : List AnyEntry) → view.own ≡ own.Waiting request → request.object < length view.seen
+      → entries_of_client client log
+      ≡ served request.object client view.done ++ logged_on request.object client request answer
+      → SeatAgrees kinds world client view
+      → Covers client (after_meet request.object log view) view.done (own.Taken request answer)
+  covers_taken world client view request answer log is low calls ok =
+      let object : ℕ = request.object in
+      seen_all
+      (λ y z. StartsWith (entries_of_client client z) (served y client view.done ++ logged_on y client request answer))
+      view.seen object log low
+      ([], calls ∙ sym (append-nil (served object client view.done ++ logged_on object client request answer)))
+      (λ y other. subst (λ z. StartsWith (entries_of_client client (seen_of view y)) (served y client view.done ++ z))
+      (sym (logged_else y client request answer (λ f. other (sym f))))
+      (covers_own kinds world client view (own.Waiting request) is ok y))
 
-  pub take_keeps_rule : (slots id j : ℕ) (m : Me (Slot S O R) DeskView) (q : AnyRequest) → m.0.role ≡ role.Client
-      → m.0.number ≡ j
-      → m.0.own ≡ own.Waiting q → m.0.held ≡ held.Free → q.object < 16 → j < 32
-      → Allows DeskRule slots id m (row_place j) (λ f. either (eqb f 33) 0 f)
-      (play.takes_answer content op_in reply_in (step slots (row_place j) 33 0 maybe.none) m)
-  take_keeps_rule slots id c m q cl number is free low few s k deep at small =
-      let w : World = k.world in
-      let ok = subst (λ z. SeatAgrees kinds w z m.0) number (mine k id cl at) in
-      let word : get_or s.words (row_place c) 0 ≡ row_word (w.stage c) = k.tied.rows c few in let wide = ok.wide_seen in
-      dite (ℕ_discrete (get_or s.words (row_place c) 0) 33)
+  pub look_for_answer_keeps_rule : (slots id client : ℕ) (me : Me (Slot S O R) DeskView) → me.0.role ≡ role.Client
+      → me.0.number ≡ client → client < 32
+      → Allows DeskRule slots id me (row_place client) (λ f. f)
+      (play.looks_for_answer content op_in reply_in (step slots (row_place client) 0 0 maybe.none) me)
+  look_for_answer_keeps_rule slots id client me is_client number few state rule deep at small =
+      let world : World = rule.world in
+      let found : ℕ = get_or state.words (row_place client) 0 in
+      let ok = subst (λ z. SeatAgrees kinds world z me.0) number (mine rule id is_client at) in
+      let word : found ≡ row_word (world.stage client) = rule.tied.rows client few in
+      let look : Step (Slot S O R) = step slots (row_place client) 0 0 maybe.none in
+      dite (ℕ_discrete found 33)
+      (λ hit.
+      let told : play.looks_for_answer content op_in reply_in look me found me =
+      λ d q own_row here waiting. ((λ _. refl), λ miss. absurd (miss hit)) in
+      (me.0, keeps, tt, looks rule (row_place client) id me.1 is_client at, told))
+      (λ miss.
+      let view' : DeskView = after_miss (row_place client) me.0 in
+      let not : me.0.ready ≡ false = not_ready world client me.0 ok (λ e. miss (word ∙ e)) in
+      let told : play.looks_for_answer content op_in reply_in look me found (view', me.1) =
+      λ d q own_row here waiting. ((λ hit. absurd (miss hit)), λ _. (refl, not)) in
+      (view', keeps, tt, misses rule (row_place client) id me.1 is_client at, told))
+
+  pub take_keeps_rule : (slots id client : ℕ) (me : Me (Slot S O R) DeskView) (request : AnyRequest)
+      → me.0.role ≡ role.Client → me.0.number ≡ client
+      → me.0.own ≡ own.Waiting request → me.0.held ≡ held.Free → request.object < 16 → client < 32
+      → Allows DeskRule slots id me (row_place client) (λ f. either (eqb f 33) 0 f)
+      (play.takes_answer content op_in reply_in (step slots (row_place client) 33 0 maybe.none) me)
+  take_keeps_rule slots id client me request is_client number is free low few state rule deep at small =
+      let world : World = rule.world in
+      let found : ℕ = get_or state.words (row_place client) 0 in
+      let ok = subst (λ z. SeatAgrees kinds world z me.0) number (mine rule id is_client at) in
+      let word : found ≡ row_word (world.stage client) = rule.tied.rows client few in
+      let wide = ok.wide_seen in
+      let attempt : Step (Slot S O R) = step slots (row_place client) 33 0 maybe.none in
+      dite (ℕ_discrete found 33)
       -- the word says that there is an answer: the client takes it
       (λ hit.
-      let f = is_answered m.0.own (w.stage c) q is low ok.own (sym word ∙ hit) in let was = f.1 in
-      let x : ℕ = q.object in let l : List AnyEntry = w.log x in
-      let home = subst (CallAt content op_in reply_in (get_elem? s.homes (16 + c))) was (k.tied.calls c few) in
-      let b : Answer R = home.0 in
-      let a : AnyAnswer = f.0 in let image : answer_in reply_in b ≡ a = home.2 in
-      let t : Stage = taken q a in let v' : DeskView = after_take q (answer_in reply_in b) l m.0 in
-      let before : (p : AnyRequest) → w.stage c ≢ picked p = λ p e. absurd cc in
+      let object : ℕ = request.object in
+      let log : List AnyEntry = world.log object in
+      let there = is_answered me.0.own (world.stage client) request is low ok.own (sym word ∙ hit) in
+      let answer : AnyAnswer = there.0 in
+      let was : world.stage client ≡ answered request answer = there.1 in
+      let home = subst (CallAt content op_in reply_in (get_elem? state.homes (16 + client))) was
+      (rule.tied.calls client few) in
+      let given : Answer R = home.0 in
+      let image : answer_in reply_in given ≡ answer = home.2 in
+      let numbered : client < clients = subst (λ z. z < clients) number (rule.makers.numbers id me.0 at is_client) in
+      let stage : Stage = taken request answer in
+      let view' : DeskView = after_take request (answer_in reply_in given) log me.0 in
+      let unpicked : NotPicked (world.stage client) = λ q e. absurd cc in
+      let unposted : NotPosted (world.stage client) = λ q e. absurd cc in
       -- the client's own entries in the log: its calls that are over, and this one
-      let calls : entries_of_client c l ≡ served x c m.0.done ++ logged_on x c q a =
-      k.sound.counted c x ∙ λ i. served x c (sym ok.done i) ++ served_now x c (was i) in
+      let calls : entries_of_client client log
+      ≡ served object client me.0.done ++ logged_on object client request answer =
+      rule.sound.counted client object
+      ∙ λ i. served object client (sym ok.done i) ++ served_now object client (was i) in
       -- the view with the whole log seen
-      let begins = saw kinds w c x m.0 l low (starts_same l)
-      (all_covered kinds quota w c x m.0.done m.0.own ok.done ok.own k.sound) ok in (
-        v',
-        takes (16 + c) (slot.Answer b),
+      let whole = all_covered kinds quota world client object me.0.done me.0.own ok.done ok.own rule.sound in
+      let seat : SeatAgrees kinds world client (after_meet object log me.0) =
+      saw kinds world client object me.0 log low (starts_same log) whole ok in
+      let covers = covers_taken world client me.0 request answer log is (omega arith) calls ok in
+      let after : After rule me.0 view' (set state.words (row_place client) 0)
+      (set state.homes (16 + client) maybe.none) =
+      record {
+        world = staged world client stage;
+        holders = rule.holders;
+        come = come_after clients world client stage numbered rule.come;
+        sound = sound_staged kinds quota world client stage unpicked (λ q e. absurd (cc)) (ap request_of (sym was))
+            (λ e. absurd (cc)) (λ y. ap (served_now y client) (sym was)) rule.sound;
+        -- the words and the slots agree with the new world
+        tied = tied_row client 0 stage world.hand world.log maybe.none few (λ y _. refl) (λ e. absurd (cc))
+            (ap request_of (sym was)) refl tt rule.tied;
+        leave = row_leaves world client stage (ap request_of was);
+        -- the other clients keep what they know
+        others = λ another other. later_gone world world.clock client stage world.done another unpicked unposted refl
+            (λ e. other (e ∙ sym number));
+        -- the own call has its answer
+        own = subst (λ z. SeatAgrees kinds (staged world client stage) z view') (sym number)
+            (subst (λ z. SeatAgrees kinds (staged world client stage) client (after_take request z log me.0))
+            (sym image)
+            (seat_gone world world.clock client stage world.done kinds (after_meet object log me.0)
+            (own.Taken request answer) me.0.done unpicked unposted refl ok.done covers seat));
+      } in
+      -- what a hit tells of the answer and the log, and that it is no miss
+      let legal : IsLegalLog (kind_at me.0.kinds object) log =
+      subst (λ z. IsLegalLog (kind_at z object) log) (sym ok.kinds_are) (rule.sound.legal object) in
+      let logs_calls : entries_of_client client log
+      ≡ served object client me.0.done ++ logged client request (answer_in reply_in given) =
+      calls ∙ ap (λ z. served object client me.0.done ++ z)
+      (logged_here object client request answer refl ∙ ap (logged client request) (sym image)) in
+      let own_calls : entries_of_client me.0.number log
+      ≡ served object me.0.number me.0.done ++ logged me.0.number request (answer_in reply_in given) =
+      subst
+      (λ z. entries_of_client z log ≡ served object z me.0.done ++ logged z request (answer_in reply_in given))
+      (sym number) logs_calls in
+      let told : play.takes_answer content op_in reply_in attempt me found
+      (view', (16 + client, slot.Answer given) ∷ me.1) =
+      λ d q own_row here waiting.
+      let row : client ≡ d = omega arith in
+      let same : request ≡ q = ap (request_known request) (sym is ∙ waiting) in (
+        (λ _. (
+          given,
+          log,
+          (λ i. (after_take (same i) (answer_in reply_in given) log me.0, (16 + row i, slot.Answer given) ∷ me.1)),
+          subst (λ z. IsLegalLog (kind_at me.0.kinds z.object) log) same legal,
+          subst (λ z. StartsWith log (seen_of me.0 z.object)) same (ok.seen object),
+          subst (λ z. entries_of_client me.0.number log
+              ≡ served z.object me.0.number me.0.done ++ logged me.0.number z (answer_in reply_in given)) same
+              own_calls,
+        )),
+        λ miss. absurd (miss hit),
+      ) in (
+        view',
+        takes (16 + client) (slot.Answer given),
         home.1,
-        rw (eq-eqb (get_or s.words (row_place c) 0) 33 hit) (kept_after k id v' at cl alike record {
-          world = staged w c t;
-          holders = k.holders;
-          come = come_after clients w c t (subst (λ z. z < clients) number (k.makers.numbers id m.0 at cl)) k.come;
-          sound = sound_staged kinds quota w c t before (λ p e. absurd (cc)) (ap request_of (sym was))
-              (λ e. absurd (cc)) (λ y. ap (served_now y c) (sym was)) k.sound;
-          -- the words and the slots agree with the new world
-          tied = tied_row c 0 t w.hand w.log maybe.none few
-              (λ y _. refl) (λ e. absurd (cc)) (ap request_of (sym was)) refl tt k.tied;
-          leave = row_leaves w c t (ap request_of was);
-          -- the other clients keep what they know
-          others = λ d other. later_gone w w.clock c d t w.done before
-              (λ r e. absurd cc) refl (λ e. other (e ∙ sym number));
-          -- the own call has its answer
-          own = subst (λ z. SeatAgrees kinds (staged w c t) z v') (sym number)
-              (subst (λ z. SeatAgrees kinds (staged w c t) c (after_take q z l m.0)) (sym image)
-              (seat_gone kinds w w.clock c t w.done (after_meet x l m.0) (own.Taken q a) m.0.done before
-              (λ p e. absurd cc)
-              refl ok.done (covers_taken kinds w c m.0 q a l is (omega arith) calls ok) begins));
-        }),
-        -- what a hit tells of the answer and the log, and that it is no miss
-        λ d p own_row here is'. let row : c ≡ d = omega arith in let same = ap (request_known q) (sym is ∙ is') in (
-          (λ _. (
-            b,
-            l,
-            (λ i. (after_take (same i) (answer_in reply_in b) l m.0, (16 + row i, slot.Answer b) ∷ m.1)),
-            subst (λ z. IsLegalLog (kind_at m.0.kinds z.object) l) same
-                (subst (λ z. IsLegalLog (kind_at z x) l) (sym ok.kinds_are) (k.sound.legal x)),
-            subst (λ z. StartsWith l (seen_of m.0 z.object)) same (ok.seen x),
-            subst (λ z. entries_of_client m.0.number l
-                ≡ served z.object m.0.number m.0.done ++ logged m.0.number z (answer_in reply_in b)) same
-                (subst (λ z. entries_of_client z l ≡ served x z m.0.done ++ logged z q (answer_in reply_in b))
-                (sym number)
-                (calls ∙ ap (λ z. served x c m.0.done ++ z) (logged_here x c q a refl ∙ ap (logged c q) (sym image)))),
-          )),
-          λ miss. absurd (miss hit),
-        ),
+        rw (eq-eqb found 33 hit) (kept_after rule id view' at is_client alike after),
+        told,
       ))
       -- another word: the client notes a miss
-      (λ miss. (
-        after_miss (row_place c) m.0,
+      (λ miss.
+      let view' : DeskView = after_miss (row_place client) me.0 in
+      let not : me.0.ready ≡ false = not_ready world client me.0 ok (λ e. miss (word ∙ e)) in
+      let told : play.takes_answer content op_in reply_in attempt me found (view', me.1) =
+      λ d q own_row here waiting. ((λ hit. absurd (miss hit)), λ _. (refl, not)) in (
+        view',
         keeps,
         tt,
-        rw (ne_eqb (get_or s.words (row_place c) 0) 33 miss) (misses k (row_place c) id m.1 cl at),
-        λ d p own_row here is'. (
-          (λ hit. absurd (miss hit)),
-          λ _. (refl, false_from_ne_true m.0.ready (λ e. let a = ok.ready e in miss (word ∙ ap row_word a.2))),
-        ),
+        rw (ne_eqb found 33 miss) (misses rule (row_place client) id me.1 is_client at),
+        told,
       ))
 
   -- ---- drawing the ticket of the return
@@ -359,51 +430,63 @@ module _ {S O R : Type 0} (content : S → Content) (op_in : O → AnyOp) (reply
   answer_known d (own.Taken q a) = a
   answer_known d o = d
 
-  pub return_keeps_rule : (slots id : ℕ) (m : Me (Slot S O R) DeskView) (q : AnyRequest) (a : AnyAnswer)
-      → m.0.role ≡ role.Client → m.0.own ≡ own.Taken q a → m.0.held ≡ held.Free → m.0.ended ≡ false
-      → Allows DeskRule slots id m clock_place (λ x. (x + 1) % 2 ^ 64)
-      (play.returns content op_in reply_in (step slots clock_place 1 0 maybe.none) m)
-  return_keeps_rule slots id m q a cl is free going s k deep at small =
-      let w : World = k.world in let c : ℕ = m.0.number in let ok = mine k id cl at in
-      let found : ℕ = get_or s.words clock_place 0 in
-      let d : AnyDone = record { request = q; answer = a; returned = found } in
-      let ds : List AnyDone = w.done c ++ d ∷ [] in let v' : DeskView = after_return q a found m.0 in
-      let was : w.stage c ≡ taken q a = subst (λ o. OwnCallAgrees o (w.stage c)) is ok.own in
-      let before : (r : AnyRequest) → w.stage c ≢ picked r = λ r e. absurd cc in
-      let never : (r : AnyRequest) (a : AnyAnswer) → w.stage c ≢ answered r a = λ r a e. absurd cc in
-      let prefix = ok.seen q.object in (
-        v',
-        keeps,
-        tt,
-        kept_after k id v' at cl alike record {
-          world = ticked w c idle ds;
-          holders = k.holders;
-          come = come_after clients w c idle (k.makers.numbers id m.0 at cl) k.come;
-          sound = sound_returned kinds quota w c found q a ok.small was k.tied.clock k.sound;
-          -- the words and the slots agree with the new world
-          tied = tied_clock c ((found + 1) % 2 ^ 64) idle ds (λ e. absurd (cc))
-              (ok.ended ∙ going) (ap row_word was) (λ home. tt) (more_by_one s k) k.tied;
-          leave = gone_leaves w (w.clock + 1) c idle (changed w.done c ds) (ok.ended ∙ going)
-              (changed_else w.done c ds);
-          -- the other clients keep what they know
-          others = λ e other. later_gone w (w.clock + 1) c e idle (changed w.done c ds) before
-              (λ r f. absurd cc) (changed_else w.done c ds e other) other;
-          -- the own call is over
-          own = seat_unanswered kinds w (w.clock + 1) c idle (changed w.done c ds) m.0 own.Idle
-              (m.0.done ++ d ∷ []) before
-              (λ r e. absurd cc) never refl
-              (ap (λ z. z ++ d ∷ []) ok.done ∙ sym (changed_here w.done c ds))
-              (λ y. subst (StartsWith (entries_of_client c (seen_of m.0 y)))
-              (sym (append-nil (served y c (m.0.done ++ d ∷ [])) ∙ served_more y c found m.0.done q a))
-              (covers_own kinds w c m.0 (own.Taken q a) is ok y)) ok;
-        },
-        -- the view after the step, and that all entries seen of the object have earlier tickets
-        λ p b is'. let e = sym is ∙ is' in (
-          (λ i. (after_return (ap (request_known q) e i) (ap (answer_known a) e i) found m.0, m.1)),
-          subst (λ z. All (λ (y : AnyEntry). y.ticket < found) (seen_of m.0 z.object)) (ap (request_known q) e)
-              (all_before (λ (y : AnyEntry). y.ticket < found) (seen_of m.0 q.object) prefix.0
-              (subst (All (λ (y : AnyEntry). y.ticket < found)) prefix.1
-              (subst (λ n. All (λ (y : AnyEntry). y.ticket < n) (w.log q.object)) (sym k.tied.clock)
-              (k.sound.early q.object)))),
-        ),
-      )
+  pub return_keeps_rule : (slots id : ℕ) (me : Me (Slot S O R) DeskView) (request : AnyRequest) (answer : AnyAnswer)
+      → me.0.role ≡ role.Client → me.0.own ≡ own.Taken request answer → me.0.held ≡ held.Free → me.0.ended ≡ false
+      → Allows DeskRule slots id me clock_place (λ x. (x + 1) % 2 ^ 64)
+      (play.returns content op_in reply_in (step slots clock_place 1 0 maybe.none) me)
+  return_keeps_rule slots id me request answer is_client is free going state rule deep at small =
+      let world : World = rule.world in
+      let client : ℕ = me.0.number in
+      let object : ℕ = request.object in
+      let found : ℕ = get_or state.words clock_place 0 in
+      let ok = mine rule id is_client at in
+      let was : world.stage client ≡ taken request answer =
+      subst (λ o. OwnCallAgrees o (world.stage client)) is ok.own in
+      -- one call more is over
+      let last : AnyDone = record { request = request; answer = answer; returned = found } in
+      let calls : List AnyDone = world.done client ++ last ∷ [] in
+      let dones : ℕ → List AnyDone = changed world.done client calls in
+      let same : (d : ℕ) → d ≢ client → dones d ≡ world.done d = changed_else world.done client calls in
+      let over : me.0.done ++ last ∷ [] ≡ dones client =
+      ap (λ z. z ++ last ∷ []) ok.done ∙ sym (changed_here world.done client calls) in
+      let view' : DeskView = after_return request answer found me.0 in
+      let unpicked : NotPicked (world.stage client) = λ q e. absurd cc in
+      let unposted : NotPosted (world.stage client) = λ q e. absurd cc in
+      let unanswered : NotAnswered (world.stage client) = λ q a e. absurd cc in
+      let covers : Covers client me.0 (me.0.done ++ last ∷ []) own.Idle =
+      λ y. subst (StartsWith (entries_of_client client (seen_of me.0 y)))
+      (sym (append-nil (served y client (me.0.done ++ last ∷ []))
+      ∙ served_more y client found me.0.done request answer))
+      (covers_own kinds world client me.0 (own.Taken request answer) is ok y) in
+      let after : After rule me.0 view' (set state.words clock_place ((found + 1) % 2 ^ 64)) state.homes = record {
+        world = ticked world client idle calls;
+        holders = rule.holders;
+        come = come_after clients world client idle (rule.makers.numbers id me.0 at is_client) rule.come;
+        sound = sound_returned kinds quota world client found request answer ok.small was rule.tied.clock rule.sound;
+        -- the words and the slots agree with the new world
+        tied = tied_clock client ((found + 1) % 2 ^ 64) idle calls (λ e. absurd (cc)) (ok.ended ∙ going)
+            (ap row_word was) (λ home. tt) (more_by_one state rule) rule.tied;
+        leave = gone_leaves world (world.clock + 1) client idle dones (ok.ended ∙ going) same;
+        -- the other clients keep what they know
+        others = λ another other. later_gone world (world.clock + 1) client idle dones another unpicked unposted
+            (same another other) other;
+        -- the own call is over
+        own = seat_unanswered world (world.clock + 1) client idle dones kinds me.0 own.Idle (me.0.done ++ last ∷ [])
+            unpicked unposted unanswered refl over covers ok;
+      } in
+      -- all entries that were seen of the object have earlier tickets
+      let logged_early : All (λ (y : AnyEntry). y.ticket < found) (world.log object) =
+      subst (λ n. All (λ (y : AnyEntry). y.ticket < n) (world.log object)) (sym rule.tied.clock)
+      (rule.sound.early object) in
+      let begins = ok.seen object in
+      let seen_early : All (λ (y : AnyEntry). y.ticket < found) (seen_of me.0 object) =
+      all_before (λ (y : AnyEntry). y.ticket < found) (seen_of me.0 object) begins.0
+      (subst (All (λ (y : AnyEntry). y.ticket < found)) begins.1 logged_early) in
+      let told : play.returns content op_in reply_in (step slots clock_place 1 0 maybe.none) me found (view', me.1) =
+      λ q a is'.
+      let e = sym is ∙ is' in (
+        (λ i. (after_return (ap (request_known request) e i) (ap (answer_known answer) e i) found me.0, me.1)),
+        subst (λ z. All (λ (y : AnyEntry). y.ticket < found) (seen_of me.0 z.object)) (ap (request_known request) e)
+            seen_early,
+      ) in
+      (view', keeps, tt, kept_after rule id view' at is_client alike after, told)

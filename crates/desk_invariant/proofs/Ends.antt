@@ -1,11 +1,12 @@
 -- The end of a client, and the sight of another's, keep the rule: an end writes one word, and who has ended stays so.
-use Rattle.std.proofs.Common.{All, ◌≡◌, ◌≢◌, ℕ, ◌+◌, ◌<◌, Bool, true, false, List, ◌∷◌, map, length, get_or}
+use Rattle.std.proofs.Common.{All, ◌≡◌, ◌≢◌, ℕ, ◌+◌, ◌<◌, Bool, true, false, List, ◌∷◌, map, length, get_or, set}
 use Rattle.std.proofs.Common.{Some, refl, sym, ap, ◌∙◌, subst, arith}
 use mathlib.Core.Logic.{dite}
 use mathlib.Core.Option as maybe
+use mathlib.Core.Option.{some}
 use native.Mathlib.Decide.{ℕ_discrete}
 use Rattle.std.proofs.lemmas.List.Elements.{All-push}
-use Rattle.atomic_table.specs.Table.{State, Me, step, keeps, gives, Allows}
+use Rattle.atomic_table.specs.Table.{State, Me, Step, step, keeps, gives, Allows}
 use Rattle.model.specs.declared.Kind.{Kind}
 use Rattle.model.specs.declared.AnyOp.{AnyOp}
 use Rattle.model.specs.declared.AnyReply.{AnyReply}
@@ -27,23 +28,26 @@ use Rattle.desk_invariant.specs.Views.{end_place, own_request, journal, IsAtRest
 use Rattle.desk_invariant.specs.Views.{after_end_unset}
 use Rattle.desk_invariant.specs.Rule.{end_word, OwnCallAgrees, HeldAgrees, SeatAgrees}
 use Rattle.desk_invariant.specs.Plays as play
-use Rattle.desk_invariant.proofs.Seats.{Later, alike, kept_after, seat_knowing, mine, unmoved, Rule}
+use Rattle.desk_invariant.proofs.Seats.{Later, alike, After, kept_after, seat_knowing, mine, unmoved, Rule}
 use Rattle.desk_invariant.proofs.Ties.{tied_end}
 
-still_ended : (w : World) (c d : ℕ) → w.ended d ≡ true → changed w.ended c true d ≡ true
-still_ended w c = changed_all (λ d b. w.ended d ≡ true → b ≡ true) w.ended c true (λ e. refl) (λ d _ e. e)
+still_ended : (world : World) (client another : ℕ) → world.ended another ≡ true
+    → changed world.ended client true another ≡ true
+still_ended world client =
+    changed_all (λ d b. world.ended d ≡ true → b ≡ true) world.ended client true (λ e. refl) (λ d _ e. e)
 
-later_ended : (w : World) (c d : ℕ) → d ≢ c → Later w (ended_by w c) d
-later_ended w c d other = let logs : (y : ℕ) → StartsWith (w.log y) (w.log y) = λ y. starts_same (w.log y) in
-    assumption (changed_else w.ended c true d other)
+later_ended : (world : World) (client another : ℕ) → another ≢ client → Later world (ended_by world client) another
+later_ended world client another other =
+    let logs : (y : ℕ) → StartsWith (world.log y) (world.log y) = λ y. starts_same (world.log y) in
+    assumption (changed_else world.ended client true another other)
 
 -- the client itself, which ends
-seat_ended : (kinds : List Kind) (w : World) (c : ℕ) (v : DeskView) → SeatAgrees kinds w c v
-    → SeatAgrees kinds (ended_by w c) c (after_end v)
-seat_ended kinds w c v ok =
-    let over = changed_here w.ended c true in
-    let told : All (λ d. changed w.ended c true d ≡ true) v.retired =
-    λ i d l. still_ended w c (get_or v.retired i d) (ok.retired i d l) in
+seat_ended : (kinds : List Kind) (world : World) (client : ℕ) (view : DeskView) → SeatAgrees kinds world client view
+    → SeatAgrees kinds (ended_by world client) client (after_end view)
+seat_ended kinds world client view ok =
+    let over = changed_here world.ended client true in
+    let told : All (λ d. changed world.ended client true d ≡ true) view.retired =
+    λ i d l. still_ended world client (get_or view.retired i d) (ok.retired i d l) in
     assumption
 
 is_ended : (b : Bool) → end_word b ≡ 1 → b ≡ true
@@ -51,73 +55,86 @@ is_ended true e = refl
 is_ended false e = absurd (omega arith)
 
 -- what a client knows of its call is what the stage says
-pub own_is : (o : Own) (t : Stage) → OwnCallAgrees o t → own_request o ≡ request_of t
-own_is o t is = grind arith
+pub own_is : (call : Own) (stage : Stage) → OwnCallAgrees call stage → own_request call ≡ request_of stage
+own_is call stage is = grind arith
 
 -- a client at rest has come
-has_come : (o : Own) (t : Stage) → IsAtRest o → OwnCallAgrees o t → t ≢ absent
-has_come o t calm is gone = grind arith
+has_come : (call : Own) (stage : Stage) → IsAtRest call → OwnCallAgrees call stage → stage ≢ absent
+has_come call stage calm is gone = grind arith
 
 module _ {S O R : Type 0} (content : S → Content) (op_in : O → AnyOp) (reply_in : R → AnyReply) (kinds : List Kind)
     (clients quota : ℕ) where
   abbrev DeskRule : State (Slot S O R) DeskView → Type 0
   DeskRule = Rule content op_in reply_in kinds clients quota
 
-  pub end_keeps_rule : (slots id c : ℕ) (m : Me (Slot S O R) DeskView) (j : Journal O R) (tl : List (ℕ × Slot S O R))
-      → m.0.role ≡ role.Client
-      → m.0.number ≡ c → IsAtRest m.0.own → m.0.held ≡ held.Free
-      → map (event_in op_in reply_in) j.events.items ≡ journal m.0 → m.1 ≡ (48 + c, slot.Journal j) ∷ tl
-      → Allows DeskRule slots id m (end_place c) (λ _. 1)
-      (λ _. play.ends content op_in reply_in (step slots (end_place c) 1 0 maybe.none) m 1)
-  end_keeps_rule slots id c m j tl cl number calm free says carried s k deep at small =
-      let w : World = k.world in
-      let ok = subst (λ z. SeatAgrees kinds w z m.0) number (mine k id cl at) in let v' : DeskView = after_end m.0 in
-      let says' : map (event_in op_in reply_in) j.events.items ≡ journal_of (w.done c) (request_of (w.stage c)) =
-      says ∙ λ i. journal_of (ok.done i) (own_is m.0.own (w.stage c) ok.own i) in (
-        v',
-        gives,
-        tt,
-        rw carried (kept_after k id v' at cl alike record {
-          world = ended_by w c;
-          holders = λ x d e. let b = k.holders x d e in (
-            b.0,
-            changed_else w.ended c true d
-                (λ same. subst (HeldAgrees (length kinds) w c) free ok.held x (e ∙ ap Some same)) ∙ b.1,
-          );
-          come = k.come;
-          sound = sound_ended kinds quota w c k.sound;
-          tied = tied_end c j ok.small (has_come m.0.own (w.stage c) calm ok.own) says' k.tied;
-          leave = λ d e. (still_ended w c d e, refl);
-          others = λ d other. later_ended w c d (λ e. other (e ∙ sym number));
-          own = subst (λ z. SeatAgrees kinds (ended_by w c) z v') (sym number) (seat_ended kinds w c m.0 ok);
-        }),
-        refl,
-      )
+  -- the end of a client that is at rest keeps the rule, if its journal, which it has in its hands, says what it knows
+  pub end_keeps_rule : (slots id client : ℕ) (me : Me (Slot S O R) DeskView) (book : Journal O R)
+      (more : List (ℕ × Slot S O R)) → me.0.role ≡ role.Client
+      → me.0.number ≡ client → IsAtRest me.0.own → me.0.held ≡ held.Free
+      → map (event_in op_in reply_in) book.events.items ≡ journal me.0 → me.1 ≡ (48 + client, slot.Journal book) ∷ more
+      → Allows DeskRule slots id me (end_place client) (λ _. 1)
+      (λ _. play.ends content op_in reply_in (step slots (end_place client) 1 0 maybe.none) me 1)
+  end_keeps_rule slots id client me book more is_client number calm free says carried state rule deep at small =
+      let world : World = rule.world in
+      let ok = subst (λ z. SeatAgrees kinds world z me.0) number (mine rule id is_client at) in
+      let says' : map (event_in op_in reply_in) book.events.items ≡ journal_of (world.done client)
+      (request_of (world.stage client)) =
+      says ∙ λ i. journal_of (ok.done i) (own_is me.0.own (world.stage client) ok.own i) in
+      let come = has_come me.0.own (world.stage client) calm ok.own in
+      let nothing : (x : ℕ) → world.holder x ≢ Some client =
+      subst (HeldAgrees (length kinds) world client) free ok.held in
+      let world' : World = ended_by world client in
+      let view' : DeskView = after_end me.0 in
+      let after : After rule me.0 view' (set state.words (end_place client) 1)
+      (set state.homes (48 + client) (some (slot.Journal book))) =
+      record {
+        world = world';
+        holders = λ x d e.
+            let b = rule.holders x d e in
+            (b.0, changed_else world.ended client true d (λ same. nothing x (e ∙ ap Some same)) ∙ b.1);
+        come = rule.come;
+        sound = sound_ended kinds quota world client rule.sound;
+        tied = tied_end client book ok.small come says' rule.tied;
+        leave = λ d e. (still_ended world client d e, refl);
+        others = λ another other. later_ended world client another (λ e. other (e ∙ sym number));
+        own = subst (λ z. SeatAgrees kinds world' z view') (sym number) (seat_ended kinds world client me.0 ok);
+      } in
+      (view', gives, tt, rw carried (kept_after rule id view' at is_client alike after), refl)
 
-  pub look_at_end_keeps_rule : (slots id d : ℕ) (m : Me (Slot S O R) DeskView) → m.0.role ≡ role.Client → d < 32
-      → Allows DeskRule slots id m (end_place d) (λ f. f)
-      (play.sees_end content op_in reply_in (step slots (end_place d) 0 0 maybe.none) m)
-  look_at_end_keeps_rule slots id d m cl low s k deep at small = let w : World = k.world in let ok = mine k id cl at in
-      let word = k.tied.ends d low in dite (ℕ_discrete (get_or s.words (end_place d) 0) 1)
-      (λ hit. let is : w.ended d ≡ true = is_ended (w.ended d) (sym word ∙ hit) in (
-        after_end_seen d m.0,
-        keeps,
-        tt,
-        unmoved k (end_place d) id (after_end_seen d m.0) m.1 at cl alike
-            (seat_knowing ok.ready (All-push (λ e. w.ended e ≡ true) m.0.retired d ok.retired is) ok),
-        λ e same. let f : d ≡ e = omega arith in
-            ((λ _. ap (λ z. (after_end_seen z m.0, m.1)) f), λ miss. absurd (miss hit)),
-      ))
-      (λ miss. (
-        after_end_unset d m.0,
-        keeps,
-        tt,
-        unmoved k (end_place d) id (after_end_unset d m.0) m.1 at cl alike (seat_knowing ok.ready ok.retired ok),
-        λ e same. let f : d ≡ e = omega arith in (
-          (λ hit. absurd (miss hit)),
-          λ _. (
-            ap (λ z. (after_end_unset z m.0, m.1)) f,
-            λ i z l g. miss (word ∙ ap end_word (ap w.ended (f ∙ sym g) ∙ ((k.seats id m.0 at).left i z l).0)),
-          ),
-        ),
-      ))
+  pub look_at_end_keeps_rule : (slots id another : ℕ) (me : Me (Slot S O R) DeskView) → me.0.role ≡ role.Client
+      → another < 32
+      → Allows DeskRule slots id me (end_place another) (λ f. f)
+      (play.sees_end content op_in reply_in (step slots (end_place another) 0 0 maybe.none) me)
+  look_at_end_keeps_rule slots id another me is_client low state rule deep at small =
+      let world : World = rule.world in
+      let found : ℕ = get_or state.words (end_place another) 0 in
+      let ok = mine rule id is_client at in
+      let word : found ≡ end_word (world.ended another) = rule.tied.ends another low in
+      let look : Step (Slot S O R) = step slots (end_place another) 0 0 maybe.none in
+      dite (ℕ_discrete found 1)
+      -- the other client has ended
+      (λ hit.
+      let view' : DeskView = after_end_seen another me.0 in
+      let is : world.ended another ≡ true = is_ended (world.ended another) (sym word ∙ hit) in
+      let retired = All-push (λ d. world.ended d ≡ true) me.0.retired another ok.retired is in
+      let knows : SeatAgrees kinds world me.0.number view' = seat_knowing ok.ready retired ok in
+      let told : play.sees_end content op_in reply_in look me found (view', me.1) =
+      λ another' place.
+      let same : another ≡ another' = omega arith in
+      ((λ _. ap (λ z. (after_end_seen z me.0, me.1)) same), λ miss. absurd (miss hit)) in
+      (view', keeps, tt, unmoved rule (end_place another) id view' me.1 at is_client alike knows, told))
+      -- it has not, so no message told its end
+      (λ miss.
+      let view' : DeskView = after_end_unset another me.0 in
+      let knows : SeatAgrees kinds world me.0.number view' = seat_knowing ok.ready ok.retired ok in
+      let told : play.sees_end content op_in reply_in look me found (view', me.1) =
+      λ another' place.
+      let same : another ≡ another' = omega arith in
+      let not_told : All (λ l. l.client ≢ another') me.0.left =
+      λ i z l there.
+      let ended = ((rule.seats id me.0 at).left i z l).0 in
+      miss (word ∙ ap end_word (ap world.ended (same ∙ sym there) ∙ ended)) in (
+        (λ hit. absurd (miss hit)),
+        λ _. (ap (λ z. (after_end_unset z me.0, me.1)) same, not_told),
+      ) in
+      (view', keeps, tt, unmoved rule (end_place another) id view' me.1 at is_client alike knows, told))

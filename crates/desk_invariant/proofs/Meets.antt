@@ -3,7 +3,7 @@
 use Rattle.std.proofs.Common.{◌≡◌, ℕ, ◌<◌, List, [], length, get_or, refl, sym, ap, ◌∙◌, subst, arith, get_or-set_same}
 use mathlib.Core.Option as maybe
 use Rattle.std.proofs.lemmas.List.Elements.{All-nil}
-use Rattle.atomic_table.specs.Table.{State, Me, step, keeps, Allows, Splits, Joins}
+use Rattle.atomic_table.specs.Table.{State, Me, Step, step, keeps, Allows, Splits, Joins}
 use Rattle.model.specs.declared.Kind.{Kind}
 use Rattle.model.specs.declared.AnyOp.{AnyOp}
 use Rattle.model.specs.declared.AnyReply.{AnyReply}
@@ -14,7 +14,7 @@ use Rattle.desk_invariant.specs.declared.board.DeskView.{DeskView}
 use Rattle.desk_model.specs.World.{AnyEntry, World, kind_at, entries_of_client, IsLegalLog, StartsWith}
 use Rattle.desk_model.proofs.Entries.{legal_front, starts_same, starts_longer}
 use Rattle.desk_invariant.specs.Views.{seen_of, received_of, after_meet, seen_message, after_message, empty_message}
-use Rattle.desk_invariant.specs.Views.{IsAtRest}
+use Rattle.desk_invariant.specs.Views.{IsAtRest, IsAccount}
 use Rattle.desk_invariant.specs.Rule.{HasLeft, SeatAgrees}
 use Rattle.desk_invariant.specs.Plays as play
 use Rattle.desk_invariant.proofs.Seats.{alike, seat_knowing, mine, unmoved, Rule}
@@ -26,73 +26,92 @@ module _ {S O R : Type 0} (content : S → Content) (op_in : O → AnyOp) (reply
   abbrev DeskRule : State (Slot S O R) DeskView → Type 0
   DeskRule = Rule content op_in reply_in kinds clients quota
 
-  pub seen_message_keeps_rule : (id : ℕ) (v : DeskView) → Splits DeskRule id v v (seen_message v)
-  seen_message_keeps_rule id v =
-      sending_keeps_rule content op_in reply_in kinds clients quota id v (seen_message v) refl
-      (λ s k at j. message_ok kinds k.lists k.world k.seat_of j (seen_message v) refl (k.seats id v at).seen
-      (λ x. (k.world.log x, refl)) (All-nil (HasLeft k.world)))
+  pub seen_message_keeps_rule : (id : ℕ) (view : DeskView) → Splits DeskRule id view view (seen_message view)
+  seen_message_keeps_rule id view =
+      sending_keeps_rule content op_in reply_in kinds clients quota id view (seen_message view) refl
+      (λ state rule at j. message_ok kinds rule.lists rule.world rule.seat_of j (seen_message view) refl
+      (rule.seats id view at).seen (λ x. (rule.world.log x, refl)) (All-nil (HasLeft rule.world)))
 
-  pub message_keeps_rule : (id : ℕ) (v : DeskView) (other : ℕ) (t : DeskView)
-      → Joins DeskRule id v other t (after_message v t) empty_message
-  message_keeps_rule id v other t =
-      receiving_keeps_rule content op_in reply_in kinds clients quota id v (after_message v t) other t refl refl refl
-      (λ s k at there. let old = k.seats id v at in let client : v.role ≡ role.Client
-      → (k.seat_of v.number ≡ id) × SeatAgrees kinds k.world v.number (after_message v t) = λ f. let c = old.client f in
-      (c.0, seat_knowing c.1.ready c.1.retired c.1) in assumption (client, (k.seats other t there).seen))
+  pub message_keeps_rule : (id : ℕ) (view : DeskView) (other : ℕ) (message : DeskView)
+      → Joins DeskRule id view other message (after_message view message) empty_message
+  message_keeps_rule id view other message =
+      receiving_keeps_rule content op_in reply_in kinds clients quota id view (after_message view message) other message
+      refl refl refl
+      (λ state rule at there.
+      let old = rule.seats id view at in
+      let client : view.role ≡ role.Client
+      → (rule.seat_of view.number ≡ id) × SeatAgrees kinds rule.world view.number (after_message view message) =
+      λ is_client.
+      let c = old.client is_client in
+      (c.0, seat_knowing c.1.ready c.1.retired c.1) in
+      assumption (client, (rule.seats other message there).seen))
 
-  pub learn_keeps_rule : (slots id x : ℕ) (m : Me (Slot S O R) DeskView) → m.0.role ≡ role.Client → x < 16
-      → IsAtRest m.0.own
-      → Allows DeskRule slots id m x (λ f. f) (play.learns content op_in reply_in (step slots x 0 0 maybe.none) m)
-  learn_keeps_rule slots id x m cl low calm s k deep at small =
-      let w : World = k.world in let c : ℕ = m.0.number in
-      let ok = mine k id cl at in let l : List AnyEntry = w.log x in
-      let covers = all_covered kinds quota w c x m.0.done m.0.own ok.done ok.own k.sound in (
-        after_meet x l m.0,
-        keeps,
-        tt,
-        unmoved k x id (after_meet x l m.0) m.1 at cl alike (saw kinds w c x m.0 l low (starts_same l) covers ok),
-        (
-          l,
-          refl,
-          subst (λ z. IsLegalLog (kind_at z x) l) (sym ok.kinds_are) (k.sound.legal x),
-          ok.seen x,
-          (k.seats id m.0 at).received x,
-          ok.wide_seen,
-          accounts kinds quota w x m.0 l calm ok.done ok.own k.sound (starts_same l) covers,
-        ),
-      )
+  pub learn_keeps_rule : (slots id object : ℕ) (me : Me (Slot S O R) DeskView) → me.0.role ≡ role.Client → object < 16
+      → IsAtRest me.0.own
+      → Allows DeskRule slots id me object (λ f. f)
+      (play.learns content op_in reply_in (step slots object 0 0 maybe.none) me)
+  learn_keeps_rule slots id object me is_client low calm state rule deep at small =
+      let world : World = rule.world in
+      let client : ℕ = me.0.number in
+      let log : List AnyEntry = world.log object in
+      let found : ℕ = get_or state.words object 0 in
+      let look : Step (Slot S O R) = step slots object 0 0 maybe.none in
+      let view' : DeskView = after_meet object log me.0 in
+      let ok = mine rule id is_client at in
+      let covers = all_covered kinds quota world client object me.0.done me.0.own ok.done ok.own rule.sound in
+      let knows : SeatAgrees kinds world client view' =
+      saw kinds world client object me.0 log low (starts_same log) covers ok in
+      -- what the step tells of the log
+      let legal : IsLegalLog (kind_at me.0.kinds object) log =
+      subst (λ z. IsLegalLog (kind_at z object) log) (sym ok.kinds_are) (rule.sound.legal object) in
+      let seen : StartsWith log (seen_of me.0 object) = ok.seen object in
+      let received : StartsWith log (received_of me.0 object) = (rule.seats id me.0 at).received object in
+      let wide : length me.0.seen ≡ 16 = ok.wide_seen in
+      let account : IsAccount object me.0 log =
+      accounts kinds quota world object me.0 log calm ok.done ok.own rule.sound (starts_same log) covers in
+      let told : play.learns content op_in reply_in look me found (view', me.1) =
+      (log, refl, legal, seen, received, wide, account) in
+      (view', keeps, tt, unmoved rule object id view' me.1 at is_client alike knows, told)
 
-  pub adopt_keeps_rule : (slots id x : ℕ) (m : Me (Slot S O R) DeskView) → m.0.role ≡ role.Client → x < 16
-      → StartsWith (received_of m.0 x) (seen_of m.0 x) → IsAtRest m.0.own
-      → Allows DeskRule slots id m x (λ f. f) (play.adopts content op_in reply_in (step slots x 0 0 maybe.none) m)
-  adopt_keeps_rule slots id x m cl low later calm s k deep at small =
-      let w : World = k.world in let c : ℕ = m.0.number in let ok = mine k id cl at in
-      let l : List AnyEntry = received_of m.0 x in
-      let covers = starts_longer (entries_of_client c l) (entries_of_client c (seen_of m.0 x)) _
-      (entries_start c l (seen_of m.0 x) later) (ok.covers x) in (
-        after_meet x l m.0,
-        keeps,
-        tt,
-        unmoved k x id (after_meet x l m.0) m.1 at cl alike
-            (saw kinds w c x m.0 l low ((k.seats id m.0 at).received x) covers ok),
-        (
-          refl,
-          subst (λ z. IsLegalLog (kind_at z x) l) (sym ok.kinds_are)
-              (legal_front (kind_at kinds x) (w.log x) l ((k.seats id m.0 at).received x) (k.sound.legal x)),
-          accounts kinds quota w x m.0 l calm ok.done ok.own k.sound ((k.seats id m.0 at).received x) covers,
-        ),
-      )
+  pub adopt_keeps_rule : (slots id object : ℕ) (me : Me (Slot S O R) DeskView) → me.0.role ≡ role.Client → object < 16
+      → StartsWith (received_of me.0 object) (seen_of me.0 object) → IsAtRest me.0.own
+      → Allows DeskRule slots id me object (λ f. f)
+      (play.adopts content op_in reply_in (step slots object 0 0 maybe.none) me)
+  adopt_keeps_rule slots id object me is_client low later calm state rule deep at small =
+      let world : World = rule.world in
+      let client : ℕ = me.0.number in
+      let log : List AnyEntry = received_of me.0 object in
+      let seen : List AnyEntry = seen_of me.0 object in
+      let found : ℕ = get_or state.words object 0 in
+      let look : Step (Slot S O R) = step slots object 0 0 maybe.none in
+      let view' : DeskView = after_meet object log me.0 in
+      let ok = mine rule id is_client at in
+      let received : StartsWith (world.log object) log = (rule.seats id me.0 at).received object in
+      let covers = starts_longer (entries_of_client client log) (entries_of_client client seen) _
+      (entries_start client log seen later) (ok.covers object) in
+      let knows : SeatAgrees kinds world client view' = saw kinds world client object me.0 log low received covers ok in
+      -- what the step tells of the log that was received
+      let legal : IsLegalLog (kind_at me.0.kinds object) log =
+      subst (λ z. IsLegalLog (kind_at z object) log) (sym ok.kinds_are)
+      (legal_front (kind_at kinds object) (world.log object) log received (rule.sound.legal object)) in
+      let account : IsAccount object me.0 log =
+      accounts kinds quota world object me.0 log calm ok.done ok.own rule.sound received covers in
+      let told : play.adopts content op_in reply_in look me found (view', me.1) = (refl, legal, account) in
+      (view', keeps, tt, unmoved rule object id view' me.1 at is_client alike knows, told)
 
--- A client that is told back receives the log that the other has seen (a and b: before; a₁: with a message of b; a₂:
--- after a meeting that shows l; b₂: with a message of a₂).
-pub told_back : (x : ℕ) (a b a₁ a₂ b₂ : DeskView) (l : List AnyEntry) → x < 16 → a₁ ≡ after_message a (seen_message b)
-    → a₂ ≡ after_meet x l a₁
-    → length a₁.seen ≡ 16 → b₂ ≡ after_message b (seen_message a₂) → received_of b₂ x ≡ l
-told_back x a b a₁ a₂ b₂ l low e f wide g =
-    ap (λ (z : DeskView). received_of z x) g
-    ∙ (ap (λ (z : DeskView). seen_of z x) f ∙ get_or-set_same a₁.seen x l [] (omega arith))
+-- The client `one` gets a message of `other`, sees this log, and sends a message back: then the other has received the
+-- log. A prime is the view after one of these steps.
+pub told_back : (object : ℕ) (one other one' one'' other' : DeskView) (log : List AnyEntry) → object < 16
+    → one' ≡ after_message one (seen_message other) → one'' ≡ after_meet object log one'
+    → length one'.seen ≡ 16 → other' ≡ after_message other (seen_message one'') → received_of other' object ≡ log
+told_back object one other one' one'' other' log low got met wide got_back =
+    ap (λ (z : DeskView). received_of z object) got_back
+    ∙ (ap (λ (z : DeskView). seen_of z object) met ∙ get_or-set_same one'.seen object log [] (omega arith))
 
-pub begins_there : (x : ℕ) (a b a₁ b₂ : DeskView) (l : List AnyEntry) → a₁ ≡ after_message a (seen_message b)
-    → b₂.seen ≡ b.seen → StartsWith l (received_of a₁ x) → StartsWith l (seen_of b₂ x)
-begins_there x a b a₁ b₂ l e g h =
-    subst (λ z. StartsWith l (get_or z x [])) (sym g) (subst (λ (z : DeskView). StartsWith l (received_of z x)) e h)
+-- a log that begins with what `one` received from `other` begins with what the other has seen
+pub begins_there : (object : ℕ) (one other one' other' : DeskView) (log : List AnyEntry)
+    → one' ≡ after_message one (seen_message other) → other'.seen ≡ other.seen
+    → StartsWith log (received_of one' object) → StartsWith log (seen_of other' object)
+begins_there object one other one' other' log got same begins =
+    subst (λ z. StartsWith log (get_or z object [])) (sym same)
+    (subst (λ (z : DeskView). StartsWith log (received_of z object)) got begins)

@@ -10,7 +10,7 @@ use Rattle.model.specs.Objects.{Content}
 use Rattle.desk_invariant.specs.declared.board.Slot.{Slot}
 use Rattle.desk_invariant.specs.declared.board.Role.TheVariants as role
 use Rattle.desk_invariant.specs.declared.board.DeskView.{DeskView}
-use Rattle.desk_model.specs.World.{journal_of}
+use Rattle.desk_model.specs.World.{World, journal_of}
 use Rattle.desk_invariant.specs.Views.{end_notice, after_notice, empty_message, end_message}
 use Rattle.desk_invariant.specs.Rule.{HasLeft, SeatAgrees}
 use Rattle.desk_invariant.proofs.Seats.{seat_knowing, mine, Rule}
@@ -22,24 +22,30 @@ module _ {S O R : Type 0} (content : S → Content) (op_in : O → AnyOp) (reply
   abbrev DeskRule : State (Slot S O R) DeskView → Type 0
   DeskRule = Rule content op_in reply_in kinds clients quota
 
-  pub end_message_keeps_rule : (id : ℕ) (v : DeskView) → v.role ≡ role.Client → v.ended ≡ true
-      → Splits DeskRule id v v (end_message v)
-  end_message_keeps_rule id v cl over =
-      sending_keeps_rule content op_in reply_in kinds clients quota id v (end_message v) refl
-      (λ s k at j. let ok = mine k id cl at in
-      message_ok kinds k.lists k.world k.seat_of j (end_message v) refl (nothing_seen k.world)
-      (λ x. (k.world.log x, refl))
-      (All-cons (HasLeft k.world) (end_notice v) []
-      (ok.ended ∙ over, λ i. journal_of (sym ok.done i) (sym (own_is v.own (k.world.stage v.number) ok.own) i))
-      (All-nil (HasLeft k.world))))
+  pub end_message_keeps_rule : (id : ℕ) (view : DeskView) → view.role ≡ role.Client → view.ended ≡ true
+      → Splits DeskRule id view view (end_message view)
+  end_message_keeps_rule id view is_client over =
+      sending_keeps_rule content op_in reply_in kinds clients quota id view (end_message view) refl
+      (λ state rule at j.
+      let world : World = rule.world in
+      let ok = mine rule id is_client at in
+      let asked = own_is view.own (world.stage view.number) ok.own in
+      let left : HasLeft world (end_notice view) =
+      (ok.ended ∙ over, λ i. journal_of (sym ok.done i) (sym asked i)) in
+      message_ok kinds rule.lists world rule.seat_of j (end_message view) refl (nothing_seen world)
+      (λ x. (world.log x, refl)) (All-cons (HasLeft world) (end_notice view) [] left (All-nil (HasLeft world))))
 
-  pub notice_keeps_rule : (id : ℕ) (v : DeskView) (other : ℕ) (t : DeskView)
-      → Joins DeskRule id v other t (after_notice t.left v) empty_message
-  notice_keeps_rule id v other t =
-      receiving_keeps_rule content op_in reply_in kinds clients quota id v
-      (after_notice t.left v) other t refl refl refl (λ s k at there. let old = k.seats id v at in
-      let client : v.role ≡ role.Client
-      → (k.seat_of v.number ≡ id) × SeatAgrees kinds k.world v.number (after_notice t.left v) = λ f. let c = old.client
-      f in
+  pub notice_keeps_rule : (id : ℕ) (view : DeskView) (other : ℕ) (message : DeskView)
+      → Joins DeskRule id view other message (after_notice message.left view) empty_message
+  notice_keeps_rule id view other message =
+      receiving_keeps_rule content op_in reply_in kinds clients quota id view (after_notice message.left view) other
+      message refl refl refl
+      (λ state rule at there.
+      let old = rule.seats id view at in
+      let client : view.role ≡ role.Client
+      → (rule.seat_of view.number ≡ id) × SeatAgrees kinds rule.world view.number (after_notice message.left view) =
+      λ is_client.
+      let c = old.client is_client in
       (c.0, seat_knowing c.1.ready c.1.retired c.1) in
-      assumption (client, All-append (HasLeft k.world) v.left t.left old.left (k.seats other t there).left))
+      let new = rule.seats other message there in
+      assumption (client, All-append (HasLeft rule.world) view.left message.left old.left new.left))

@@ -1,8 +1,8 @@
 -- Picking a request up, putting it back and answering it keep the rule. The holder writes the stage of one row: its
 -- own client knows only that its call waits (`own_waits`), and every other row and view stays (`later_row`).
 use Rattle.std.proofs.Common.{◌≡◌, ◌≢◌, ℕ, ◌+◌, ◌<◌, eqb, Bool, true, ◌&&◌, ◌||◌, List, [], ◌∷◌, ◌++◌, length, get_or}
-use Rattle.std.proofs.Common.{filter, not, Option, Some, None, All, refl, sym, ap, subst, ◌∙◌, ⊎_elim, inl}
-use Rattle.std.proofs.Common.{inr, arith, eq-eqb, ne_eqb}
+use Rattle.std.proofs.Common.{filter, set, not, Option, Some, None, All, refl, sym, ap, subst, ◌∙◌, ⊎_elim}
+use Rattle.std.proofs.Common.{inl, inr, arith, eq-eqb, ne_eqb}
 use mathlib.Core.Logic.{dite}
 use mathlib.Core.Option as maybe
 use mathlib.Core.Option.{some}
@@ -12,7 +12,7 @@ use prog.Atomic.{either}
 use Rattle.std.proofs.lemmas.Bool.{eqb-true, and_parts, or_cases}
 use Rattle.std.proofs.lemmas.List.Elements.{All-nil, All-cons, All-head, All-tail, All-push}
 use Rattle.std.proofs.lemmas.Option.{same_Some}
-use Rattle.atomic_table.specs.Table.{State, Me, step, keeps, takes, gives, rest, Allows}
+use Rattle.atomic_table.specs.Table.{State, Me, Step, step, keeps, takes, gives, rest, Allows}
 use Rattle.model.specs.declared.Kind.{Kind}
 use Rattle.model.specs.declared.AnyOp.{AnyOp}
 use Rattle.model.specs.declared.AnyReply.{AnyReply}
@@ -40,125 +40,163 @@ use Rattle.desk_invariant.specs.Views.{row_place, seen_of, waits_on, after_row_m
 use Rattle.desk_invariant.specs.Views.{after_answer}
 use Rattle.desk_invariant.specs.Rule.{row_word, OwnCallAgrees, HeldAgrees, SeatAgrees, CallAt}
 use Rattle.desk_invariant.specs.Plays as play
-use Rattle.desk_invariant.proofs.Seats.{Later, row_leaves, alike, kept_after, looks, come_after, seat_knowing, mine}
-use Rattle.desk_invariant.proofs.Seats.{unmoved, Rule}
+use Rattle.desk_invariant.proofs.Seats.{NotPosted, NotAnswered, Later, row_leaves, alike, IsHand, pass_of}
+use Rattle.desk_invariant.proofs.Seats.{hand_of, After, kept_after, looks, come_after, seat_knowing, mine, unmoved}
+use Rattle.desk_invariant.proofs.Seats.{Rule}
 use Rattle.desk_invariant.proofs.Ties.{tied_row}
 use Rattle.desk_invariant.proofs.Locks.{held_log, held_object}
 
-is_posted : (t : Stage) (x : ℕ) → x < 16 → row_word t ≡ 1 + x → (q : AnyRequest) × (t ≡ posted q) × (q.object ≡ x)
-is_posted t x h e = grind arith
+-- the row has the word of a request for the object
+is_posted : (stage : Stage) (object : ℕ) → object < 16 → row_word stage ≡ 1 + object
+    → (request : AnyRequest) × (stage ≡ posted request) × (request.object ≡ object)
+is_posted stage object low word = grind arith
 
 -- the stage of a call that waits
 abbrev Waits : AnyRequest → Stage → Type 0
-Waits q t = OwnCallAgrees (own.Waiting q) t
+Waits request stage = OwnCallAgrees (own.Waiting request) stage
 
 -- the own call that is posted is the one that waits
-own_posted : (p q : AnyRequest) (o : Own) (t : Stage) → OwnCallAgrees o t → o ≡ own.Waiting p → t ≡ posted q → q ≡ p
-own_posted p q o t ok mine at = grind arith
+own_posted : (waiting request : AnyRequest) (call : Own) (stage : Stage) → OwnCallAgrees call stage
+    → call ≡ own.Waiting waiting → stage ≡ posted request → request ≡ waiting
+own_posted waiting request call stage ok is at = grind arith
 
 -- what a client knows of its own call stays true while the call goes on waiting
-own_waits : (o : Own) (q : AnyRequest) (t u : Stage) → Waits q t → Waits q u → OwnCallAgrees o t → OwnCallAgrees o u
-own_waits o q t u from to e = grind arith
+own_waits : (call : Own) (request : AnyRequest) (stage stage' : Stage) → Waits request stage → Waits request stage'
+    → OwnCallAgrees call stage → OwnCallAgrees call stage'
+own_waits call request stage stage' from to ok = grind arith
 
--- ---- the other clients, when one row goes to another stage
+-- ---- the requests that were put back
 
--- the row r, whose call waits, goes to the stage t, at a step of the holder of x
-abbrev rowed : World → (ℕ → Option ℕ) → (ℕ → List AnyEntry) → ℕ → Stage → World
-rowed w hands logs r t = record w { hand = hands; log = logs; stage = changed w.stage r t }
-
-own_after : (w : World) (r d : ℕ) (q : AnyRequest) (t : Stage) → Waits q (w.stage r) → Waits q t → (o : Own)
-    → OwnCallAgrees o (w.stage d) → OwnCallAgrees o (changed w.stage r t d)
-own_after w r d q t from to o =
-    changed_all (λ d u. OwnCallAgrees o (w.stage d) → OwnCallAgrees o u) w.stage r t
-    (own_waits o q (w.stage r) t from to)
-    (λ d _ e. e) d
-
-ready_after : (w : World) (r d : ℕ) (t : Stage) → ((q : AnyRequest) (a : AnyAnswer) → w.stage r ≢ answered q a)
-    → (q : AnyRequest) (a : AnyAnswer)
-    → w.stage d ≡ answered q a → changed w.stage r t d ≡ answered q a
-ready_after w r d t never q a e = changed_else w.stage r t d (λ same. never q a (ap w.stage (sym same) ∙ e)) ∙ e
-
--- another client
-later_row : (w : World) (x r c d : ℕ) (q : AnyRequest) (t : Stage) (h : Option ℕ) (logs : ℕ → List AnyEntry)
-    → Waits q (w.stage r) → Waits q t
-    → ((q : AnyRequest) (a : AnyAnswer) → w.stage r ≢ answered q a)
-    → ((y : ℕ) → StartsWith (logs y) (w.log y)) → ((y : ℕ) → y ≢ x → logs y ≡ w.log y)
-    → ((y : ℕ) (p : AnyRequest) → w.holder y ≡ Some d → w.hand y ≡ Some r → w.stage r ≢ picked p)
-    → ((p : AnyRequest) → w.holder p.object ≡ Some d → w.stage r ≢ posted p) → w.holder x ≡ Some c → d ≢ c
-    → Later w (rowed w (changed w.hand x h) logs r t) d
-later_row w x r c d q t h logs from to never grow keep apart unposted holds other =
-    let held : (y : ℕ) → w.holder y ≡ Some d
-    → (w.holder y ≡ w.holder y) × (changed w.hand x h y ≡ w.hand y) × (logs y ≡ w.log y) =
-    λ y g. let away : y ≢ x = λ same. other (sym (same_Some c d (sym holds ∙ (ap w.holder (sym same) ∙ g)))) in
-    (refl, changed_else w.hand x h y away, keep y away) in assumption (
-      held,
-      own_after w r d q t from to,
-      ready_after w r d t never,
-      λ (y j : ℕ) (p : AnyRequest) (g : w.holder y ≡ Some d) (e : w.hand y ≡ Some j) (f : w.stage j ≡ picked p).
-          changed_else w.stage r t j (λ same. apart y p g (e ∙ ap Some same) (ap w.stage (sym same) ∙ f)) ∙ f,
-      λ (j : ℕ) (p : AnyRequest) (g : w.holder p.object ≡ Some d) (e : w.stage j ≡ posted p).
-          changed_else w.stage r t j (λ same. unposted p g (ap w.stage (sym same) ∙ e)) ∙ e,
-    )
-
--- ---- the client that looks at the row or changes it
-
--- the request that was put back is in its row, and its object is held
+-- the request that was put back is in its row, and the client holds its object
 abbrev InRow : (ℕ → Stage) → (ℕ → Option ℕ) → ℕ → PutBack → Type 0
-InRow stage holder c b = (stage b.row ≡ posted b.request) × (holder b.request.object ≡ Some c)
+InRow stage holder client b = (stage b.row ≡ posted b.request) × (holder b.request.object ≡ Some client)
 
--- a row that was not posted is none of these
-rows_stay : (w : World) (c r : ℕ) (t : Stage) (bs : List PutBack) → ((p : AnyRequest) → w.stage r ≢ posted p)
-    → All (InRow w.stage w.holder c) bs → All (InRow (changed w.stage r t) w.holder c) bs
-rows_stay w c r t bs never h i d l =
-    let b = h i d l in let p = get_or bs i d in
-    (changed_else w.stage r t p.row (λ same. never p.request (ap w.stage (sym same) ∙ b.0)) ∙ b.0, b.1)
+-- the row goes to the stage
+module _ (world : World) (client row : ℕ) (stage : Stage) where
+  -- a row that was not posted is none of those with requests that were put back
+  rows_stay : (back : List PutBack) → NotPosted (world.stage row) → All (InRow world.stage world.holder client) back
+      → All (InRow (changed world.stage row stage) world.holder client) back
+  rows_stay back unposted in_rows i d l =
+      let b = in_rows i d l in
+      let p = get_or back i d in
+      let other : p.row ≢ row = λ same. unposted p.request (ap world.stage (sym same) ∙ b.0) in
+      (changed_else world.stage row stage p.row other ∙ b.0, b.1)
 
--- the rows other than r
-other_rows : (w : World) (c r : ℕ) (t : Stage) (bs : List PutBack) → All (InRow w.stage w.holder c) bs
-    → All (InRow (changed w.stage r t) w.holder c) (filter (λ b. not (eqb b.row r)) bs)
-other_rows w c r t [] h = All-nil (InRow (changed w.stage r t) w.holder c)
-other_rows w c r t (b ∷ bs) h =
-    let rest = other_rows w c r t bs (All-tail (InRow w.stage w.holder c) b bs h) in
-    let first = All-head (InRow w.stage w.holder c) b bs h in
-    dite (ℕ_discrete b.row r)
-    (λ same. rw (eq-eqb b.row r same) rest)
-    (λ other. rw (ne_eqb b.row r other)
-    (All-cons (InRow (changed w.stage r t) w.holder c) b (filter (λ b. not (eqb b.row r)) bs)
-    (changed_else w.stage r t b.row other ∙ first.0, first.1) rest))
+  -- the requests of the other rows are in them still
+  other_rows : (back : List PutBack) → All (InRow world.stage world.holder client) back
+      → All (InRow (changed world.stage row stage) world.holder client) (filter (λ b. not (eqb b.row row)) back)
+  other_rows [] in_rows = All-nil (InRow (changed world.stage row stage) world.holder client)
+  other_rows (b ∷ back) in_rows =
+      let rest = other_rows back (All-tail (InRow world.stage world.holder client) b back in_rows) in
+      let first = All-head (InRow world.stage world.holder client) b back in_rows in
+      dite (ℕ_discrete b.row row)
+      (λ same. rw (eq-eqb b.row row same) rest)
+      (λ other. rw (ne_eqb b.row row other)
+      (All-cons (InRow (changed world.stage row stage) world.holder client) b (filter (λ b. not (eqb b.row row)) back)
+      (changed_else world.stage row stage b.row other ∙ first.0, first.1) rest))
 
--- the client itself
-seat_row : (kinds : List Kind) (w : World) (c r : ℕ) (q : AnyRequest) (t : Stage) (hands : ℕ → Option ℕ)
-    (logs : ℕ → List AnyEntry) (v : DeskView)
-    (o : Held) (bs : List PutBack) → All (InRow (changed w.stage r t) w.holder c) bs → Waits q (w.stage r) → Waits q t
-    → ((q : AnyRequest) (a : AnyAnswer) → w.stage r ≢ answered q a) → ((y : ℕ) → StartsWith (logs y) (w.log y))
-    → SeatAgrees kinds w c v → HeldAgrees (length kinds) (rowed w hands logs r t) c o
-    → SeatAgrees kinds (rowed w hands logs r t) c (record v { held = o; back = bs })
-seat_row kinds w c r q t hands logs v o bs in_rows from to never grow ok now =
-    let ready : v.ready ≡ true → (q : AnyRequest) × (a : AnyAnswer) × (changed w.stage r t c ≡ answered q a) =
-    λ is. let a = ok.ready is in (a.0, a.1, ready_after w r c t never a.0 a.1 a.2) in assumption (
-      ready,
-      own_after w r c q t from to v.own ok.own,
-      λ (y : ℕ). starts_longer (logs y) (w.log y) (seen_of v y) (grow y) (ok.seen y),
-    )
+-- ---- what the clients know, when the call of one row goes to another stage and still waits
 
--- the own row was not posted for x, while x is held with nothing in hand
-noted : (kinds : List Kind) (quota c x : ℕ) (w : World) (o : Own) → Sound kinds quota w → w.hand x ≡ None
-    → row_word (w.stage c) ≢ 1 + x → waits_on x o ≡ true → OwnCallAgrees o (w.stage c)
-    → (q : AnyRequest) × (a : AnyAnswer) × (w.stage c ≡ answered q a)
-noted kinds quota c x w o k free miss e ok = grind (arith, k.picked_up c, eqb-true)
+-- the call of the row waits before it goes to the stage and after it, was not answered, and logs only grow
+record GoesOn (world : World) (row : ℕ) (request : AnyRequest) (stage : Stage) (logs : ℕ → List AnyEntry) : Type 0 where
+  from : Waits request (world.stage row)
+  to : Waits request stage
+  unanswered : NotAnswered (world.stage row)
+  grow : (y : ℕ) → StartsWith (logs y) (world.log y)
 
-noting_ok : (kinds : List Kind) (quota c x r : ℕ) (w : World) (v : DeskView) (l : List AnyEntry)
-    → v.held ≡ held.Pass x l → Sound kinds quota w
-    → row_word (w.stage r) ≢ 1 + x → SeatAgrees kinds w c v → SeatAgrees kinds w c (after_row_miss (row_place r) x v)
-noting_ok kinds quota c x r w v l pass k miss ok =
-    let free = (subst (HeldAgrees (length kinds) w c) pass ok.held).2 in
-    let own_row : Bool = eqb (row_place r) (row_place v.number) in let number = ok.number in
-    let now : (own_row && waits_on x v.own) ≡ true
-    → (q : AnyRequest) × (a : AnyAnswer) × (w.stage c ≡ answered q a) = λ b.
-    let both = and_parts own_row (waits_on x v.own) b in
-    let eq = eqb-true (row_place r) (row_place v.number) both.0 in let same : r ≡ c = omega arith in
-    noted kinds quota c x w v.own k free (subst (λ z. row_word (w.stage z) ≢ 1 + x) same miss) both.1 ok.own in
-    seat_knowing (λ e. ⊎_elim ok.ready now (or_cases v.ready (own_row && waits_on x v.own) e)) ok.retired ok
+module _ (world : World) (row : ℕ) (request : AnyRequest) (stage : Stage) (logs : ℕ → List AnyEntry)
+    (goes : GoesOn world row request stage logs) where
+  -- the world after it, with this in the hands of the holders
+  abbrev rowed : (ℕ → Option ℕ) → World
+  rowed hands = record world { hand = hands; log = logs; stage = changed world.stage row stage }
+
+  -- a client's own call
+  own_after : (client : ℕ) (call : Own) → OwnCallAgrees call (world.stage client)
+      → OwnCallAgrees call (changed world.stage row stage client)
+  own_after client call =
+      changed_all (λ d u. OwnCallAgrees call (world.stage d) → OwnCallAgrees call u) world.stage row stage
+      (own_waits call request (world.stage row) stage goes.from goes.to) (λ d _ e. e) client
+
+  -- a call that is answered
+  ready_after : (client : ℕ) (q : AnyRequest) (a : AnyAnswer) → world.stage client ≡ answered q a
+      → changed world.stage row stage client ≡ answered q a
+  ready_after client q a e =
+      changed_else world.stage row stage client (λ same. goes.unanswered q a (ap world.stage (sym same) ∙ e)) ∙ e
+
+  -- another client than the one of the step, which holds the object: it has not the row in its hand, and does not hold
+  -- the object of a request that is posted there
+  later_row : (object client another : ℕ) (hand : Option ℕ) → ((y : ℕ) → y ≢ object → logs y ≡ world.log y)
+      → ((y : ℕ) (p : AnyRequest) → world.holder y ≡ Some another → world.hand y ≡ Some row
+      → world.stage row ≢ picked p)
+      → ((p : AnyRequest) → world.holder p.object ≡ Some another → world.stage row ≢ posted p)
+      → world.holder object ≡ Some client → another ≢ client
+      → Later world (rowed (changed world.hand object hand)) another
+  later_row object client another hand keep apart unposted holds other =
+      let held : (y : ℕ) → world.holder y ≡ Some another
+      → (world.holder y ≡ world.holder y) × (changed world.hand object hand y ≡ world.hand y) × (logs y ≡ world.log y) =
+      λ y g.
+      let away : y ≢ object =
+      λ same. other (sym (same_Some client another (sym holds ∙ (ap world.holder (sym same) ∙ g)))) in
+      (refl, changed_else world.hand object hand y away, keep y away) in
+      assumption (
+        held,
+        own_after another,
+        ready_after another,
+        goes.grow,
+        λ (y j : ℕ) (p : AnyRequest) (g : world.holder y ≡ Some another) (e : world.hand y ≡ Some j)
+            (f : world.stage j ≡ picked p).
+            changed_else world.stage row stage j
+            (λ same. apart y p g (e ∙ ap Some same) (ap world.stage (sym same) ∙ f)) ∙ f,
+        λ (j : ℕ) (p : AnyRequest) (g : world.holder p.object ≡ Some another) (e : world.stage j ≡ posted p).
+            changed_else world.stage row stage j (λ same. unposted p g (ap world.stage (sym same) ∙ e)) ∙ e,
+      )
+
+  -- the client of the step, which holds this then
+  seat_row : (kinds : List Kind) (hands : ℕ → Option ℕ) (client : ℕ) (view : DeskView) (holding : Held)
+      (back : List PutBack) → All (InRow (changed world.stage row stage) world.holder client) back
+      → SeatAgrees kinds world client view → HeldAgrees (length kinds) (rowed hands) client holding
+      → SeatAgrees kinds (rowed hands) client (record view { held = holding; back = back })
+  seat_row kinds hands client view holding back in_rows ok now =
+      let ready : view.ready ≡ true → (q : AnyRequest) × (a : AnyAnswer)
+      × (changed world.stage row stage client ≡ answered q a) =
+      λ is.
+      let a = ok.ready is in
+      (a.0, a.1, ready_after client a.0 a.1 a.2) in
+      assumption (
+        ready,
+        own_after client view.own ok.own,
+        λ (y : ℕ). starts_longer (logs y) (world.log y) (seen_of view y) (goes.grow y) (ok.seen y),
+      )
+
+-- ---- a miss
+
+-- if the own row was not posted for the object, which the client holds with a free hand, the call is answered
+noted : (kinds : List Kind) (quota client object : ℕ) (world : World) (call : Own) → Sound kinds quota world
+    → world.hand object ≡ None → row_word (world.stage client) ≢ 1 + object → waits_on object call ≡ true
+    → OwnCallAgrees call (world.stage client)
+    → (q : AnyRequest) × (a : AnyAnswer) × (world.stage client ≡ answered q a)
+noted kinds quota client object world call sound free miss waits ok =
+    grind (arith, sound.picked_up client, eqb-true)
+
+-- the view of a client that found no request for its object in the row is true
+noting_ok : {kinds : List Kind} {quota client object : ℕ} {world : World} {log : List AnyEntry} (row : ℕ)
+    (view : DeskView) → Sound kinds quota world → SeatAgrees kinds world client view → view.held ≡ held.Pass object log
+    → row_word (world.stage row) ≢ 1 + object
+    → SeatAgrees kinds world client (after_row_miss (row_place row) object view)
+noting_ok {kinds = kinds} {quota = quota} {client = client} {object = object} {world = world} row view sound ok holding
+    miss =
+    let free = (pass_of ok holding).free in
+    let number = ok.number in
+    let own_row : Bool = eqb (row_place row) (row_place view.number) in
+    let now : (own_row && waits_on object view.own) ≡ true
+    → (q : AnyRequest) × (a : AnyAnswer) × (world.stage client ≡ answered q a) =
+    λ b.
+    let both = and_parts own_row (waits_on object view.own) b in
+    let eq = eqb-true (row_place row) (row_place view.number) both.0 in
+    let same : row ≡ client = omega arith in
+    let miss' = subst (λ z. row_word (world.stage z) ≢ 1 + object) same miss in
+    noted kinds quota client object world view.own sound free miss' both.1 ok.own in
+    seat_knowing (λ e. ⊎_elim ok.ready now (or_cases view.ready (own_row && waits_on object view.own) e)) ok.retired ok
 
 module _ {S O R : Type 0} (content : S → Content) (op_in : O → AnyOp) (reply_in : R → AnyReply) (kinds : List Kind)
     (clients quota : ℕ) where
@@ -175,199 +213,296 @@ module _ {S O R : Type 0} (content : S → Content) (op_in : O → AnyOp) (reply
 
   -- ---- looking at a row, and picking its request up
 
-  -- what a miss at the row r tells
-  row_missed : (c x x' r r' : ℕ) (w : World) (m : Me (Slot S O R) DeskView) (l l' : List AnyEntry)
-      → m.0.held ≡ held.Pass x l
-      → m.0.held ≡ held.Pass x' l' → r ≡ r' → row_word (w.stage r) ≢ 1 + x → SeatAgrees kinds w c m.0
-      → (◌≡◌ {A = Me (Slot S O R) DeskView} (after_row_miss (row_place r) x m.0, m.1)
-      (after_row_miss (row_place r) x' m.0, m.1)) × All (λ b. b.row ≢ r') m.0.back
-  row_missed c x x' r r' w m l l' pass pass' er miss ok = let h = subst (HeldAgrees (length kinds) w c) pass ok.held
-      in (
-        ap (λ z. (after_row_miss (row_place r) z m.0, m.1)) (ap held_object (sym pass ∙ pass')),
-        λ i d l row. let z = ok.back i d l in let p = get_or m.0.back i d in
-            let on : p.request.object ≡ x = h.4 p.request.object z.1 in
-            miss (ap (λ j. row_word (w.stage j)) (er ∙ sym row) ∙ (ap row_word z.0 ∙ ap (λ n. 1 + n) on)),
-      )
+  -- what a miss at the row tells: no request for the object was put back there
+  row_missed : {world : World} {client object object' row row' : ℕ} {log log' : List AnyEntry}
+      (me : Me (Slot S O R) DeskView) → SeatAgrees kinds world client me.0
+      → me.0.held ≡ held.Pass object log → me.0.held ≡ held.Pass object' log' → row ≡ row'
+      → row_word (world.stage row) ≢ 1 + object
+      → (◌≡◌ {A = Me (Slot S O R) DeskView} (after_row_miss (row_place row) object me.0, me.1)
+      (after_row_miss (row_place row) object' me.0, me.1)) × All (λ b. b.row ≢ row') me.0.back
+  row_missed {world = world} {object = object} {row = row} {row' = row'} me ok holding holding' same_row miss =
+      let pass = pass_of ok holding in
+      let none_there : All (λ b. b.row ≢ row') me.0.back =
+      λ i d l there.
+      let b = ok.back i d l in
+      let p = get_or me.0.back i d in
+      let on : p.request.object ≡ object = pass.only p.request.object b.1 in
+      miss (ap (λ j. row_word (world.stage j)) (same_row ∙ sym there) ∙ (ap row_word b.0 ∙ ap (λ n. 1 + n) on)) in
+      (ap (λ z. (after_row_miss (row_place row) z me.0, me.1)) (ap held_object (sym holding ∙ holding')), none_there)
 
-  pub look_at_row_keeps_rule : (slots id x r : ℕ) (m : Me (Slot S O R) DeskView) (l : List AnyEntry)
-      → m.0.role ≡ role.Client → r < 32 → m.0.held ≡ held.Pass x l
-      → Allows DeskRule slots id m (row_place r) (λ f. f)
-      (play.looks_at_row content op_in reply_in (step slots (row_place r) 0 0 maybe.none) m)
-  look_at_row_keeps_rule slots id x r m l cl inside pass s k deep at small =
-      let w : World = k.world in let c : ℕ = m.0.number in let ok = mine k id cl at in
-      let word : get_or s.words (row_place r) 0 ≡ row_word (w.stage r) = k.tied.rows r inside in
-      dite (ℕ_discrete (get_or s.words (row_place r) 0) (1 + x))
-      (λ hit. (
-        m.0,
-        keeps,
-        tt,
-        looks k (row_place r) id m.1 cl at,
-        λ x' r' l' pass' e. let ex = ap held_object (sym pass ∙ pass') in
-            ((λ _. refl), λ miss. absurd (miss (hit ∙ ap (λ z. 1 + z) ex))),
-      ))
-      (λ miss. (
-        after_row_miss (row_place r) x m.0,
-        keeps,
-        tt,
-        unmoved k (row_place r) id (after_row_miss (row_place r) x m.0) m.1 at cl alike
-            (noting_ok kinds quota c x r w m.0 l pass k.sound (λ e. miss (word ∙ e)) ok),
-        λ x' r' l' pass' e. let ex = ap held_object (sym pass ∙ pass') in let er : r ≡ r' = omega arith in (
-          (λ hit. absurd (miss (hit ∙ ap (λ z. 1 + z) (sym ex)))),
-          λ _. row_missed c x x' r r' w m l l' pass pass' er (λ f. miss (word ∙ f)) ok,
-        ),
-      ))
-
-  pub pick_keeps_rule : (slots id x r : ℕ) (m : Me (Slot S O R) DeskView) (l : List AnyEntry) → m.0.role ≡ role.Client
-      → r < 32 → m.0.held ≡ held.Pass x l
-      → Allows DeskRule slots id m (row_place r) (λ f. either (eqb f (1 + x)) (17 + x) f)
-      (play.picks content op_in reply_in (step slots (row_place r) (1 + x) (17 + x) maybe.none) m)
-  pick_keeps_rule slots id x r m l cl inside pass s k deep at small =
-      let w : World = k.world in let c : ℕ = m.0.number in let ok = mine k id cl at in
-      let h = subst (HeldAgrees (length kinds) w c) pass ok.held in
-      let few = k.tied.objects in let low : x < 16 = (let l₀ : x < length kinds = h.0 in omega arith) in
-      let word : get_or s.words (row_place r) 0 ≡ row_word (w.stage r) = k.tied.rows r inside in
-      dite (ℕ_discrete (get_or s.words (row_place r) 0) (1 + x))
-      -- the word is that of a request for x: the client picks it up
+  -- a look at a row keeps the rule, with an object held and nothing in hand
+  pub look_at_row_keeps_rule : (slots id object row : ℕ) (me : Me (Slot S O R) DeskView) (log : List AnyEntry)
+      → me.0.role ≡ role.Client → row < 32 → me.0.held ≡ held.Pass object log
+      → Allows DeskRule slots id me (row_place row) (λ f. f)
+      (play.looks_at_row content op_in reply_in (step slots (row_place row) 0 0 maybe.none) me)
+  look_at_row_keeps_rule slots id object row me log is_client few holding state rule deep at small =
+      let world : World = rule.world in
+      let found : ℕ = get_or state.words (row_place row) 0 in
+      let ok = mine rule id is_client at in
+      let word : found ≡ row_word (world.stage row) = rule.tied.rows row few in
+      let look : Step (Slot S O R) = step slots (row_place row) 0 0 maybe.none in
+      dite (ℕ_discrete found (1 + object))
+      -- there is a request for the object: nothing is told
       (λ hit.
-      let b = is_posted (w.stage r) x low (sym word ∙ hit) in let q : AnyRequest = b.0 in let t : Stage = picked q in
-      let from : Waits q (w.stage r) = inl b.1 in let to : Waits q t = inr (inl refl) in
-      let never : (p : AnyRequest) (a : AnyAnswer)
-      → w.stage r ≢ answered p a = λ p a e. absurd cc in
-      let home = subst (CallAt content op_in reply_in (get_elem? s.homes (16 + r))) b.1 (k.tied.calls r inside) in
-      let v' : DeskView = after_pick x l r q m.0 in let bs : List PutBack = v'.back in
-      let fits = k.sound.fitting r q (ap request_of b.1) in (
-        v',
-        takes (16 + r) (slot.Request home.0),
+      let told : play.looks_at_row content op_in reply_in look me found me =
+      λ object' row' log' holding' place.
+      let same : object ≡ object' = ap held_object (sym holding ∙ holding') in
+      ((λ _. refl), λ miss. absurd (miss (hit ∙ ap (λ z. 1 + z) same))) in
+      (me.0, keeps, tt, looks rule (row_place row) id me.1 is_client at, told))
+      -- another word: the client notes a miss
+      (λ miss.
+      let view' : DeskView = after_row_miss (row_place row) object me.0 in
+      let knows : SeatAgrees kinds world me.0.number view' =
+      noting_ok row me.0 rule.sound ok holding (λ e. miss (word ∙ e)) in
+      let told : play.looks_at_row content op_in reply_in look me found (view', me.1) =
+      λ object' row' log' holding' place.
+      let same : object ≡ object' = ap held_object (sym holding ∙ holding') in
+      let same_row : row ≡ row' = omega arith in (
+        (λ hit. absurd (miss (hit ∙ ap (λ z. 1 + z) (sym same)))),
+        λ _. row_missed me ok holding holding' same_row (λ f. miss (word ∙ f)),
+      ) in
+      (view', keeps, tt, unmoved rule (row_place row) id view' me.1 at is_client alike knows, told))
+
+  -- a try to pick up a row's request keeps the rule, with its object held and nothing in hand
+  pub pick_keeps_rule : (slots id object row : ℕ) (me : Me (Slot S O R) DeskView) (log : List AnyEntry)
+      → me.0.role ≡ role.Client → row < 32 → me.0.held ≡ held.Pass object log
+      → Allows DeskRule slots id me (row_place row) (λ f. either (eqb f (1 + object)) (17 + object) f)
+      (play.picks content op_in reply_in (step slots (row_place row) (1 + object) (17 + object) maybe.none) me)
+  pick_keeps_rule slots id object row me log is_client few holding state rule deep at small =
+      let world : World = rule.world in
+      let client : ℕ = me.0.number in
+      let found : ℕ = get_or state.words (row_place row) 0 in
+      let ok = mine rule id is_client at in
+      let word : found ≡ row_word (world.stage row) = rule.tied.rows row few in
+      let attempt : Step (Slot S O R) = step slots (row_place row) (1 + object) (17 + object) maybe.none in
+      dite (ℕ_discrete found (1 + object))
+      -- the word is that of a request for the object: the client picks it up
+      (λ hit.
+      let pass = pass_of ok holding in
+      let inside = pass.inside in
+      let few_objects = rule.tied.objects in
+      let low : object < 16 = omega arith in
+      let is = is_posted (world.stage row) object low (sym word ∙ hit) in
+      let request : AnyRequest = is.0 in
+      let was : world.stage row ≡ posted request = is.1 in
+      let on : request.object ≡ object = is.2 in
+      let home = subst (CallAt content op_in reply_in (get_elem? state.homes (16 + row))) was
+      (rule.tied.calls row few) in
+      let sent : Request O = home.0 in
+      let image : request_in op_in sent ≡ request = home.2 in
+      let fits = rule.sound.fitting row request (ap request_of was) in
+      -- the row goes on with its call
+      let stage : Stage = picked request in
+      let hands : ℕ → Option ℕ = changed world.hand object (Some row) in
+      let world' : World = handed world object (Some row) row stage in
+      let view' : DeskView = after_pick object log row request me.0 in
+      let goes : GoesOn world row request stage world.log = record {
+        from = inl was;
+        to = inr (inl refl);
+        unanswered = λ q a e. absurd cc;
+        grow = λ y. starts_same (world.log y);
+      } in
+      -- another client does not hold the object of the request
+      let unposted : (another : ℕ) → another ≢ client → (p : AnyRequest) → world.holder p.object ≡ Some another
+      → world.stage row ≢ posted p =
+      λ another other p e f.
+      let g : posted request ≡ posted p = sym was ∙ f in
+      let same : request ≡ p = cc in
+      let here : world.holder object ≡ Some another = ap world.holder (sym on ∙ ap (λ z. z.object) same) ∙ e in
+      other (sym (same_Some client another (sym pass.holds ∙ here))) in
+      -- the client has the request in hand
+      let in_hand : hands object ≡ Some row = changed_here world.hand object (Some row) in
+      let is_picked : changed world.stage row stage row ≡ picked request = changed_here world.stage row stage in
+      let now : HeldAgrees (length kinds) world' client (held.Hand object log row request) =
+      (pass.inside, pass.holds, in_hand, pass.logged, pass.only, few, is_picked) in
+      let after : After rule me.0 view' (set state.words (row_place row) (17 + object))
+      (set state.homes (16 + row) maybe.none) =
+      record {
+        world = world';
+        holders = rule.holders;
+        come = come_after clients world row stage (rule.come row (λ e. absurd cc)) rule.come;
+        sound = sound_picked kinds quota world object row client request was on pass.holds pass.free rule.sound;
+        -- the words and the slots agree with the new world
+        tied = tied_row row (17 + object) stage hands world.log maybe.none few (λ y _. refl) (λ e. absurd (cc))
+            (ap request_of (sym was)) (ap (λ z. 17 + z) (sym on)) tt rule.tied;
+        leave = row_leaves world row stage (ap request_of was);
+        -- the other clients keep what they know
+        others = λ another other. later_row world row request stage world.log goes object client another (Some row)
+            (λ y _. refl) (λ y p _ _ e. absurd cc) (unposted another other) pass.holds other;
+        own = seat_row world row request stage world.log goes kinds hands client me.0
+            (held.Hand object log row request) view'.back (other_rows world client row stage me.0.back ok.back) ok now;
+      } in
+      -- what a hit tells of the request, and that it is no miss
+      let told : play.picks content op_in reply_in attempt me found (view', (16 + row, slot.Request sent) ∷ me.1) =
+      λ object' row' log' holding' place.
+      let same : object ≡ object' = ap held_object (sym holding ∙ holding') in
+      let same_log : log ≡ log' = ap held_log (sym holding ∙ holding') in
+      let same_row : row ≡ row' = omega arith in
+      let for_object : sent.object ≡ object' = ap (λ z. z.object) image ∙ (on ∙ same) in
+      let of_kind : kind_of (op_in sent.op) ≡ kind_at me.0.kinds object' =
+      ap (λ z. kind_of z.op) image ∙ (fits.0 ∙ (λ i. kind_at (sym ok.kinds_are i) ((on ∙ same) i))) in
+      let hand : ◌≡◌ {A = Me (Slot S O R) DeskView} (view', (16 + row, slot.Request sent) ∷ me.1) (
+        after_pick object' log' row' (request_in op_in sent) me.0,
+        (16 + row', slot.Request sent) ∷ me.1,
+      ) =
+      λ i. (
+        after_pick (same i) (same_log i) (same_row i) (sym image i) me.0,
+        (16 + same_row i, slot.Request sent) ∷ me.1,
+      ) in
+      let put_back_one : All (λ b. b.row ≡ row' → b.request ≡ request_in op_in sent) me.0.back =
+      λ i d l there.
+      let b = ok.back i d l in
+      let p = get_or me.0.back i d in
+      let f : posted p.request ≡ posted request =
+      sym b.0 ∙ (ap world.stage (there ∙ sym same_row) ∙ was) in
+      let same_request : p.request ≡ request = cc in
+      same_request ∙ sym image in
+      let own_one : (p : AnyRequest) → row' ≡ me.0.number → me.0.own ≡ own.Waiting p → request_in op_in sent ≡ p =
+      λ p here waiting. image ∙ own_posted p request me.0.own (world.stage client) ok.own waiting
+      (ap world.stage (sym here ∙ sym same_row) ∙ was) in (
+        (λ _. (sent, for_object, of_kind, hand, put_back_one, own_one)),
+        λ miss. absurd (miss (hit ∙ ap (λ z. 1 + z) same)),
+      ) in (
+        view',
+        takes (16 + row) (slot.Request sent),
         home.1,
-        rw (eq-eqb (get_or s.words (row_place r) 0) (1 + x) hit) (kept_after k id v' at cl alike record {
-          world = handed w x (Some r) r t;
-          holders = k.holders;
-          come = come_after clients w r t (k.come r (λ e. absurd cc)) k.come;
-          sound = sound_picked kinds quota w x r c q b.1 b.2 h.1 h.2 k.sound;
-          -- the words and the slots agree with the new world
-          tied = tied_row r (17 + x) t (changed w.hand x (Some r)) w.log maybe.none inside
-              (λ y _. refl) (λ e. absurd (cc)) (ap request_of (sym b.1)) (ap (λ z. 17 + z) (sym b.2)) tt k.tied;
-          leave = row_leaves w r t (ap request_of b.1);
-          -- the other clients keep what they know
-          others = λ d other. later_row w x r c d q t (Some r) w.log from to never (λ y. starts_same (w.log y))
-              (λ y _. refl) (λ y p _ _ e. absurd cc)
-              (λ p e f. let g : posted q ≡ posted p = sym b.1 ∙ f in let same : q ≡ p = cc in
-              other (sym (same_Some c d (sym h.1 ∙ (ap w.holder (sym b.2 ∙ ap (λ z. z.object) same) ∙ e)))))
-              h.1 other;
-          -- the client has the request in hand
-          own = seat_row kinds w c r q t (changed w.hand x (Some r)) w.log m.0 (held.Hand x l r q) bs
-              (other_rows w c r t m.0.back ok.back) from to never (λ y. starts_same (w.log y)) ok
-              (h.0, h.1, changed_here w.hand x (Some r), h.3, h.4, inside, changed_here w.stage r t);
-        }),
-        -- what a hit tells of the request, and that it is no miss
-        λ x' r' l' pass' e. let ex = ap held_object (sym pass ∙ pass') in let el = ap held_log (sym pass ∙ pass') in
-            let er : r ≡ r' = omega arith in (
-              (λ _. (
-                home.0,
-                ap (λ z. z.object) home.2 ∙ (b.2 ∙ ex),
-                ap (λ z. kind_of z.op) home.2 ∙ (fits.0 ∙ (λ i. kind_at (sym ok.kinds_are i) ((b.2 ∙ ex) i))),
-                (λ i. (after_pick (ex i) (el i) (er i) (sym home.2 i) m.0, (16 + er i, slot.Request home.0) ∷ m.1)),
-                λ i d l row. let z = ok.back i d l in let p = get_or m.0.back i d in
-                    let f : posted p.request ≡ posted q =
-                    sym z.0 ∙ (ap w.stage (row ∙ sym er) ∙ b.1) in let same : p.request ≡ q = cc in same ∙ sym home.2,
-                λ p here mine. home.2 ∙ own_posted p q m.0.own (w.stage c) ok.own mine
-                    (ap w.stage (sym here ∙ sym er) ∙ b.1),
-              )),
-              λ miss. absurd (miss (hit ∙ ap (λ z. 1 + z) ex)),
-            ),
+        rw (eq-eqb found (1 + object) hit) (kept_after rule id view' at is_client alike after),
+        told,
       ))
       -- another word: the client notes a miss
-      (λ miss. (
-        after_row_miss (row_place r) x m.0,
+      (λ miss.
+      let view' : DeskView = after_row_miss (row_place row) object me.0 in
+      let knows : SeatAgrees kinds world client view' =
+      noting_ok row me.0 rule.sound ok holding (λ e. miss (word ∙ e)) in
+      let told : play.picks content op_in reply_in attempt me found (view', me.1) =
+      λ object' row' log' holding' place.
+      let same : object ≡ object' = ap held_object (sym holding ∙ holding') in
+      let same_row : row ≡ row' = omega arith in (
+        (λ hit. absurd (miss (hit ∙ ap (λ z. 1 + z) (sym same)))),
+        λ _. row_missed me ok holding holding' same_row (λ f. miss (word ∙ f)),
+      ) in (
+        view',
         keeps,
         tt,
-        rw (ne_eqb (get_or s.words (row_place r) 0) (1 + x) miss)
-            (unmoved k (row_place r) id (after_row_miss (row_place r) x m.0) m.1 at cl alike
-            (noting_ok kinds quota c x r w m.0 l pass k.sound (λ e. miss (word ∙ e)) ok)),
-        λ x' r' l' pass' e. let ex = ap held_object (sym pass ∙ pass') in let er : r ≡ r' = omega arith in (
-          (λ hit. absurd (miss (hit ∙ ap (λ z. 1 + z) (sym ex)))),
-          λ _. row_missed c x x' r r' w m l l' pass pass' er (λ f. miss (word ∙ f)) ok,
-        ),
+        rw (ne_eqb found (1 + object) miss) (unmoved rule (row_place row) id view' me.1 at is_client alike knows),
+        told,
       ))
 
   -- ---- putting the request back
 
-  -- no row that another client d has in hand is r, which c has in hand
-  apart : (w : World) (x r c d : ℕ) (q : AnyRequest) → w.stage r ≡ picked q → q.object ≡ x → w.holder x ≡ Some c
-      → d ≢ c → Sound kinds quota w
-      → (y : ℕ) (p : AnyRequest) → w.holder y ≡ Some d → w.hand y ≡ Some r → w.stage r ≢ picked p
-  apart w x r c d q is on holds other k y p g e f = grind (arith, k.in_hand y r e)
+  -- no row that another client has in hand is the one that the client has in hand
+  apart : {world : World} {client object row : ℕ} {log : List AnyEntry} {request : AnyRequest} (another : ℕ)
+      → IsHand kinds world client object log row request → request.object ≡ object → another ≢ client
+      → Sound kinds quota world
+      → (y : ℕ) (p : AnyRequest) → world.holder y ≡ Some another → world.hand y ≡ Some row → world.stage row ≢ picked p
+  apart {row = row} another hand on other sound y p e f g =
+      let is = hand.picked_up in
+      let holds = hand.holds in
+      grind (arith, sound.in_hand y row f)
 
-  pub put_back_keeps_rule : (slots id x r n : ℕ) (m : Me (Slot S O R) DeskView) (l : List AnyEntry) (q : AnyRequest)
-      (p : Request O)
-      (tl : List (ℕ × Slot S O R)) → m.0.role ≡ role.Client → m.0.held ≡ held.Hand x l r q
-      → m.1 ≡ (16 + r, slot.Request p) ∷ tl → request_in op_in p ≡ q → q.object ≡ x → n ≡ 1 + x
-      → Allows DeskRule slots id m (row_place r) (λ _. n)
-      (λ _. play.puts_back content op_in reply_in (step slots (row_place r) n 0 maybe.none) m n)
-  put_back_keeps_rule slots id x r n m l q p tl cl hand carried is on word s k deep at small =
-      let w : World = k.world in let c : ℕ = m.0.number in let ok = mine k id cl at in let h =
-      subst (HeldAgrees (length kinds) w c) hand ok.held in let t : Stage = posted q in
-      let from : Waits q (w.stage r) = inr (inl h.6) in let to : Waits q t = inl refl in
-      let never : (p : AnyRequest) (a : AnyAnswer)
-      → w.stage r ≢ answered p a = λ p a e. absurd cc in
-      let v' : DeskView = after_put_back x l r q m.0 in let bs : List PutBack = v'.back in
-      let unposted : (p : AnyRequest) → w.stage r ≢ posted p = λ p e. absurd cc in (
-        v',
-        gives,
-        tt,
-        rw carried (kept_after k id v' at cl alike record {
-          world = handed w x None r t;
-          holders = k.holders;
-          come = come_after clients w r t (k.come r (λ e. absurd cc)) k.come;
-          sound = sound_put_back kinds quota w x r c q h.6 on h.1 h.2 k.sound;
-          -- the words and the slots agree with the new world
-          tied = tied_row r n t (changed w.hand x None) w.log (some (slot.Request p)) h.5
-              (λ y _. refl) (λ e. absurd (cc)) (ap request_of (sym h.6)) (word ∙ ap (λ z. 1 + z) (sym on))
-              (p, refl, is) k.tied;
-          leave = row_leaves w r t (ap request_of h.6);
-          -- the other clients keep what they know
-          others = λ d other. later_row w x r c d q t None w.log from to never (λ y. starts_same (w.log y))
-              (λ y _. refl) (apart w x r c d q h.6 on h.1 other k.sound) (λ p _. unposted p) h.1 other;
-          -- the client holds the object, with nothing in hand
-          own = seat_row kinds w c r q t (changed w.hand x None) w.log m.0 (held.Pass x l) bs
-              (All-push (InRow (changed w.stage r t) w.holder c) m.0.back (record { row = r; request = q })
-              (rows_stay w c r t m.0.back unposted ok.back) (changed_here w.stage r t, ap w.holder on ∙ h.1)) from
-              to never
-              (λ y. starts_same (w.log y)) ok (h.0, h.1, changed_here w.hand x None, h.3, h.4);
-        }),
-        λ x' r' l' q' hand'. let e = sym hand ∙ hand' in
-            λ i. (
-              after_put_back (ap held_object e i) (ap held_log e i) (ap held_row e i) (ap (held_request q) e i) m.0,
-              rest m.1,
-            ),
-      )
+  -- putting the request in hand back keeps the rule, with the word of its object
+  pub put_back_keeps_rule : (slots id object row word : ℕ) (me : Me (Slot S O R) DeskView) (log : List AnyEntry)
+      (request : AnyRequest) (sent : Request O) (more : List (ℕ × Slot S O R))
+      → me.0.role ≡ role.Client → me.0.held ≡ held.Hand object log row request
+      → me.1 ≡ (16 + row, slot.Request sent) ∷ more → request_in op_in sent ≡ request → request.object ≡ object
+      → word ≡ 1 + object
+      → Allows DeskRule slots id me (row_place row) (λ _. word)
+      (λ _. play.puts_back content op_in reply_in (step slots (row_place row) word 0 maybe.none) me word)
+  put_back_keeps_rule slots id object row word me log request sent more is_client holding carried is on is_word state
+      rule deep at small =
+      let world : World = rule.world in
+      let client : ℕ = me.0.number in
+      let ok = mine rule id is_client at in
+      let hand = hand_of ok holding in
+      let was : world.stage row ≡ picked request = hand.picked_up in
+      -- the row goes on with its call
+      let stage : Stage = posted request in
+      let hands : ℕ → Option ℕ = changed world.hand object None in
+      let world' : World = handed world object None row stage in
+      let view' : DeskView = after_put_back object log row request me.0 in
+      let goes : GoesOn world row request stage world.log = record {
+        from = inr (inl was);
+        to = inl refl;
+        unanswered = λ q a e. absurd cc;
+        grow = λ y. starts_same (world.log y);
+      } in
+      let unposted : NotPosted (world.stage row) = λ p e. absurd cc in
+      -- the client holds the object, with nothing in hand, and the request is in its row
+      let empty : hands object ≡ None = changed_here world.hand object None in
+      let now : HeldAgrees (length kinds) world' client (held.Pass object log) =
+      (hand.inside, hand.holds, empty, hand.logged, hand.only) in
+      let in_row : InRow (changed world.stage row stage) world.holder client (record { row = row; request = request }) =
+      (changed_here world.stage row stage, ap world.holder on ∙ hand.holds) in
+      let in_rows = All-push (InRow (changed world.stage row stage) world.holder client) me.0.back
+      (record { row = row; request = request }) (rows_stay world client row stage me.0.back unposted ok.back) in_row in
+      let after : After rule me.0 view' (set state.words (row_place row) word)
+      (set state.homes (16 + row) (some (slot.Request sent))) =
+      record {
+        world = world';
+        holders = rule.holders;
+        come = come_after clients world row stage (rule.come row (λ e. absurd cc)) rule.come;
+        sound = sound_put_back kinds quota world object row client request was on hand.holds hand.in_hand rule.sound;
+        -- the words and the slots agree with the new world
+        tied = tied_row row word stage hands world.log (some (slot.Request sent)) hand.few (λ y _. refl)
+            (λ e. absurd (cc)) (ap request_of (sym was)) (is_word ∙ ap (λ z. 1 + z) (sym on)) (sent, refl, is)
+            rule.tied;
+        leave = row_leaves world row stage (ap request_of was);
+        -- the other clients keep what they know
+        others = λ another other. later_row world row request stage world.log goes object client another None
+            (λ y _. refl) (apart another hand on other rule.sound) (λ p _. unposted p) hand.holds other;
+        own = seat_row world row request stage world.log goes kinds hands client me.0 (held.Pass object log) view'.back
+            in_rows ok now;
+      } in
+      let told : play.puts_back content op_in reply_in (step slots (row_place row) word 0 maybe.none) me word
+      (view', rest me.1) =
+      λ object' row' log' request' holding'.
+      let same = sym holding ∙ holding' in
+      λ i. (
+        after_put_back (ap held_object same i) (ap held_log same i) (ap held_row same i)
+            (ap (held_request request) same i) me.0,
+        rest me.1,
+      ) in
+      (view', gives, tt, rw carried (kept_after rule id view' at is_client alike after), told)
 
   -- ---- answering the request
 
-  grows : (w : World) (x : ℕ) (more : List AnyEntry) (y : ℕ)
-      → StartsWith (changed w.log x (w.log x ++ more) y) (w.log y)
-  grows w x more = changed_all (λ y l. StartsWith l (w.log y)) w.log x (w.log x ++ more) (more, refl)
-      (λ y _. starts_same (w.log y))
+  -- logs that grow by these entries of the object begin with what they were
+  grows : (world : World) (object : ℕ) (entries : List AnyEntry) (y : ℕ)
+      → StartsWith (changed world.log object (world.log object ++ entries) y) (world.log y)
+  grows world object entries =
+      changed_all (λ y l. StartsWith l (world.log y)) world.log object (world.log object ++ entries) (entries, refl)
+      (λ y _. starts_same (world.log y))
+
+  -- the row goes on with its call when it is answered
+  answered_on : (world : World) (object row : ℕ) (request : AnyRequest) (answer : AnyAnswer)
+      → world.stage row ≡ picked request
+      → GoesOn world row request (answered request answer)
+      (changed world.log object (world.log object ++ logged row request answer))
+  answered_on world object row request answer was = record {
+    from = inr (inl was);
+    to = inr (inr (answer, refl));
+    unanswered = λ q a e. absurd cc;
+    grow = grows world object (logged row request answer);
+  }
 
   -- the client that answered, and knows that its own row is answered if it was that one
-  seat_answered : (w : World) (c x r : ℕ) (q : AnyRequest) (a : AnyAnswer) (v : DeskView) (o : Held)
-      → w.stage r ≡ picked q → SeatAgrees kinds w c v → HeldAgrees (length kinds) (served_by w x r q a) c o
-      → SeatAgrees kinds (served_by w x r q a) c (record v { held = o; ready = v.ready || eqb r v.number })
-  seat_answered w c x r q a v o is ok now =
-      let from : Waits q (w.stage r) = inr (inl is) in let to : Waits q (answered q a) = inr (inr (a, refl)) in
-      let never : (p : AnyRequest) (b : AnyAnswer) → w.stage r ≢ answered p b = λ p b e. absurd cc in
-      let base = seat_row kinds w c r q (answered q a) (changed w.hand x None)
-      (changed w.log x (w.log x ++ logged r q a)) v o v.back
-      (rows_stay w c r (answered q a) v.back (λ p e. absurd cc) ok.back) from to never
-      (grows w x (logged r q a)) ok now in
-      let now : eqb r v.number ≡ true
-      → (p : AnyRequest) × (b : AnyAnswer) × (changed w.stage r (answered q a) c ≡ answered p b) = λ b. (
-        q,
-        a,
-        ap (changed w.stage r (answered q a)) (sym (eqb-true r v.number b ∙ ok.number))
-            ∙ changed_here w.stage r (answered q a),
-      ) in
-      seat_knowing (λ e. ⊎_elim base.ready now (or_cases v.ready (eqb r v.number) e)) base.retired base
+  seat_answered : (world : World) (client object row : ℕ) (request : AnyRequest) (answer : AnyAnswer) (view : DeskView)
+      (holding : Held) → world.stage row ≡ picked request → SeatAgrees kinds world client view
+      → HeldAgrees (length kinds) (served_by world object row request answer) client holding
+      → SeatAgrees kinds (served_by world object row request answer) client
+      (record view { held = holding; ready = view.ready || eqb row view.number })
+  seat_answered world client object row request answer view holding was ok now =
+      let stage : Stage = answered request answer in
+      let logs : ℕ → List AnyEntry = changed world.log object (world.log object ++ logged row request answer) in
+      let in_rows = rows_stay world client row stage view.back (λ p e. absurd cc) ok.back in
+      let base = seat_row world row request stage logs (answered_on world object row request answer was) kinds
+      (changed world.hand object None) client view holding view.back in_rows ok now in
+      let here : eqb row view.number ≡ true
+      → (q : AnyRequest) × (a : AnyAnswer) × (changed world.stage row stage client ≡ answered q a) =
+      λ b.
+      let same : client ≡ row = sym (eqb-true row view.number b ∙ ok.number) in
+      (request, answer, ap (changed world.stage row stage) same ∙ changed_here world.stage row stage) in
+      seat_knowing (λ e. ⊎_elim base.ready here (or_cases view.ready (eqb row view.number) e)) base.retired base
 
   abbrev pub answer_or : Answer R → Slot S O R → Answer R
   answer_or d (slot.Answer a) = a
@@ -377,58 +512,69 @@ module _ {S O R : Type 0} (content : S → Content) (op_in : O → AnyOp) (reply
   answer_carried d (y ∷ ys) = answer_or d y.1
   answer_carried d [] = d
 
-  pub answer_keeps_rule : (slots id x r : ℕ) (m : Me (Slot S O R) DeskView) (l : List AnyEntry) (q : AnyRequest)
-      (b : Answer R)
-      (tl : List (ℕ × Slot S O R)) → m.0.role ≡ role.Client → m.0.held ≡ held.Hand x l r q
-      → m.1 ≡ (16 + r, slot.Answer b) ∷ tl → q.object ≡ x
-      → IsLegalLog (kind_at m.0.kinds x) (l ++ logged r q (answer_in reply_in b))
-      → Allows DeskRule slots id m (row_place r) (λ _. 33)
-      (λ _. play.answers content op_in reply_in (step slots (row_place r) 33 0 maybe.none) m 33)
-  answer_keeps_rule slots id x r m l q b tl cl hand carried on legal s k deep at small =
-      let w : World = k.world in let c : ℕ = m.0.number in let ok = mine k id cl at in
-      let h = subst (HeldAgrees (length kinds) w c) hand ok.held in
-      let a : AnyAnswer = answer_in reply_in b in let t : Stage = answered q a in
-      let more : List AnyEntry = logged r q a in
-      let from : Waits q (w.stage r) = inr (inl h.6) in let to : Waits q t = inr (inr (a, refl)) in
-      let never : (p : AnyRequest) (a : AnyAnswer)
-      → w.stage r ≢ answered p a = λ p a e. absurd cc in
-      -- the log with the answer is legal
-      let legal' : IsLegalLog (kind_at kinds x) (w.log x ++ more) =
-      subst (λ (z : List Kind × List AnyEntry). IsLegalLog (kind_at z.0 x) (z.1 ++ more))
-      (λ i. (ok.kinds_are i, sym h.3 i)) legal in (
-        after_answer r x (l ++ more) m.0,
-        gives,
-        tt,
-        rw carried (kept_after k id (after_answer r x (l ++ more) m.0) at cl alike record {
-          world = served_by w x r q a;
-          holders = k.holders;
-          come = come_after clients w r t (k.come r (λ e. absurd cc)) k.come;
-          sound = sound_served kinds quota w x r c q a h.6 on h.1 h.2 legal' k.sound;
-          -- the words and the slots agree with the new world
-          tied = tied_row r 33 t (changed w.hand x None) (changed w.log x (w.log x ++ more)) (some (slot.Answer b)) h.5
-              (λ y e. changed_else w.log x (w.log x ++ more) y
-              (λ same. absurd cc))
-              (λ e. absurd (cc)) (ap request_of (sym h.6)) refl (b, refl, refl) k.tied;
-          leave = row_leaves w r t (ap request_of h.6);
-          -- the other clients keep what they know
-          others = λ d other. later_row w x r c d q t None (changed w.log x (w.log x ++ more)) from to never
-              (grows w x more)
-              (λ y away. changed_else w.log x (w.log x ++ more) y away) (apart w x r c d q h.6 on h.1 other k.sound)
-              (λ p _ e. absurd cc) h.1 other;
-          -- the client holds the object, with nothing in hand
-          own = seat_answered w c x r q a m.0 (held.Pass x (l ++ more)) h.6 ok (
-            h.0,
-            h.1,
-            changed_here w.hand x None,
-            changed_here w.log x (w.log x ++ more) ∙ ap (λ z. z ++ more) h.3,
-            h.4,
-          );
-        }),
-        -- the view and the slots in hand after the step
-        λ x' r' i l' q' b' tl' hand' carried'. let e = sym hand ∙ hand' in let f = sym carried ∙ carried' in λ j. (
-          after_answer (ap held_row e j) (ap held_object e j)
-              (ap held_log e j ++ logged (ap held_row e j) (ap (held_request q) e j)
-              (answer_in reply_in (ap (answer_carried b) f j))) m.0,
-          rest (carried' j),
-        ),
-      )
+  -- answering the request in hand keeps the rule, if the log is legal with the answer
+  pub answer_keeps_rule : (slots id object row : ℕ) (me : Me (Slot S O R) DeskView) (log : List AnyEntry)
+      (request : AnyRequest) (given : Answer R) (more : List (ℕ × Slot S O R))
+      → me.0.role ≡ role.Client → me.0.held ≡ held.Hand object log row request
+      → me.1 ≡ (16 + row, slot.Answer given) ∷ more → request.object ≡ object
+      → IsLegalLog (kind_at me.0.kinds object) (log ++ logged row request (answer_in reply_in given))
+      → Allows DeskRule slots id me (row_place row) (λ _. 33)
+      (λ _. play.answers content op_in reply_in (step slots (row_place row) 33 0 maybe.none) me 33)
+  answer_keeps_rule slots id object row me log request given more is_client holding carried on legal state rule deep at
+      small =
+      let world : World = rule.world in
+      let client : ℕ = me.0.number in
+      let ok = mine rule id is_client at in
+      let hand = hand_of ok holding in
+      let was : world.stage row ≡ picked request = hand.picked_up in
+      -- the row goes on with its call, and the log grows by what the answer says
+      let answer : AnyAnswer = answer_in reply_in given in
+      let stage : Stage = answered request answer in
+      let entries : List AnyEntry = logged row request answer in
+      let logs : ℕ → List AnyEntry = changed world.log object (world.log object ++ entries) in
+      let hands : ℕ → Option ℕ = changed world.hand object None in
+      let world' : World = served_by world object row request answer in
+      let view' : DeskView = after_answer row object (log ++ entries) me.0 in
+      let goes : GoesOn world row request stage logs = answered_on world object row request answer was in
+      let keep : (y : ℕ) → y ≢ object → logs y ≡ world.log y =
+      changed_else world.log object (world.log object ++ entries) in
+      let legal' : IsLegalLog (kind_at kinds object) (world.log object ++ entries) =
+      subst (λ (z : List Kind × List AnyEntry). IsLegalLog (kind_at z.0 object) (z.1 ++ entries))
+      (λ i. (ok.kinds_are i, sym hand.logged i)) legal in
+      -- the client holds the object, with nothing in hand
+      let empty : hands object ≡ None = changed_here world.hand object None in
+      let long : logs object ≡ log ++ entries =
+      changed_here world.log object (world.log object ++ entries) ∙ ap (λ z. z ++ entries) hand.logged in
+      let now : HeldAgrees (length kinds) world' client (held.Pass object (log ++ entries)) =
+      (hand.inside, hand.holds, empty, long, hand.only) in
+      let after : After rule me.0 view' (set state.words (row_place row) 33)
+      (set state.homes (16 + row) (some (slot.Answer given))) =
+      record {
+        world = world';
+        holders = rule.holders;
+        come = come_after clients world row stage (rule.come row (λ e. absurd cc)) rule.come;
+        sound = sound_served kinds quota world object row client request answer was on hand.holds hand.in_hand legal'
+            rule.sound;
+        -- the words and the slots agree with the new world
+        tied = tied_row row 33 stage hands logs (some (slot.Answer given)) hand.few
+            (λ y e. keep y (λ same. absurd cc)) (λ e. absurd (cc)) (ap request_of (sym was)) refl (given, refl, refl)
+            rule.tied;
+        leave = row_leaves world row stage (ap request_of was);
+        -- the other clients keep what they know
+        others = λ another other. later_row world row request stage logs goes object client another None keep
+            (apart another hand on other rule.sound) (λ p _ e. absurd cc) hand.holds other;
+        own = seat_answered world client object row request answer me.0 (held.Pass object (log ++ entries)) was ok now;
+      } in
+      -- the view and the slots in hand after the step
+      let told : play.answers content op_in reply_in (step slots (row_place row) 33 0 maybe.none) me 33
+      (view', rest me.1) =
+      λ object' row' i log' request' given' more' holding' carried'.
+      let same = sym holding ∙ holding' in
+      let same_given = ap (answer_carried given) (sym carried ∙ carried') in
+      λ j. (
+        after_answer (ap held_row same j) (ap held_object same j)
+            (ap held_log same j ++ logged (ap held_row same j) (ap (held_request request) same j)
+            (answer_in reply_in (same_given j))) me.0,
+        rest (carried' j),
+      ) in
+      (view', gives, tt, rw carried (kept_after rule id view' at is_client alike after), told)

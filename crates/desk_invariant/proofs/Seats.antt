@@ -1,7 +1,7 @@
 -- A step of one client leaves true what the others know: each fact of a view is of what the step does not write
 -- (`Later`), so the view stays true (`seats_after`).
 use Rattle.std.proofs.Common.{inr, inl, ◌≡◌, ◌≢◌, ℕ, ◌+◌, ◌<◌, ◌≤◌, Bool, true, false, List, [], length, get_or, set}
-use Rattle.std.proofs.Common.{Some, All, refl, sym, ap, subst, ◌∙◌, arith}
+use Rattle.std.proofs.Common.{None, Some, All, refl, sym, ap, subst, ◌∙◌, arith}
 use mathlib.Core.Option as maybe
 use mathlib.Core.Option.{some}
 use lib.ListN.{get_elem?}
@@ -17,6 +17,7 @@ use Rattle.desk_invariant.specs.declared.board.Slot.{Slot}
 use Rattle.desk_invariant.specs.declared.board.Own.{Own}
 use Rattle.desk_invariant.specs.declared.board.Own.TheVariants as own
 use Rattle.desk_invariant.specs.declared.board.Held.{Held}
+use Rattle.desk_invariant.specs.declared.board.Held.TheVariants as held
 use Rattle.desk_invariant.specs.declared.board.Leaving.{Leaving}
 use Rattle.desk_invariant.specs.declared.board.PutBack.{PutBack}
 use Rattle.desk_invariant.specs.declared.board.Role.TheVariants as role
@@ -28,81 +29,108 @@ use Rattle.desk_model.specs.Sound.{Sound}
 use Rattle.desk_model.proofs.Changed.{changed_all}
 use Rattle.desk_model.proofs.Entries.{starts_longer, starts_same}
 use Rattle.desk_invariant.specs.Views.{seen_of, received_of, after_miss}
-use Rattle.desk_invariant.specs.Rule.{OwnCallAgrees, HeldAgrees, SeatAgrees, HasLeft, ViewAgrees, HasOneMaker, Tied}
-use Rattle.desk_invariant.specs.Rule.{Kept}
+use Rattle.desk_invariant.specs.Rule.{OwnCallAgrees, HoldsOnly, HeldAgrees, SeatAgrees, HasLeft, ViewAgrees}
+use Rattle.desk_invariant.specs.Rule.{HasOneMaker, Tied, Kept}
 
 -- ---- what a step leaves to the other clients
 
--- what the client c, which knows what it knows in w, needs of a step of another to w'
-pub record Later (w w' : World) (c : ℕ) : Type 0 where
-  pub own : (o : Own) → OwnCallAgrees o (w.stage c) → OwnCallAgrees o (w'.stage c)
-  pub ready : (q : AnyRequest) (a : AnyAnswer) → w.stage c ≡ answered q a → w'.stage c ≡ answered q a
-  pub done : w'.done c ≡ w.done c
-  pub logs : (x : ℕ) → StartsWith (w'.log x) (w.log x)
-  pub held : (x : ℕ) → w.holder x ≡ Some c → (w'.holder x ≡ w.holder x) × (w'.hand x ≡ w.hand x) × (w'.log x ≡ w.log x)
-  pub holds : (x : ℕ) → w'.holder x ≡ Some c → w.holder x ≡ Some c
-  pub picked : (x r : ℕ) (q : AnyRequest) → w.holder x ≡ Some c → w.hand x ≡ Some r → w.stage r ≡ picked q
-      → w'.stage r ≡ picked q
-  pub posted : (r : ℕ) (q : AnyRequest) → w.holder q.object ≡ Some c → w.stage r ≡ posted q → w'.stage r ≡ posted q
-  pub ended : w'.ended c ≡ w.ended c
+-- the stage is not that of a call whose request is in its row
+abbrev pub NotPosted : Stage → Type 0
+NotPosted stage = (q : AnyRequest) → stage ≢ posted q
 
--- who has ended stays so at a step to w', and its journal with it
+-- the stage is not that of a call that is answered
+abbrev pub NotAnswered : Stage → Type 0
+NotAnswered stage = (q : AnyRequest) (a : AnyAnswer) → stage ≢ answered q a
+
+-- what the client needs of another's step from world to world', so that what it knows stays true
+pub record Later (world world' : World) (client : ℕ) : Type 0 where
+  pub own : (o : Own) → OwnCallAgrees o (world.stage client) → OwnCallAgrees o (world'.stage client)
+  pub ready : (q : AnyRequest) (a : AnyAnswer) → world.stage client ≡ answered q a → world'.stage client ≡ answered q a
+  pub done : world'.done client ≡ world.done client
+  pub logs : (x : ℕ) → StartsWith (world'.log x) (world.log x)
+  pub held : (x : ℕ) → world.holder x ≡ Some client
+      → (world'.holder x ≡ world.holder x) × (world'.hand x ≡ world.hand x) × (world'.log x ≡ world.log x)
+  pub holds : (x : ℕ) → world'.holder x ≡ Some client → world.holder x ≡ Some client
+  pub picked : (x r : ℕ) (q : AnyRequest) → world.holder x ≡ Some client → world.hand x ≡ Some r
+      → world.stage r ≡ picked q → world'.stage r ≡ picked q
+  pub posted : (r : ℕ) (q : AnyRequest) → world.holder q.object ≡ Some client → world.stage r ≡ posted q
+      → world'.stage r ≡ posted q
+  pub ended : world'.ended client ≡ world.ended client
+
+-- at a step from world to world', who has ended stays so, and its journal with it
 abbrev pub Leaves : World → World → Type 0
-Leaves w w' = (d : ℕ) → w.ended d ≡ true → (w'.ended d ≡ true) × (journal_in w' d ≡ journal_in w d)
+Leaves world world' = (d : ℕ) → world.ended d ≡ true
+    → (world'.ended d ≡ true) × (journal_in world' d ≡ journal_in world d)
 
-left_stays : (w w' : World) (ls : List Leaving) → Leaves w w' → All (HasLeft w) ls → All (HasLeft w') ls
-left_stays w w' ls leave all i d l = let b = all i d l in let e = leave (get_or ls i d).client b.0 in (e.0, e.1 ∙ b.1)
+-- what was told of clients that have ended stays true
+left_stays : (world world' : World) (leavings : List Leaving) → Leaves world world' → All (HasLeft world) leavings
+    → All (HasLeft world') leavings
+left_stays world world' leavings leave all i d l =
+    let has = all i d l in
+    let stays = leave (get_or leavings i d).client has.0 in
+    (stays.0, stays.1 ∙ has.1)
 
--- the row r goes on with its call
-pub row_leaves : (w : World) (r : ℕ) (t : Stage) → request_of (w.stage r) ≡ request_of t → (d : ℕ) → w.ended d ≡ true
-    → (w.ended d ≡ true)
-    × (journal_of (w.done d) (request_of (changed w.stage r t d)) ≡ journal_in w d)
-row_leaves w r t same d e = (
-  e,
-  ap (journal_of (w.done d))
-      (changed_all (λ p s. request_of s ≡ request_of (w.stage p)) w.stage r t (sym same) (λ p _. refl) d),
-)
+-- a row that goes on with its call leaves the journals of all clients as they are
+pub row_leaves : (world : World) (row : ℕ) (stage : Stage) → request_of (world.stage row) ≡ request_of stage
+    → (client : ℕ) → world.ended client ≡ true
+    → (world.ended client ≡ true)
+    × (journal_of (world.done client) (request_of (changed world.stage row stage client)) ≡ journal_in world client)
+row_leaves world row stage same client over =
+    let asked = changed_all (λ c u. request_of u ≡ request_of (world.stage c)) world.stage row stage (sym same)
+    (λ c _. refl) client in
+    (over, ap (journal_of (world.done client)) asked)
 
-same_later : (w : World) (c : ℕ) → Later w w c
-same_later w c = let logs : (x : ℕ) → StartsWith (w.log x) (w.log x) = λ x. starts_same (w.log x) in assumption
+same_later : (world : World) (client : ℕ) → Later world world client
+same_later world client =
+    let logs : (x : ℕ) → StartsWith (world.log x) (world.log x) = λ x. starts_same (world.log x) in
+    assumption
 
-held_stays : (n : ℕ) (w w' : World) (c : ℕ) → Later w w' c → (h : Held) → HeldAgrees n w c h → HeldAgrees n w' c h
-held_stays n w w' c t h k = grind (arith, t.holds, t.held, t.picked)
+-- what a client holds stays so at the step of another
+held_stays : (count : ℕ) (world world' : World) (client : ℕ) → Later world world' client → (holding : Held)
+    → HeldAgrees count world client holding → HeldAgrees count world' client holding
+held_stays count world world' client later holding holds = grind (arith, later.holds, later.held, later.picked)
 
-seat_stays : (kinds : List Kind) (w w' : World) (c : ℕ) (v : DeskView) → Leaves w w' → Later w w' c
-    → SeatAgrees kinds w c v → SeatAgrees kinds w' c v
-seat_stays kinds w w' c v leave t k =
-    let ready : v.ready ≡ true → (q : AnyRequest) × (a : AnyAnswer) × (w'.stage c ≡ answered q a) =
-    λ is. let a = k.ready is in (a.0, a.1, t.ready a.0 a.1 a.2) in
-    let retired : All (λ d. w'.ended d ≡ true) v.retired =
-    λ i d l. (leave (get_or v.retired i d) (k.retired i d l)).0 in
-    let back : All (λ b. (w'.stage b.row ≡ posted b.request) × (w'.holder b.request.object ≡ Some c)) v.back =
-    λ i d l. let b = k.back i d l in let p = get_or v.back i d in
-    (t.posted p.row p.request b.1 b.0, (t.held p.request.object b.1).0 ∙ b.1) in assumption (
+-- the view of a client stays true at the step of another
+seat_stays : (kinds : List Kind) (world world' : World) (client : ℕ) (view : DeskView) → Leaves world world'
+    → Later world world' client → SeatAgrees kinds world client view → SeatAgrees kinds world' client view
+seat_stays kinds world world' client view leave later ok =
+    let ready : view.ready ≡ true → (q : AnyRequest) × (a : AnyAnswer) × (world'.stage client ≡ answered q a) =
+    λ is.
+    let a = ok.ready is in
+    (a.0, a.1, later.ready a.0 a.1 a.2) in
+    let retired : All (λ d. world'.ended d ≡ true) view.retired =
+    λ i d l. (leave (get_or view.retired i d) (ok.retired i d l)).0 in
+    let back : All (λ b. (world'.stage b.row ≡ posted b.request) × (world'.holder b.request.object ≡ Some client))
+    view.back =
+    λ i d l.
+    let b = ok.back i d l in
+    let p = get_or view.back i d in
+    (later.posted p.row p.request b.1 b.0, (later.held p.request.object b.1).0 ∙ b.1) in
+    assumption (
       ready,
-      k.done ∙ sym t.done,
-      t.own v.own k.own,
-      held_stays (length kinds) w w' c t v.held k.held,
-      t.ended ∙ k.ended,
-      λ (x : ℕ). starts_longer (w'.log x) (w.log x) (seen_of v x) (t.logs x) (k.seen x),
+      ok.done ∙ sym later.done,
+      later.own view.own ok.own,
+      held_stays (length kinds) world world' client later view.held ok.held,
+      later.ended ∙ ok.ended,
+      λ (x : ℕ). starts_longer (world'.log x) (world.log x) (seen_of view x) (later.logs x) (ok.seen x),
     )
 
 -- ---- what a client's own step may change in its view
 
 -- what no step of a client's own changes in its view
-pub record Alike (v v' : DeskView) : Type 0 where
-  pub role : v'.role ≡ v.role
-  pub number : v'.number ≡ v.number
-  pub made : v'.made ≡ v.made
-  pub received : v'.received ≡ v.received
-  pub left : v'.left ≡ v.left
-  pub lists : v'.lists ≡ v.lists
+pub record Alike (view view' : DeskView) : Type 0 where
+  pub role : view'.role ≡ view.role
+  pub number : view'.number ≡ view.number
+  pub made : view'.made ≡ view.made
+  pub received : view'.received ≡ view.received
+  pub left : view'.left ≡ view.left
+  pub lists : view'.lists ≡ view.lists
 
 -- a view in which none of these changed
-pub alike : {v : DeskView} {kinds : List Kind} {done : List AnyDone} {own : Own} {ready : Bool}
-    {seen : List (List AnyEntry)} {back : List PutBack}
-    {missed : List ℕ} {won : ℕ} {held : Held} {ended : Bool} {retired still_there : List ℕ}
-    → Alike v (record v {
+pub alike : {view : DeskView} {kinds : List Kind} {done : List AnyDone} {own : Own} {ready : Bool}
+    {seen : List (List AnyEntry)} {back : List PutBack} {missed : List ℕ} {won : ℕ} {held : Held} {ended : Bool}
+    {retired still_there : List ℕ}
+    → Alike view (record view {
       kinds = kinds;
       done = done;
       own = own;
@@ -111,8 +139,7 @@ pub alike : {v : DeskView} {kinds : List Kind} {done : List AnyDone} {own : Own}
       back = back;
       missed = missed;
       won = won;
-      held =
-          held;
+      held = held;
       ended = ended;
       retired = retired;
       still_there = still_there;
@@ -121,12 +148,11 @@ alike = assumption
 
 -- A client that was told more, missed more, and knows more of its row and of the ends of others. What it was told, has
 -- missed and has found there does not matter.
-pub seat_knowing : {kinds : List Kind} {w : World} {c : ℕ} {v : DeskView} {ready : Bool}
-    {received : List (List AnyEntry)} {missed : List ℕ}
-    {left : List Leaving} {retired still_there : List ℕ}
-    → (ready ≡ true → (q : AnyRequest) × (a : AnyAnswer) × (w.stage c ≡ answered q a))
-    → All (λ d. w.ended d ≡ true) retired → SeatAgrees kinds w c v
-    → SeatAgrees kinds w c (record v {
+pub seat_knowing : {kinds : List Kind} {world : World} {client : ℕ} {view : DeskView} {ready : Bool}
+    {received : List (List AnyEntry)} {missed : List ℕ} {left : List Leaving} {retired still_there : List ℕ}
+    → (ready ≡ true → (q : AnyRequest) × (a : AnyAnswer) × (world.stage client ≡ answered q a))
+    → All (λ d. world.ended d ≡ true) retired → SeatAgrees kinds world client view
+    → SeatAgrees kinds world client (record view {
       ready = ready;
       received = received;
       missed = missed;
@@ -136,52 +162,105 @@ pub seat_knowing : {kinds : List Kind} {w : World} {c : ℕ} {v : DeskView} {rea
     })
 seat_knowing ready retired ok = assumption
 
+-- ---- what a client holds
+
+-- a client that holds the object with this log, and has a free hand: what `HeldAgrees` says, by name
+pub record IsPass (kinds : List Kind) (world : World) (client object : ℕ) (log : List AnyEntry) : Type 0 where
+  pub inside : object < length kinds
+  pub holds : world.holder object ≡ Some client
+  pub free : world.hand object ≡ None
+  pub logged : world.log object ≡ log
+  pub only : HoldsOnly world client object
+
+pub pass_of : {kinds : List Kind} {world : World} {client object : ℕ} {log : List AnyEntry} {view : DeskView}
+    → SeatAgrees kinds world client view → view.held ≡ held.Pass object log → IsPass kinds world client object log
+pass_of {kinds = kinds} {world = world} {client = client} ok holding =
+    let agrees = subst (HeldAgrees (length kinds) world client) holding ok.held in
+    record { inside = agrees.0; holds = agrees.1; free = agrees.2; logged = agrees.3; only = agrees.4 }
+
+-- a client that has the request of this row in its hand, by the same names
+pub record IsHand (kinds : List Kind) (world : World) (client object : ℕ) (log : List AnyEntry) (row : ℕ)
+    (request : AnyRequest) : Type 0 where
+  pub inside : object < length kinds
+  pub holds : world.holder object ≡ Some client
+  pub in_hand : world.hand object ≡ Some row
+  pub logged : world.log object ≡ log
+  pub only : HoldsOnly world client object
+  pub few : row < 32
+  pub picked_up : world.stage row ≡ picked request
+
+pub hand_of : {kinds : List Kind} {world : World} {client object : ℕ} {log : List AnyEntry} {row : ℕ}
+    {request : AnyRequest} {view : DeskView} → SeatAgrees kinds world client view
+    → view.held ≡ held.Hand object log row request → IsHand kinds world client object log row request
+hand_of {kinds = kinds} {world = world} {client = client} ok holding =
+    let agrees = subst (HeldAgrees (length kinds) world client) holding ok.held in
+    record {
+      inside = agrees.0;
+      holds = agrees.1;
+      in_hand = agrees.2;
+      logged = agrees.3;
+      only = agrees.4;
+      few = agrees.5;
+      picked_up = agrees.6;
+    }
+
 -- ---- all views, after a step of one client
 
--- after a step to w', in which the client's view v becomes v', each view is true
-seats_after : (kinds : List Kind) (lists : List TableId) (clients : ℕ) (w w' : World) (so : ℕ → ℕ)
-    (vs : List DeskView) (id : ℕ) (v v' : DeskView)
-    → get_elem? vs id ≡ some v → v.role ≡ role.Client → Alike v v' → HasOneMaker clients vs
-    → ((j : ℕ) (u : DeskView) → get_elem? vs j ≡ some u → ViewAgrees kinds lists w so j u) → Leaves w w'
-    → ((c : ℕ) → c ≢ v.number → Later w w' c) → SeatAgrees kinds w' v.number v'
-    → (j : ℕ) (u : DeskView) → get_elem? (set vs id v') j ≡ some u → ViewAgrees kinds lists w' so j u
-seats_after kinds lists clients w w' so vs id v v' at cl alike makers before leave others ok j u e =
-    let here = (before id v at).client cl in let next : 1 + v.number ≢ v.number = λ h. omega arith in
-    let logs = (others (1 + v.number) next).logs in
+-- after a step to world' of the client whose view becomes view', each view is true
+seats_after : (kinds : List Kind) (lists : List TableId) (clients : ℕ) (world world' : World) (seat_of : ℕ → ℕ)
+    (views : List DeskView) (id : ℕ) (view view' : DeskView)
+    → get_elem? views id ≡ some view → view.role ≡ role.Client → Alike view view' → HasOneMaker clients views
+    → ((j : ℕ) (u : DeskView) → get_elem? views j ≡ some u → ViewAgrees kinds lists world seat_of j u)
+    → Leaves world world' → ((c : ℕ) → c ≢ view.number → Later world world' c)
+    → SeatAgrees kinds world' view.number view'
+    → (j : ℕ) (u : DeskView) → get_elem? (set views id view') j ≡ some u → ViewAgrees kinds lists world' seat_of j u
+seats_after kinds lists clients world world' seat_of views id view view' at is_client alike makers before leave others
+    ok j u e =
+    let old = before id view at in
+    let here = old.client is_client in
+    let next : 1 + view.number ≢ view.number = λ h. omega arith in
+    let logs = (others (1 + view.number) next).logs in
     -- a client that is not made yet is not the one of the step
-    let is_made : (c : ℕ) (z : DeskView) (i : ℕ) → get_elem? vs i ≡ some z → z.role ≡ role.Maker → z.made ≤ c
-    → c ≢ v.number =
-    λ c z i g is l same. let low = (makers.made i z g is id v at).0 cl in omega arith in
+    let is_made : (c : ℕ) (z : DeskView) (i : ℕ) → get_elem? views i ≡ some z → z.role ≡ role.Maker → z.made ≤ c
+    → c ≢ view.number =
+    λ c z i g is l same. let low = (makers.made i z g is id view at).0 is_client in omega arith in
     -- such a client stays as it was
-    let unmade : (c : ℕ) → c ≢ v.number
-    → (w.stage c ≡ absent) × (w.done c ≡ []) × (w.ended c ≡ false) × ((x : ℕ) → w.holder x ≢ Some c)
-    → (w'.stage c ≡ absent) × (w'.done c ≡ []) × (w'.ended c ≡ false) × ((x : ℕ) → w'.holder x ≢ Some c) =
-    λ c apart b. let o = others c apart in
+    let unmade : (c : ℕ) → c ≢ view.number
+    → (world.stage c ≡ absent) × (world.done c ≡ []) × (world.ended c ≡ false) × ((x : ℕ) → world.holder x ≢ Some c)
+    → (world'.stage c ≡ absent) × (world'.done c ≡ []) × (world'.ended c ≡ false)
+    × ((x : ℕ) → world'.holder x ≢ Some c) =
+    λ c apart b.
+    let o = others c apart in
     (o.own own.Absent b.0, o.done ∙ b.1, o.ended ∙ b.2, λ x f. b.3 x (o.holds x f)) in
-    elim (at_set vs id j v' u e) [
+    elim (at_set views id j view' u e) [
       -- the view of the client of the step
-      | inl t ↦ subst (λ (z : ℕ × DeskView). ViewAgrees kinds lists w' so z.0 z.1)
+      | inl t ↦ subst (λ (z : ℕ × DeskView). ViewAgrees kinds lists world' seat_of z.0 z.1)
           (λ i. (sym t.0 i, t.1 i)) record {
             seen = ok.seen;
-            received = λ x. subst (λ z. StartsWith (w'.log x) (get_or z x [])) (sym alike.received)
-                (starts_longer (w'.log x) (w.log x) (received_of v x) (logs x) ((before id v at).received x));
-            left = subst (All (HasLeft w')) (sym alike.left) (left_stays w w' v.left leave (before id v at).left);
-            client = λ _. (ap so alike.number ∙ here.0, subst (λ z. SeatAgrees kinds w' z v') (sym alike.number) ok);
-            unmade = λ is c l. let is' : v.role ≡ role.Maker = sym alike.role ∙ is in
-                let l' : v.made ≤ c = subst (λ z. z ≤ c) alike.made l in
-                unmade c (is_made c v id at is' l') ((before id v at).unmade is' c l');
+            received = λ x. subst (λ z. StartsWith (world'.log x) (get_or z x [])) (sym alike.received)
+                (starts_longer (world'.log x) (world.log x) (received_of view x) (logs x) (old.received x));
+            left = subst (All (HasLeft world')) (sym alike.left) (left_stays world world' view.left leave old.left);
+            client = λ _. (
+              ap seat_of alike.number ∙ here.0,
+              subst (λ z. SeatAgrees kinds world' z view') (sym alike.number) ok,
+            );
+            unmade = λ is c l.
+                let is' : view.role ≡ role.Maker = sym alike.role ∙ is in
+                let l' : view.made ≤ c = subst (λ z. z ≤ c) alike.made l in
+                unmade c (is_made c view id at is' l') (old.unmade is' c l');
             maker_kinds = λ is. ok.kinds_are;
-            lists_are = λ is. alike.lists ∙ (before id v at).lists_are cl;
-            maker_lists = λ is. alike.lists ∙ (before id v at).lists_are cl;
+            lists_are = λ is. alike.lists ∙ old.lists_are is_client;
+            maker_lists = λ is. alike.lists ∙ old.lists_are is_client;
           }
       -- any other view
       | inr t ↦ let b = before j u t.1 in record {
-        seen = λ x. starts_longer (w'.log x) (w.log x) (seen_of u x) (logs x) (b.seen x);
-        received = λ x. starts_longer (w'.log x) (w.log x) (received_of u x) (logs x) (b.received x);
-        left = left_stays w w' u.left leave b.left;
-        client = λ is. let c = b.client is in
-            let other : u.number ≢ v.number = λ g. t.0 (sym c.0 ∙ (ap so g ∙ here.0)) in
-            (c.0, seat_stays kinds w w' u.number u leave (others u.number other) c.1);
+        seen = λ x. starts_longer (world'.log x) (world.log x) (seen_of u x) (logs x) (b.seen x);
+        received = λ x. starts_longer (world'.log x) (world.log x) (received_of u x) (logs x) (b.received x);
+        left = left_stays world world' u.left leave b.left;
+        client = λ is.
+            let c = b.client is in
+            let other : u.number ≢ view.number = λ g. t.0 (sym c.0 ∙ (ap seat_of g ∙ here.0)) in
+            (c.0, seat_stays kinds world world' u.number u leave (others u.number other) c.1);
         unmade = λ is c l. unmade c (is_made c u j t.1 is l) (b.unmade is c l);
         maker_kinds = b.maker_kinds;
         lists_are = b.lists_are;
@@ -189,39 +268,56 @@ seats_after kinds lists clients w w' so vs id v v' at cl alike makers before lea
       }
     ]
 
+-- at this place was a view with the same role, number and count of clients made
+record IsLike (views : List DeskView) (j : ℕ) (view : DeskView) : Type 0 where
+  old : DeskView
+  at : get_elem? views j ≡ some old
+  role : view.role ≡ old.role
+  number : view.number ≡ old.number
+  made : view.made ≡ old.made
+
 -- `HasOneMaker` stays true if one view changes, and not in its role, its number or how many clients it has made
-pub makers_stay : (clients : ℕ) (vs : List DeskView) (id : ℕ) (v v' : DeskView) → get_elem? vs id ≡ some v
-    → v'.role ≡ v.role → v'.number ≡ v.number
-    → v'.made ≡ v.made → HasOneMaker clients vs → HasOneMaker clients (set vs id v')
-makers_stay clients vs id v v' at role number made before =
-    let back : (a : ℕ) (z : DeskView) → get_elem? (set vs id v') a ≡ some z
-    → (y : DeskView) × (get_elem? vs a ≡ some y) × (z.role ≡ y.role) × (z.number ≡ y.number) × (z.made ≡ y.made)
-    = λ a z g. elim (at_set vs id a v' z g) [
-      | inl h ↦ (
-        v,
-        ap (get_elem? vs) h.0 ∙ at,
-        ap (λ q. q.role) (sym h.1) ∙ role,
-        ap (λ q. q.number) (sym h.1) ∙ number,
-        ap (λ q. q.made) (sym h.1) ∙ made,
-      )
-      | inr h ↦ (z, h.1, refl, refl, refl)
+pub makers_stay : (clients : ℕ) (views : List DeskView) (id : ℕ) (view view' : DeskView)
+    → get_elem? views id ≡ some view → view'.role ≡ view.role → view'.number ≡ view.number
+    → view'.made ≡ view.made → HasOneMaker clients views → HasOneMaker clients (set views id view')
+makers_stay clients views id view view' at role number made before =
+    let old : (j : ℕ) (u : DeskView) → get_elem? (set views id view') j ≡ some u → IsLike views j u =
+    λ j u e. elim (at_set views id j view' u e) [
+      | inl h ↦ record {
+        old = view;
+        at = ap (get_elem? views) h.0 ∙ at;
+        role = ap (λ z. z.role) (sym h.1) ∙ role;
+        number = ap (λ z. z.number) (sym h.1) ∙ number;
+        made = ap (λ z. z.made) (sym h.1) ∙ made;
+      }
+      | inr h ↦ record { old = u; at = h.1; role = refl; number = refl; made = refl }
     ] in
     record {
-      made = λ j u e is i t f. let a = back j u e in let b = back i t f in
-          let low = before.made j a.0 a.1 (sym a.2 ∙ is) i b.0 b.1 in let n₁ = b.3 in let n₂ = a.4 in
-          ((λ tc. let l = low.0 (sym b.2 ∙ tc) in omega arith), λ tm. low.1 (sym b.2 ∙ tm));
-      numbers = λ j u e is. let a = back j u e in let low = before.numbers j a.0 a.1 (sym a.2 ∙ is) in let n = a.3 in
+      made = λ j u e is i t f.
+          let maker = old j u e in
+          let a = old i t f in
+          let low = before.made j maker.old maker.at (sym maker.role ∙ is) i a.old a.at in
+          let same_number = a.number in
+          let same_made = maker.made in
+          ((λ tc. let l = low.0 (sym a.role ∙ tc) in omega arith), λ tm. low.1 (sym a.role ∙ tm));
+      numbers = λ j u e is.
+          let a = old j u e in
+          let low = before.numbers j a.old a.at (sym a.role ∙ is) in
+          let same_number = a.number in
           omega arith;
     }
 
 -- who has come is one of the clients still, after one of them goes to another stage
-pub come_after : (clients : ℕ) (w : World) (c : ℕ) (t : Stage) → c < clients
-    → ((d : ℕ) → w.stage d ≢ absent → d < clients) → (d : ℕ) → changed w.stage c t d ≢ absent → d < clients
-come_after clients w c t low all = changed_all (λ d s. s ≢ absent → d < clients) w.stage c t (λ _. low) (λ d _. all d)
+pub come_after : (clients : ℕ) (world : World) (client : ℕ) (stage : Stage) → client < clients
+    → ((d : ℕ) → world.stage d ≢ absent → d < clients)
+    → (d : ℕ) → changed world.stage client stage d ≢ absent → d < clients
+come_after clients world client stage low all =
+    changed_all (λ d u. u ≢ absent → d < clients) world.stage client stage (λ _. low) (λ d _. all d)
 
-makers_after : (clients : ℕ) (vs : List DeskView) (id : ℕ) (v v' : DeskView) → get_elem? vs id ≡ some v → Alike v v'
-    → HasOneMaker clients vs → HasOneMaker clients (set vs id v')
-makers_after clients vs id v v' at alike = makers_stay clients vs id v v' at alike.role alike.number alike.made
+makers_after : (clients : ℕ) (views : List DeskView) (id : ℕ) (view view' : DeskView) → get_elem? views id ≡ some view
+    → Alike view view' → HasOneMaker clients views → HasOneMaker clients (set views id view')
+makers_after clients views id view view' at alike =
+    makers_stay clients views id view view' at alike.role alike.number alike.made
 
 -- ---- the rule, after a step of one client
 
@@ -237,78 +333,81 @@ module _ {S O R : Type 0} (content : S → Content) (op_in : O → AnyOp) (reply
 module _ {S O R : Type 0} {content : S → Content} {op_in : O → AnyOp} {reply_in : R → AnyReply} {kinds : List Kind}
     {clients quota : ℕ} where
   -- what the view of a client says of the client itself is true
-  pub mine : {s : State (Slot S O R) DeskView} {v : DeskView} (k : Rule content op_in reply_in kinds clients quota s)
-      (id : ℕ) → v.role ≡ role.Client
-      → get_elem? s.views id ≡ some v → SeatAgrees kinds k.world v.number v
-  mine k id cl at = ((k.seats id _ at).client cl).1
+  pub mine : {state : State (Slot S O R) DeskView} {view : DeskView}
+      (rule : Rule content op_in reply_in kinds clients quota state) (id : ℕ) → view.role ≡ role.Client
+      → get_elem? state.views id ≡ some view → SeatAgrees kinds rule.world view.number view
+  mine rule id is_client at = ((rule.seats id _ at).client is_client).1
 
-  -- the world after a step of the client whose view v becomes v', with what the rule asks of it
-  pub record After {s : State (Slot S O R) DeskView} (k : Rule content op_in reply_in kinds clients quota s)
-      (v v' : DeskView) (words : List ℕ)
-      (homes : List (maybe.Option (Slot S O R))) : Type 0 where
+  -- the world after a step of the client whose view becomes view', with what the rule asks of it
+  pub record After {state : State (Slot S O R) DeskView} (rule : Rule content op_in reply_in kinds clients quota state)
+      (view view' : DeskView) (words : List ℕ) (homes : List (maybe.Option (Slot S O R))) : Type 0 where
     pub world : World
     pub holders : (x d : ℕ) → world.holder x ≡ Some d → (d < clients) × (world.ended d ≡ false)
     pub come : (d : ℕ) → world.stage d ≢ absent → d < clients
     pub sound : Sound kinds quota world
-    pub tied : Tied content op_in reply_in kinds k.lists world words homes
-    pub leave : Leaves k.world world
-    pub others : (d : ℕ) → d ≢ v.number → Later k.world world d
-    pub own : SeatAgrees kinds world v.number v'
+    pub tied : Tied content op_in reply_in kinds rule.lists world words homes
+    pub leave : Leaves rule.world world
+    pub others : (another : ℕ) → another ≢ view.number → Later rule.world world another
+    pub own : SeatAgrees kinds world view.number view'
 
   -- the rule holds after a step for which there is such a world
-  pub kept_after : {s : State (Slot S O R) DeskView} {v : DeskView} {words : List ℕ}
-      {homes : List (maybe.Option (Slot S O R))} (k : Rule content op_in reply_in kinds clients quota s) (id : ℕ)
-      (v' : DeskView) → get_elem? s.views id ≡ some v
-      → v.role ≡ role.Client → Alike v v' → After k v v' words homes
+  pub kept_after : {state : State (Slot S O R) DeskView} {view : DeskView} {words : List ℕ}
+      {homes : List (maybe.Option (Slot S O R))} (rule : Rule content op_in reply_in kinds clients quota state) (id : ℕ)
+      (view' : DeskView) → get_elem? state.views id ≡ some view → view.role ≡ role.Client → Alike view view'
+      → After rule view view' words homes
       → Rule content op_in reply_in kinds clients quota record
-      { words = words; homes = homes; views = set s.views id v' }
-  kept_after {s = s} {v = v} k id v' at cl alike a = record {
-    world = a.world;
-    seat_of = k.seat_of;
-    lists = k.lists;
-    few_calls = k.few_calls;
-    few_clients = k.few_clients;
-    sound = a.sound;
-    tied = a.tied;
-    seats = seats_after kinds k.lists clients k.world a.world k.seat_of s.views id v v' at cl alike k.makers k.seats
-        a.leave a.others a.own;
-    makers = makers_after clients s.views id v v' at alike k.makers;
-    holders = a.holders;
-    come = a.come;
+      { words = words; homes = homes; views = set state.views id view' }
+  kept_after {state = state} {view = view} rule id view' at is_client alike after = record {
+    world = after.world;
+    seat_of = rule.seat_of;
+    lists = rule.lists;
+    few_calls = rule.few_calls;
+    few_clients = rule.few_clients;
+    sound = after.sound;
+    tied = after.tied;
+    seats = seats_after kinds rule.lists clients rule.world after.world rule.seat_of state.views id view view' at
+        is_client alike rule.makers rule.seats after.leave after.others after.own;
+    makers = makers_after clients state.views id view view' at alike rule.makers;
+    holders = after.holders;
+    come = after.come;
   }
 
   -- ---- misses, looks, and other steps that leave the words
 
   -- a step that changes no word
-  pub unmoved : {s : State (Slot S O R) DeskView} {v : DeskView} (k : Rule content op_in reply_in kinds clients quota s)
-      (i id : ℕ) (v' : DeskView) (cs : List (ℕ × Slot S O R)) → get_elem? s.views id ≡ some v → v.role ≡ role.Client
-      → Alike v v'
-      → SeatAgrees kinds k.world v.number v'
-      → Rule content op_in reply_in kinds clients quota (stepped s i (get_or s.words i 0) id cs v' keeps)
-  unmoved {s = s} {v = v} k i id v' cs at cl alike ok =
-      rw (set-get_or s.words i 0) (kept_after k id v' at cl alike record {
-        world = k.world;
-        holders = k.holders;
-        come = k.come;
-        sound = k.sound;
-        tied = k.tied;
-        leave =
-            λ d e. (e, refl);
-        others = λ c _. same_later k.world c;
+  pub unmoved : {state : State (Slot S O R) DeskView} {view : DeskView}
+      (rule : Rule content op_in reply_in kinds clients quota state) (word id : ℕ) (view' : DeskView)
+      (slots : List (ℕ × Slot S O R)) → get_elem? state.views id ≡ some view → view.role ≡ role.Client
+      → Alike view view' → SeatAgrees kinds rule.world view.number view'
+      → Rule content op_in reply_in kinds clients quota
+      (stepped state word (get_or state.words word 0) id slots view' keeps)
+  unmoved {state = state} {view = view} rule word id view' slots at is_client alike ok =
+      rw (set-get_or state.words word 0) (kept_after rule id view' at is_client alike record {
+        world = rule.world;
+        holders = rule.holders;
+        come = rule.come;
+        sound = rule.sound;
+        tied = rule.tied;
+        leave = λ d e. (e, refl);
+        others = λ client _. same_later rule.world client;
         own = ok;
       })
 
   -- the rule holds after a miss of a client
-  pub misses : {s : State (Slot S O R) DeskView} {v : DeskView} (k : Rule content op_in reply_in kinds clients quota s)
-      (i id : ℕ) (cs : List (ℕ × Slot S O R))
-      → v.role ≡ role.Client → get_elem? s.views id ≡ some v
-      → Rule content op_in reply_in kinds clients quota (stepped s i (get_or s.words i 0) id cs (after_miss i v) keeps)
-  misses {v = v} k i id cs cl at = let ok = mine k id cl at in
-      unmoved k i id (after_miss i v) cs at cl alike (seat_knowing ok.ready ok.retired ok)
+  pub misses : {state : State (Slot S O R) DeskView} {view : DeskView}
+      (rule : Rule content op_in reply_in kinds clients quota state) (word id : ℕ) (slots : List (ℕ × Slot S O R))
+      → view.role ≡ role.Client → get_elem? state.views id ≡ some view
+      → Rule content op_in reply_in kinds clients quota
+      (stepped state word (get_or state.words word 0) id slots (after_miss word view) keeps)
+  misses {view = view} rule word id slots is_client at =
+      let ok = mine rule id is_client at in
+      unmoved rule word id (after_miss word view) slots at is_client alike (seat_knowing ok.ready ok.retired ok)
 
   -- a look that tells nothing
-  pub looks : {s : State (Slot S O R) DeskView} {v : DeskView} (k : Rule content op_in reply_in kinds clients quota s)
-      (i id : ℕ) (cs : List (ℕ × Slot S O R))
-      → v.role ≡ role.Client → get_elem? s.views id ≡ some v
-      → Rule content op_in reply_in kinds clients quota (stepped s i (get_or s.words i 0) id cs v keeps)
-  looks {v = v} k i id cs cl at = unmoved k i id v cs at cl alike (mine k id cl at)
+  pub looks : {state : State (Slot S O R) DeskView} {view : DeskView}
+      (rule : Rule content op_in reply_in kinds clients quota state) (word id : ℕ) (slots : List (ℕ × Slot S O R))
+      → view.role ≡ role.Client → get_elem? state.views id ≡ some view
+      → Rule content op_in reply_in kinds clients quota
+      (stepped state word (get_or state.words word 0) id slots view keeps)
+  looks {view = view} rule word id slots is_client at =
+      unmoved rule word id view slots at is_client alike (mine rule id is_client at)

@@ -18,79 +18,98 @@ use Rattle.desk_invariant.specs.Views.{owed, after_meet, IsAtRest, MayHold, IsAc
 use Rattle.desk_invariant.specs.Rule.{OwnCallAgrees, SeatAgrees}
 
 -- what is owed to a client is in the log
-owed_served : (x c : ℕ) (o : Own) (t : Stage) → OwnCallAgrees o t → StartsWith (served_now x c t) (owed x c o)
-owed_served x c (own.Taken q a) t e = ([], ap (served_now x c) e ∙ sym (append-nil (logged_on x c q a)))
-owed_served x c o t e = (served_now x c t, refl)
+owed_served : (object client : ℕ) (call : Own) (stage : Stage) → OwnCallAgrees call stage
+    → StartsWith (served_now object client stage) (owed object client call)
+owed_served object client (own.Taken request answer) stage e =
+    ([], ap (served_now object client) e ∙ sym (append-nil (logged_on object client request answer)))
+owed_served object client call stage e = (served_now object client stage, refl)
 
 -- the whole log has what the client is to find in it
-pub all_covered : (kinds : List Kind) (quota : ℕ) (w : World) (c x : ℕ) (ds : List AnyDone) (o : Own) → ds ≡ w.done c
-    → OwnCallAgrees o (w.stage c)
-    → Sound kinds quota w → StartsWith (entries_of_client c (w.log x)) (served x c ds ++ owed x c o)
-all_covered kinds quota w c x ds o same ok k = let d = owed_served x c o (w.stage c) ok in (
-  d.0,
-  k.counted c x ∙ ((λ i. served x c (sym same i) ++ d.1 i)
-      ∙ sym (append_assoc (served x c ds) (owed x c o) d.0)),
-)
+pub all_covered : (kinds : List Kind) (quota : ℕ) (world : World) (client object : ℕ) (done : List AnyDone)
+    (call : Own) → done ≡ world.done client → OwnCallAgrees call (world.stage client) → Sound kinds quota world
+    → StartsWith (entries_of_client client (world.log object)) (served object client done ++ owed object client call)
+all_covered kinds quota world client object done call same ok sound =
+    let now = owed_served object client call (world.stage client) ok in (
+      now.0,
+      sound.counted client object ∙ ((λ i. served object client (sym same i) ++ now.1 i)
+          ∙ sym (append_assoc (served object client done) (owed object client call) now.0)),
+    )
 
 -- the entries of a client in a beginning of a log are a beginning of its entries in the log
-pub entries_start : (c : ℕ) (xs ys : List AnyEntry) → StartsWith xs ys
-    → StartsWith (entries_of_client c xs) (entries_of_client c ys)
-entries_start c xs ys b = (entries_of_client c b.0, ap (entries_of_client c) b.1 ∙ entries-append c ys b.0)
+pub entries_start : (client : ℕ) (xs ys : List AnyEntry) → StartsWith xs ys
+    → StartsWith (entries_of_client client xs) (entries_of_client client ys)
+entries_start client xs ys b =
+    (entries_of_client client b.0, ap (entries_of_client client) b.1 ∙ entries-append client ys b.0)
 
--- what holds of the list seen of x, and of the lists seen of the others, holds after the list of x has changed
-pub seen_all : (P : ℕ → List AnyEntry → Type 0) (seen : List (List AnyEntry)) (x : ℕ) (l : List AnyEntry)
-    → x < length seen → P x l
-    → ((y : ℕ) → y ≢ x → P y (get_or seen y [])) → (y : ℕ) → P y (get_or (set seen x l) y [])
-seen_all P seen x l low here others y = dite (ℕ_discrete y x)
-    (λ same. subst (λ z. P z (get_or (set seen x l) z [])) (sym same)
-    (subst (P x) (sym (get_or-set_same seen x l [] low)) here))
-    (λ other. subst (P y) (sym (get_or-set_other seen x y l [] other)) (others y other))
+-- what holds of the log, and of what was seen of the other objects, holds of what was seen after the log was seen
+pub seen_all : (P : ℕ → List AnyEntry → Type 0) (seen : List (List AnyEntry)) (object : ℕ) (log : List AnyEntry)
+    → object < length seen → P object log → ((y : ℕ) → y ≢ object → P y (get_or seen y []))
+    → (y : ℕ) → P y (get_or (set seen object log) y [])
+seen_all P seen object log low here others y = dite (ℕ_discrete y object)
+    (λ same. subst (λ z. P z (get_or (set seen object log) z [])) (sym same)
+    (subst (P object) (sym (get_or-set_same seen object log [] low)) here))
+    (λ other. subst (P y) (sym (get_or-set_other seen object y log [] other)) (others y other))
 
--- the client sees the list l of the object x
-pub saw : (kinds : List Kind) (w : World) (c x : ℕ) (v : DeskView) (l : List AnyEntry) → x < 16
-    → StartsWith (w.log x) l → StartsWith (entries_of_client c l) (served x c v.done ++ owed x c v.own)
-    → SeatAgrees kinds w c v → SeatAgrees kinds w c (after_meet x l v)
-saw kinds w c x v l low begins covers ok =
+-- the client sees this log, a beginning of the object's log that has its own calls
+pub saw : (kinds : List Kind) (world : World) (client object : ℕ) (view : DeskView) (log : List AnyEntry) → object < 16
+    → StartsWith (world.log object) log
+    → StartsWith (entries_of_client client log) (served object client view.done ++ owed object client view.own)
+    → SeatAgrees kinds world client view → SeatAgrees kinds world client (after_meet object log view)
+saw kinds world client object view log low begins covers ok =
     let wide = ok.wide_seen in
-    let length_kept = length-set v.seen x l ∙ wide in
-    let begin = seen_all (λ y z. StartsWith (w.log y) z) v.seen x l (omega arith) begins (λ y _. ok.seen y) in
-    let cover = seen_all (λ y z. StartsWith (entries_of_client c z) (served y c v.done ++ owed y c v.own)) v.seen x l
-    (omega arith) covers (λ y _. ok.covers y) in
+    let length_kept = length-set view.seen object log ∙ wide in
+    let begin = seen_all (λ y z. StartsWith (world.log y) z) view.seen object log (omega arith) begins
+    (λ y _. ok.seen y) in
+    let cover = seen_all
+    (λ y z. StartsWith (entries_of_client client z) (served y client view.done ++ owed y client view.own)) view.seen
+    object log (omega arith) covers (λ y _. ok.covers y) in
     assumption
 
 -- the front of a list of one element at most is empty or whole
 one_front : {A : Type 0} (l xs ys : List A) → length l < 2 → l ≡ xs ++ ys → (xs ≡ []) ⊎ (xs ≡ l)
 one_front l [] ys short e = inl refl
 one_front l (z ∷ zs) ys short e =
-    let n = ap length e in let m = length-append (z ∷ zs) ys in let none : length ys ≡ 0 = omega arith in
+    let n = ap length e in
+    let m = length-append (z ∷ zs) ys in
+    let none : length ys ≡ 0 = omega arith in
     inr (sym (e ∙ (ap (λ w. z ∷ zs ++ w) (nil_from_length ys none) ∙ append-nil (z ∷ zs))))
 
-short_logged : (x c : ℕ) (q : AnyRequest) (a : AnyAnswer) → length (logged_on x c q a) < 2
-short_logged x c q a = grind arith
+-- an answer puts at most one entry into a log
+short_logged : (object client : ℕ) (request : AnyRequest) (answer : AnyAnswer)
+    → length (logged_on object client request answer) < 2
+short_logged object client request answer = grind arith
 
-held_now : (x c : ℕ) (o : Own) (t : Stage) (now more : List AnyEntry) → IsAtRest o → OwnCallAgrees o t
-    → served_now x c t ≡ now ++ more → MayHold x c o now
-held_now x c own.Idle t now more rest ok e = grind (arith, one_front [] now more)
-held_now x c (own.Waiting q) t now more rest ok e =
-    grind (arith, one_front [] now more, short_logged x c q, λ (a : AnyAnswer). one_front (logged_on x c q a) now more)
-held_now x c o t now more rest h e = absurd rest
+-- of the call that is not over, a log holds what it may: what the call has put in is this, and maybe more
+held_now : (object client : ℕ) (call : Own) (stage : Stage) (now more : List AnyEntry) → IsAtRest call
+    → OwnCallAgrees call stage → served_now object client stage ≡ now ++ more → MayHold object client call now
+held_now object client own.Idle stage now more rest ok split = grind (arith, one_front [] now more)
+held_now object client (own.Waiting request) stage now more rest ok split =
+    grind (
+      arith,
+      one_front [] now more,
+      short_logged object client request,
+      λ (answer : AnyAnswer). one_front (logged_on object client request answer) now more,
+    )
+held_now object client call stage now more rest ok split = absurd rest
 
 -- a list that the client has seen has of its own calls what it is to have
-pub accounts : (kinds : List Kind) (quota : ℕ) (w : World) (x : ℕ) (v : DeskView) (l : List AnyEntry) → IsAtRest v.own
-    → v.done ≡ w.done v.number → OwnCallAgrees v.own (w.stage v.number) → Sound kinds quota w
-    → StartsWith (w.log x) l → StartsWith (entries_of_client v.number l)
-    (served x v.number v.done ++ owed x v.number v.own)
-    → IsAccount x v l
-accounts kinds quota w x v l rest done ok k begins covers =
-    let c : ℕ = v.number in let d : List AnyEntry = served x c v.done in
-    let now : List AnyEntry = owed x c v.own ++ covers.0 in
-    let seen : entries_of_client c l ≡ d ++ now = covers.1 ∙ append_assoc d (owed x c v.own) covers.0 in
-    let whole : d ++ served_now x c (w.stage c) ≡ d ++ (now ++ entries_of_client c begins.0) =
-    ap (λ z. served x c z ++ served_now x c (w.stage c)) done
-    ∙ (sym (k.counted c x) ∙ (ap (entries_of_client c) begins.1 ∙ (entries-append c l begins.0
-    ∙ (ap (λ z. z ++ entries_of_client c begins.0) seen ∙ append_assoc d now (entries_of_client c begins.0))))) in (
-      now,
-      seen,
-      held_now x c v.own (w.stage c) now (entries_of_client c begins.0) rest ok
-          (append_cancel_left d (served_now x c (w.stage c)) (now ++ entries_of_client c begins.0) whole),
-    )
+pub accounts : (kinds : List Kind) (quota : ℕ) (world : World) (object : ℕ) (view : DeskView) (log : List AnyEntry)
+    → IsAtRest view.own → view.done ≡ world.done view.number → OwnCallAgrees view.own (world.stage view.number)
+    → Sound kinds quota world → StartsWith (world.log object) log
+    → StartsWith (entries_of_client view.number log)
+    (served object view.number view.done ++ owed object view.number view.own)
+    → IsAccount object view log
+accounts kinds quota world object view log rest done ok sound begins covers =
+    let client : ℕ = view.number in
+    let before : List AnyEntry = served object client view.done in
+    let now : List AnyEntry = owed object client view.own ++ covers.0 in
+    let later : List AnyEntry = entries_of_client client begins.0 in
+    let put_in : List AnyEntry = served_now object client (world.stage client) in
+    let seen : entries_of_client client log ≡ before ++ now =
+    covers.1 ∙ append_assoc before (owed object client view.own) covers.0 in
+    let whole : before ++ put_in ≡ before ++ (now ++ later) =
+    ap (λ z. served object client z ++ put_in) done
+    ∙ (sym (sound.counted client object) ∙ (ap (entries_of_client client) begins.1
+    ∙ (entries-append client log begins.0 ∙ (ap (λ z. z ++ later) seen ∙ append_assoc before now later)))) in
+    let split : put_in ≡ now ++ later = append_cancel_left before put_in (now ++ later) whole in
+    (now, seen, held_now object client view.own (world.stage client) now later rest ok split)

@@ -13,56 +13,68 @@ use Rattle.desk_model.proofs.Entries.{logged_else}
 use Rattle.desk_model.proofs.Tickets.{journal_begun}
 
 -- a call on one of the first n objects logs nothing on a later one
-nothing_logged : (n x c : ℕ) (q : AnyRequest) (a : AnyAnswer) → n ≤ x → q.object < n → logged_on x c q a ≡ []
-nothing_logged n x c q a far on = logged_else x c q a (λ e. omega arith)
+nothing_logged : (count object client : ℕ) (request : AnyRequest) (answer : AnyAnswer) → count ≤ object
+    → request.object < count → logged_on object client request answer ≡ []
+nothing_logged count object client request answer far on = logged_else object client request answer (λ e. omega arith)
 
-nothing_served : (kinds : List Kind) (x c : ℕ) (ds : List AnyDone) (q : Option AnyRequest) → length kinds ≤ x
-    → All (IsAmong kinds) (journal_of ds q) → served x c ds ≡ []
-nothing_served kinds x c [] q far all = refl
-nothing_served kinds x c (d ∷ ds) q far all =
-    let rest : List AnyEvent = Returned d.returned d.answer ∷ journal_of ds q in
+nothing_served : (kinds : List Kind) (object client : ℕ) (done : List AnyDone) (asked : Option AnyRequest)
+    → length kinds ≤ object → All (IsAmong kinds) (journal_of done asked) → served object client done ≡ []
+nothing_served kinds object client [] asked far all = refl
+nothing_served kinds object client (d ∷ done) asked far all =
+    let rest : List AnyEvent = Returned d.returned d.answer ∷ journal_of done asked in
     let on : d.request.object < length kinds = (All-head (IsAmong kinds) (invoked d.request) rest all).0 in
-    let later = All-tail (IsAmong kinds) (Returned d.returned d.answer) (journal_of ds q)
+    let later = All-tail (IsAmong kinds) (Returned d.returned d.answer) (journal_of done asked)
     (All-tail (IsAmong kinds) (invoked d.request) rest all) in
-    (λ i. nothing_logged (length kinds) x c d.request d.answer far on i ++ nothing_served kinds x c ds q far later i)
+    (λ i. nothing_logged (length kinds) object client d.request d.answer far on i
+    ++ nothing_served kinds object client done asked far later i)
 
-asked_among : (kinds : List Kind) (ds : List AnyDone) (q : AnyRequest) → All (IsAmong kinds) (journal_of ds (Some q))
-    → q.object < length kinds
-asked_among kinds ds q all = (All-contains (IsAmong kinds) (journal_of ds None ++ invoked q ∷ []) (invoked q)
-    (subst (All (IsAmong kinds)) (journal_begun ds q) all) (Contains-push (journal_of ds None) (invoked q))).0
+asked_among : (kinds : List Kind) (done : List AnyDone) (request : AnyRequest)
+    → All (IsAmong kinds) (journal_of done (Some request)) → request.object < length kinds
+asked_among kinds done request all =
+    let begun = subst (All (IsAmong kinds)) (journal_begun done request) all in
+    (All-contains (IsAmong kinds) (journal_of done None ++ invoked request ∷ []) (invoked request) begun
+    (Contains-push (journal_of done None) (invoked request))).0
 
-nothing_now : (kinds : List Kind) (x c : ℕ) (ds : List AnyDone) (t : Stage) → length kinds ≤ x
-    → All (IsAmong kinds) (journal_of ds (request_of t)) → served_now x c t ≡ []
-nothing_now kinds x c ds (answered q a) far all = nothing_logged (length kinds) x c q a far (asked_among kinds ds q all)
-nothing_now kinds x c ds (taken q a) far all = nothing_logged (length kinds) x c q a far (asked_among kinds ds q all)
-nothing_now kinds x c ds t h k = refl
+nothing_now : (kinds : List Kind) (object client : ℕ) (done : List AnyDone) (stage : Stage) → length kinds ≤ object
+    → All (IsAmong kinds) (journal_of done (request_of stage)) → served_now object client stage ≡ []
+nothing_now kinds object client done (answered request answer) far all =
+    nothing_logged (length kinds) object client request answer far (asked_among kinds done request all)
+nothing_now kinds object client done (taken request answer) far all =
+    nothing_logged (length kinds) object client request answer far (asked_among kinds done request all)
+nothing_now kinds object client done stage h among = refl
 
-no_entries : (l : List AnyEntry) → ((c : ℕ) → entries_of_client c l ≡ []) → l ≡ []
+no_entries : (log : List AnyEntry) → ((client : ℕ) → entries_of_client client log ≡ []) → log ≡ []
 no_entries [] none = refl
 no_entries (e ∷ es) none = let own : e ∷ entries_of_client e.client es ≡ [] =
     sym (ap (λ b. cond b (e ∷ entries_of_client e.client es) (entries_of_client e.client es))
     (eq-eqb e.client e.client refl))
     ∙ none e.client in absurd (cc)
 
-is_absent : (t : Stage) → ((t ≢ absent) → ⊥) → t ≡ absent
+is_absent : (stage : Stage) → ((stage ≢ absent) → ⊥) → stage ≡ absent
 is_absent absent h = refl
 is_absent idle h = absurd (h (λ e. absurd (cc)))
-is_absent (drawn q) h = absurd (h (λ e. absurd (cc)))
-is_absent (posted q) h = absurd (h (λ e. absurd (cc)))
-is_absent (picked q) h = absurd (h (λ e. absurd (cc)))
-is_absent (answered q a) h = absurd (h (λ e. absurd (cc)))
-is_absent (taken q a) h = absurd (h (λ e. absurd (cc)))
+is_absent (drawn request) h = absurd (h (λ e. absurd (cc)))
+is_absent (posted request) h = absurd (h (λ e. absurd (cc)))
+is_absent (picked request) h = absurd (h (λ e. absurd (cc)))
+is_absent (answered request answer) h = absurd (h (λ e. absurd (cc)))
+is_absent (taken request answer) h = absurd (h (λ e. absurd (cc)))
 
-module _ (kinds : List Kind) (quota : ℕ) (w : World) (k : Sound kinds quota w) where
-  pub no_log_beyond : (x : ℕ) → length kinds ≤ x → w.log x ≡ []
-  no_log_beyond x far = no_entries (w.log x)
-      (λ c. k.counted c x ∙ (λ i.
-      nothing_served kinds x c (w.done c) (request_of (w.stage c)) far (k.journals.on_objects c) i
-      ++ nothing_now kinds x
-      c (w.done c) (w.stage c) far (k.journals.on_objects c) i))
+module _ (kinds : List Kind) (quota : ℕ) (world : World) (sound : Sound kinds quota world) where
+  pub no_log_beyond : (object : ℕ) → length kinds ≤ object → world.log object ≡ []
+  no_log_beyond object far = no_entries (world.log object)
+      (λ client.
+      let done : List AnyDone = world.done client in
+      let stage : Stage = world.stage client in
+      let among = sound.journals.on_objects client in
+      sound.counted client object
+      ∙ (λ i. nothing_served kinds object client done (request_of stage) far among i
+      ++ nothing_now kinds object client done stage far among i))
 
   -- where all that have come are below n
-  pub no_journal_beyond : (n : ℕ) → ((c : ℕ) → w.stage c ≢ absent → c < n) → (c : ℕ) → n ≤ c → journal_in w c ≡ []
-  no_journal_beyond n come c far =
-      let away = is_absent (w.stage c) (λ came. let l = come c came in absurd (omega arith)) in
-      (λ i. journal_of (k.journals.not_come c away i) (request_of (away i)))
+  pub no_journal_beyond : (count : ℕ) → ((client : ℕ) → world.stage client ≢ absent → client < count) → (client : ℕ)
+      → count ≤ client → journal_in world client ≡ []
+  no_journal_beyond count come client far =
+      let not_come : (world.stage client ≢ absent) → ⊥ =
+      λ came. let low = come client came in absurd (omega arith) in
+      let away = is_absent (world.stage client) not_come in
+      (λ i. journal_of (sound.journals.not_come client away i) (request_of (away i)))

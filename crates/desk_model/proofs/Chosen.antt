@@ -20,7 +20,9 @@ pub chosen : (P : AnyEntry → Call → Type 0) (es : List AnyEntry) → ((e : A
     → (ks : List Call) × Along P es ks
 chosen P [] f = ([], tt)
 chosen P (e ∷ es) f =
-    let k = f e (inl refl) in let rest = chosen P es (λ d i. f d (inr i)) in (k.0 ∷ rest.0, (k.1, rest.1))
+    let k = f e (inl refl) in
+    let rest = chosen P es (λ d i. f d (inr i)) in
+    (k.0 ∷ rest.0, (k.1, rest.1))
 
 pub entry_beside : (P : AnyEntry → Call → Type 0) (es : List AnyEntry) (ks : List Call) → Along P es ks → (k : Call)
     → In k ks → (e : AnyEntry) × In e es × P e k

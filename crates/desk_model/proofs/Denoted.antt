@@ -12,57 +12,61 @@ use Rattle.desk_model.specs.Records.{Denotes}
 use Rattle.locality.proofs.ProcessHistories.{at, first, calls_in-call}
 
 abbrev invocation : ℕ → AnyRequest → Numbered
-invocation c q = at q.ticket (Inv c q.object q.op)
+invocation client asked = at asked.ticket (Inv client asked.object asked.op)
 
 -- the events of a call that is over, in front of others
 abbrev turn : ℕ → AnyRequest → ℕ → AnyAnswer → List Numbered → List Numbered
-turn c q u (Reply r) ms = invocation c q ∷ at u (Res c q.object r) ∷ ms
-turn c q u Refused ms = ms
+turn client asked u (Reply r) ms = invocation client asked ∷ at u (Res client asked.object r) ∷ ms
+turn client asked u Refused ms = ms
 
 abbrev pub denoted : ℕ → List AnyDone → Option AnyRequest → List Numbered
-denoted c [] None = []
-denoted c [] (Some q) = invocation c q ∷ []
-denoted c (d ∷ ds) q = turn c d.request d.returned d.answer (denoted c ds q)
+denoted client [] None = []
+denoted client [] (Some asked) = invocation client asked ∷ []
+denoted client (d ∷ done) asked = turn client d.request d.returned d.answer (denoted client done asked)
 
 -- and its operation
 abbrev pub ended : ℕ → AnyRequest → ℕ → AnyAnswer → List ProcessCall → List ProcessCall
-ended c q u (Reply r) os = first c q.ticket q.object q.op u r ∷ os
-ended c q u Refused os = os
+ended client asked u (Reply r) os = first client asked.ticket asked.object asked.op u r ∷ os
+ended client asked u Refused os = os
 
 -- the calls that a client made: those that are over, and the one that is not
 abbrev pub made : ℕ → List AnyDone → Option AnyRequest → List ProcessCall
-made c [] None = []
-made c [] (Some q) = record {
-  process = c;
-  object = q.object;
-  call = record { number = q.ticket; op = q.op; returned = None };
+made client [] None = []
+made client [] (Some asked) = record {
+  process = client;
+  object = asked.object;
+  call = record { number = asked.ticket; op = asked.op; returned = None };
 } ∷ []
-made c (d ∷ ds) q = ended c d.request d.returned d.answer (made c ds q)
+made client (d ∷ done) asked = ended client d.request d.returned d.answer (made client done asked)
 
-pub denotes : (c : ℕ) (ds : List AnyDone) (q : Option AnyRequest) → Denotes c (journal_of ds q) (denoted c ds q)
-denotes c [] None = refl
-denotes c [] (Some q) = refl
-denotes c (d ∷ ds) q = go d.answer (denotes c ds q)
+pub denotes : (client : ℕ) (done : List AnyDone) (asked : Option AnyRequest)
+    → Denotes client (journal_of done asked) (denoted client done asked)
+denotes client [] None = refl
+denotes client [] (Some asked) = refl
+denotes client (d ∷ done) asked = go d.answer (denotes client done asked)
   where
-    go : (a : AnyAnswer) → Denotes c (journal_of ds q) (denoted c ds q)
-        → Denotes c (invoked d.request ∷ Returned d.returned a ∷ journal_of ds q)
-        (turn c d.request d.returned a (denoted c ds q))
-    go (Reply r) h = (denoted c ds q, refl, h)
+    go : (a : AnyAnswer) → Denotes client (journal_of done asked) (denoted client done asked)
+        → Denotes client (invoked d.request ∷ Returned d.returned a ∷ journal_of done asked)
+        (turn client d.request d.returned a (denoted client done asked))
+    go (Reply r) h = (denoted client done asked, refl, h)
     go Refused h = h
 
 -- each event is of the client, and its number is a ticket of the journal
-pub of_client : (c : ℕ) (ds : List AnyDone) (q : Option AnyRequest) (m : Numbered) → In m (denoted c ds q)
-    → (process_of m.event ≡ c) × In m.number (map ticket_of (journal_of ds q))
-of_client c [] None m i = absurd i
-of_client c [] (Some q) m i = elim i [
+pub of_client : (client : ℕ) (done : List AnyDone) (asked : Option AnyRequest) (m : Numbered)
+    → In m (denoted client done asked)
+    → (process_of m.event ≡ client) × In m.number (map ticket_of (journal_of done asked))
+of_client client [] None m i = absurd i
+of_client client [] (Some asked) m i = elim i [
   | inl e ↦ (ap (λ (m : Numbered). process_of m.event) e, inl (ap (λ (m : Numbered). m.number) e))
   | inr j ↦ absurd j
 ]
-of_client c (d ∷ ds) q m i = go d.answer i (of_client c ds q m)
+of_client client (d ∷ done) asked m i = go d.answer i (of_client client done asked m)
   where
-    go : (a : AnyAnswer) → In m (turn c d.request d.returned a (denoted c ds q))
-        → (In m (denoted c ds q) → (process_of m.event ≡ c) × In m.number (map ticket_of (journal_of ds q)))
-        → (process_of m.event ≡ c) × In m.number (d.request.ticket ∷ d.returned ∷ map ticket_of (journal_of ds q))
+    go : (a : AnyAnswer) → In m (turn client d.request d.returned a (denoted client done asked))
+        → (In m (denoted client done asked)
+        → (process_of m.event ≡ client) × In m.number (map ticket_of (journal_of done asked)))
+        → (process_of m.event ≡ client)
+        × In m.number (d.request.ticket ∷ d.returned ∷ map ticket_of (journal_of done asked))
     go (Reply r) i f = elim i [
       | inl e ↦ (ap (λ (m : Numbered). process_of m.event) e, inl (ap (λ (m : Numbered). m.number) e))
       | inr j ↦ elim j [
@@ -73,17 +77,18 @@ of_client c (d ∷ ds) q m i = go d.answer i (of_client c ds q m)
     go Refused i f = let g = f i in (g.0, inr (inr g.1))
 
 -- the numbers rise with the tickets
-pub denoted_rises : (c : ℕ) (ds : List AnyDone) (q : Option AnyRequest)
-    → Pairs (λ t u. t < u) (map ticket_of (journal_of ds q)) → Pairs (λ a b. a.number < b.number) (denoted c ds q)
-denoted_rises c [] None h = tt
-denoted_rises c [] (Some q) h = (λ y i. absurd i, tt)
-denoted_rises c (d ∷ ds) q h = go d.answer (denoted_rises c ds q h.1.1)
+pub denoted_rises : (client : ℕ) (done : List AnyDone) (asked : Option AnyRequest)
+    → Pairs (λ t u. t < u) (map ticket_of (journal_of done asked))
+    → Pairs (λ a b. a.number < b.number) (denoted client done asked)
+denoted_rises client [] None h = tt
+denoted_rises client [] (Some asked) h = (λ y i. absurd i, tt)
+denoted_rises client (d ∷ done) asked h = go d.answer (denoted_rises client done asked h.1.1)
   where
-    later : (m : Numbered) → In m (denoted c ds q) → In m.number (map ticket_of (journal_of ds q))
-    later m i = (of_client c ds q m i).1
+    later : (m : Numbered) → In m (denoted client done asked) → In m.number (map ticket_of (journal_of done asked))
+    later m i = (of_client client done asked m i).1
 
-    go : (a : AnyAnswer) → Pairs (λ a b. a.number < b.number) (denoted c ds q)
-        → Pairs (λ a b. a.number < b.number) (turn c d.request d.returned a (denoted c ds q))
+    go : (a : AnyAnswer) → Pairs (λ a b. a.number < b.number) (denoted client done asked)
+        → Pairs (λ a b. a.number < b.number) (turn client d.request d.returned a (denoted client done asked))
     go (Reply r) k = (
       λ m i. elim i [
         | inl e ↦ let l = h.0 d.returned (inl refl) in omega (arith, ap (λ (m : Numbered). m.number) e)
@@ -93,28 +98,32 @@ denoted_rises c (d ∷ ds) q h = go d.answer (denoted_rises c ds q h.1.1)
     )
     go Refused k = k
 
-pub denoted_sequential : (c : ℕ) (ds : List AnyDone) (q : Option AnyRequest) → IsSequential (events (denoted c ds q))
-denoted_sequential c [] None = tt
-denoted_sequential c [] (Some q) = refl
-denoted_sequential c (d ∷ ds) q = go d.answer (denoted_sequential c ds q)
+pub denoted_sequential : (client : ℕ) (done : List AnyDone) (asked : Option AnyRequest)
+    → IsSequential (events (denoted client done asked))
+denoted_sequential client [] None = tt
+denoted_sequential client [] (Some asked) = refl
+denoted_sequential client (d ∷ done) asked = go d.answer (denoted_sequential client done asked)
   where
-    go : (a : AnyAnswer) → IsSequential (events (denoted c ds q))
-        → IsSequential (events (turn c d.request d.returned a (denoted c ds q)))
+    go : (a : AnyAnswer) → IsSequential (events (denoted client done asked))
+        → IsSequential (events (turn client d.request d.returned a (denoted client done asked)))
     go (Reply r) h = (
-      and_from (c == c) (d.request.object == d.request.object) (eq-eqb c c refl)
+      and_from (client == client) (d.request.object == d.request.object) (eq-eqb client client refl)
           (eq-eqb d.request.object d.request.object refl),
       h,
     )
     go Refused h = h
 
 -- the operations among the events
-pub made_in : (c : ℕ) (ds : List AnyDone) (q : Option AnyRequest) → calls_in (denoted c ds q) ≡ made c ds q
-made_in c [] None = refl
-made_in c [] (Some q) = refl
-made_in c (d ∷ ds) q = go d.answer (made_in c ds q)
+pub made_in : (client : ℕ) (done : List AnyDone) (asked : Option AnyRequest)
+    → calls_in (denoted client done asked) ≡ made client done asked
+made_in client [] None = refl
+made_in client [] (Some asked) = refl
+made_in client (d ∷ done) asked = go d.answer (made_in client done asked)
   where
-    go : (a : AnyAnswer) → calls_in (denoted c ds q) ≡ made c ds q
-        → calls_in (turn c d.request d.returned a (denoted c ds q)) ≡ ended c d.request d.returned a (made c ds q)
-    go (Reply r) h = calls_in-call c d.request.ticket d.request.object d.request.op d.returned r (denoted c ds q)
-        ∙ ap (λ os. first c d.request.ticket d.request.object d.request.op d.returned r ∷ os) h
+    go : (a : AnyAnswer) → calls_in (denoted client done asked) ≡ made client done asked
+        → calls_in (turn client d.request d.returned a (denoted client done asked))
+        ≡ ended client d.request d.returned a (made client done asked)
+    go (Reply r) h =
+        calls_in-call client d.request.ticket d.request.object d.request.op d.returned r (denoted client done asked)
+        ∙ ap (λ os. first client d.request.ticket d.request.object d.request.op d.returned r ∷ os) h
     go Refused h = h

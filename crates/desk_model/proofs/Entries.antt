@@ -20,54 +20,66 @@ pub starts_same : (xs : List AnyEntry) → StartsWith xs xs
 starts_same xs = ([], sym (append-nil xs))
 
 -- the entries of a client in two logs, one after the other
-pub entries-append : (c : ℕ) (xs ys : List AnyEntry) → entries_of_client c (xs ++ ys) ≡ entries_of_client c xs
-    ++ entries_of_client c ys
-entries-append c [] ys = refl
-entries-append c (e ∷ es) ys = let rest = entries-append c es ys in grind arith
+pub entries-append : (client : ℕ) (xs ys : List AnyEntry)
+    → entries_of_client client (xs ++ ys) ≡ entries_of_client client xs ++ entries_of_client client ys
+entries-append client [] ys = refl
+entries-append client (e ∷ es) ys = let rest = entries-append client es ys in grind arith
 
 -- what an answer to a client puts into a log is all that client's
-pub own_entries : (c : ℕ) (q : AnyRequest) (a : AnyAnswer) → entries_of_client c (logged c q a) ≡ logged c q a
-own_entries c q (Reply p) = ap (λ b. cond b (logged c q (Reply p)) []) (eq-eqb c c refl)
-own_entries c q Refused = refl
+pub own_entries : (client : ℕ) (request : AnyRequest) (answer : AnyAnswer)
+    → entries_of_client client (logged client request answer) ≡ logged client request answer
+own_entries client request (Reply p) = ap (λ b. cond b (logged client request (Reply p)) []) (eq-eqb client client refl)
+own_entries client request Refused = refl
 
 -- what an answer to one client puts into a log has no entry of another
-pub others_entries : (c r : ℕ) (q : AnyRequest) (a : AnyAnswer) → c ≢ r → entries_of_client c (logged r q a) ≡ []
-others_entries c r q (Reply p) other = ap (λ b. cond b (logged r q (Reply p)) []) (ne_eqb r c (λ e. other (sym e)))
-others_entries c r q Refused other = refl
+pub others_entries : (client row : ℕ) (request : AnyRequest) (answer : AnyAnswer) → client ≢ row
+    → entries_of_client client (logged row request answer) ≡ []
+others_entries client row request (Reply p) other =
+    ap (λ b. cond b (logged row request (Reply p)) []) (ne_eqb row client (λ e. other (sym e)))
+others_entries client row request Refused other = refl
 
 -- what an answer puts into the log of the request's own object
-pub logged_here : (x c : ℕ) (q : AnyRequest) (a : AnyAnswer) → q.object ≡ x → logged_on x c q a ≡ logged c q a
-logged_here x c q a on = ap (λ b. cond b (logged c q a) []) (eq-eqb q.object x on)
+pub logged_here : (object client : ℕ) (request : AnyRequest) (answer : AnyAnswer) → request.object ≡ object
+    → logged_on object client request answer ≡ logged client request answer
+logged_here object client request answer on =
+    ap (λ b. cond b (logged client request answer) []) (eq-eqb request.object object on)
 
 -- an answer puts nothing into the log of another object
-pub logged_else : (x c : ℕ) (q : AnyRequest) (a : AnyAnswer) → q.object ≢ x → logged_on x c q a ≡ []
-logged_else x c q a other = ap (λ b. cond b (logged c q a) []) (ne_eqb q.object x other)
+pub logged_else : (object client : ℕ) (request : AnyRequest) (answer : AnyAnswer) → request.object ≢ object
+    → logged_on object client request answer ≡ []
+logged_else object client request answer other =
+    ap (λ b. cond b (logged client request answer) []) (ne_eqb request.object object other)
 
-served-append : (x c : ℕ) (ds es : List AnyDone) → served x c (ds ++ es) ≡ served x c ds ++ served x c es
-served-append x c [] es = refl
-served-append x c (d ∷ ds) es =
-    ap (λ z. logged_on x c d.request d.answer ++ z) (served-append x c ds es)
-    ∙ sym (append_assoc (logged_on x c d.request d.answer) (served x c ds) (served x c es))
+served-append : (object client : ℕ) (done es : List AnyDone)
+    → served object client (done ++ es) ≡ served object client done ++ served object client es
+served-append object client [] es = refl
+served-append object client (d ∷ done) es =
+    ap (λ z. logged_on object client d.request d.answer ++ z) (served-append object client done es)
+    ∙ sym (append_assoc (logged_on object client d.request d.answer) (served object client done)
+    (served object client es))
 
 -- one call more
-pub served_more : (x c t : ℕ) (ds : List AnyDone) (q : AnyRequest) (a : AnyAnswer)
-    → served x c (ds ++ record { request = q; answer = a; returned = t } ∷ []) ≡ served x c ds ++ logged_on x c q a
-served_more x c t ds q a =
-    served-append x c ds (record { request = q; answer = a; returned = t } ∷ [])
-    ∙ ap (λ z. served x c ds ++ z) (append-nil (logged_on x c q a))
+pub served_more : (object client ticket : ℕ) (done : List AnyDone) (request : AnyRequest) (answer : AnyAnswer)
+    → served object client (done ++ record { request = request; answer = answer; returned = ticket } ∷ [])
+    ≡ served object client done ++ logged_on object client request answer
+served_more object client ticket done request answer =
+    served-append object client done (record { request = request; answer = answer; returned = ticket } ∷ [])
+    ∙ ap (λ z. served object client done ++ z) (append-nil (logged_on object client request answer))
 
 -- a log that is replayed goes on with what is served
-pub replays_more : (c m after : Content) (l : List AnyEntry) (r : ℕ) (q : AnyRequest) (a : AnyAnswer) → Replays c l m
-    → Serves m q.op a after → Replays c (l ++ logged r q a) after
-replays_more c m after [] r q (Reply p) h s = (after, ap (λ z. next z q.op) h ∙ s, refl)
-replays_more c m after [] r q Refused h s = h ∙ sym s
-replays_more c m after (e ∷ es) r q a h s = (h.0, h.1, replays_more h.0 m after es r q a h.2 s)
+pub replays_more : (content between after : Content) (log : List AnyEntry) (row : ℕ) (request : AnyRequest)
+    (answer : AnyAnswer) → Replays content log between → Serves between request.op answer after
+    → Replays content (log ++ logged row request answer) after
+replays_more content between after [] row request (Reply p) h s = (after, ap (λ z. next z request.op) h ∙ s, refl)
+replays_more content between after [] row request Refused h s = h ∙ sym s
+replays_more content between after (e ∷ es) row request answer h s =
+    (h.0, h.1, replays_more h.0 between after es row request answer h.2 s)
 
 -- what a log begins with is legal where the log is
-replays_front : (c after : Content) (xs ys : List AnyEntry) → Replays c (xs ++ ys) after
-    → (between : Content) × Replays c xs between
-replays_front c after [] ys h = (c, refl)
-replays_front c after (x ∷ xs) ys h = let b = replays_front h.0 after xs ys h.2 in (b.0, (h.0, h.1, b.1))
+replays_front : (content after : Content) (xs ys : List AnyEntry) → Replays content (xs ++ ys) after
+    → (between : Content) × Replays content xs between
+replays_front content after [] ys h = (content, refl)
+replays_front content after (x ∷ xs) ys h = let b = replays_front h.0 after xs ys h.2 in (b.0, (h.0, h.1, b.1))
 
 -- a beginning of a legal log is legal
 pub legal_front : (kind : Kind) (log seen : List AnyEntry) → StartsWith log seen → IsLegalLog kind log

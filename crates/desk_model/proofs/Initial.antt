@@ -34,8 +34,8 @@ sound_initial kinds quota = record {
 }
 
 -- the world stays sound when a client comes
-pub sound_coming : (kinds : List Kind) (quota : ℕ) (w : World) (c : ℕ) → w.stage c ≡ absent → Sound kinds quota w
-    → Sound kinds quota (staged w c idle)
-sound_coming kinds quota w c was =
-    sound_staged kinds quota w c idle (λ q e. absurd cc) (λ q e. absurd (cc))
-    (ap request_of (sym was)) (λ e. absurd (cc)) (λ x. ap (served_now x c) (sym was))
+pub sound_coming : (kinds : List Kind) (quota : ℕ) (world : World) (client : ℕ) → world.stage client ≡ absent
+    → Sound kinds quota world → Sound kinds quota (staged world client idle)
+sound_coming kinds quota world client was =
+    sound_staged kinds quota world client idle (λ q e. absurd cc) (λ q e. absurd (cc))
+    (ap request_of (sym was)) (λ e. absurd (cc)) (λ x. ap (served_now x client) (sym was))

@@ -34,65 +34,67 @@ record IsLogged (log : List AnyEntry) (o : ProcessCall) (r : Return) : Type 0 wh
   whole : log ≡ before ++ entry_for o r ∷ after
   early : (e : AnyEntry) → In e before → e.ticket < r.at
 
+-- where the entries between what is before and after are one, this one is there
 one_logged : (log before es after : List AnyEntry) (e : AnyEntry) → log ≡ before ++ es ++ after → es ≡ e ∷ []
     → log ≡ before ++ e ∷ after
 one_logged log before es after e whole one =
     whole ∙ (append_assoc before es after ∙ ap (λ z. before ++ (z ++ after)) one)
 
-module _ (kinds : List Kind) (quota : ℕ) (w : World) (k : Sound kinds quota w) where
+module _ (kinds : List Kind) (quota : ℕ) (world : World) (sound : Sound kinds quota world) where
   abbrev past : List Numbered
-  past = history w k.journals.tickets
+  past = history world sound.journals.tickets
 
   abbrev ops : List ProcessCall
   ops = calls_in past
 
-  put_in_log : (c x : ℕ) → entries_of_client c (w.log x) ≡ put_in x c (w.done c) (w.stage c)
-  put_in_log c x = k.counted c x ∙ served_is x c (w.done c) (w.stage c)
+  put_in_log : (c object : ℕ) → entries_of_client c (world.log object) ≡ put_in object c (world.done c) (world.stage c)
+  put_in_log c object = sound.counted c object ∙ served_is object c (world.done c) (world.stage c)
 
-  sources : (x : ℕ) (e : AnyEntry) → In e (w.log x) → IsOf x e.client e (journal_in w e.client) (calls_by w e.client)
-  sources x e i = is_of x e.client (w.done e.client) (w.stage e.client) e
-      (subst (In e) (put_in_log e.client x) (in_own_entries e (w.log x) i))
+  sources : (object : ℕ) (e : AnyEntry) → In e (world.log object)
+      → IsOf object e.client e (journal_in world e.client) (calls_by world e.client)
+  sources object e i = is_of object e.client (world.done e.client) (world.stage e.client) e
+      (subst (In e) (put_in_log e.client object) (in_own_entries e (world.log object) i))
 
-  has_ticket : (x : ℕ) (e : AnyEntry) → In e (w.log x) → Contains (tickets_in w e.client) e.ticket
-  has_ticket x e i = contains_from_in (tickets_in w e.client) e.ticket
-      (in_map_from ticket_of (Invoked e.ticket x e.op) (journal_in w e.client) (sources x e i).invocation)
+  has_ticket : (object : ℕ) (e : AnyEntry) → In e (world.log object) → Contains (tickets_in world e.client) e.ticket
+  has_ticket object e i = contains_from_in (tickets_in world e.client) e.ticket
+      (in_map_from ticket_of (Invoked e.ticket object e.op) (journal_in world e.client) (sources object e i).invocation)
 
   -- no ticket stands twice in a log
-  once : (x : ℕ) → Pairs (λ e f. e.ticket ≢ f.ticket) (w.log x)
-  once x = tickets_once (w.log x)
-      (λ c. subst (Pairs (λ (e f : AnyEntry). e.ticket < f.ticket)) (sym (put_in_log c x))
-      (put_rises x c (w.done c) (w.stage c) (tickets_rise w k.journals.tickets c)))
-      (λ e f i j s. k.journals.tickets.apart e.client f.client e.ticket (has_ticket x e i)
-      (subst (Contains (tickets_in w f.client)) (sym s) (has_ticket x f j)))
+  once : (object : ℕ) → Pairs (λ e f. e.ticket ≢ f.ticket) (world.log object)
+  once object = tickets_once (world.log object)
+      (λ c. subst (Pairs (λ (e f : AnyEntry). e.ticket < f.ticket)) (sym (put_in_log c object))
+      (put_rises object c (world.done c) (world.stage c) (tickets_rise world sound.journals.tickets c)))
+      (λ e f i j s. sound.journals.tickets.apart e.client f.client e.ticket (has_ticket object e i)
+      (subst (Contains (tickets_in world f.client)) (sym s) (has_ticket object f j)))
 
-  call_among : (c : ℕ) (o : ProcessCall) → In o (calls_by w c) → In o ops
+  call_among : (c : ℕ) (o : ProcessCall) → In o (calls_by world c) → In o ops
   call_among c o i = in_filter (λ o. o.process == c) o ops
-      (subst (In o) (sym (calls_of_client w k.journals.tickets c)) i)
+      (subst (In o) (sym (calls_of_client world sound.journals.tickets c)) i)
 
   -- a call that returned has its entry in the log, in time
-  is_logged : (o : ProcessCall) (r : Return) → In o ops → o.call.returned ≡ Some r → IsLogged (w.log o.object) o r
+  is_logged : (o : ProcessCall) (r : Return) → In o ops → o.call.returned ≡ Some r → IsLogged (world.log o.object) o r
   is_logged o r i e =
-      let own : In o (calls_by w o.process) =
-      subst (In o) (calls_of_client w k.journals.tickets o.process)
+      let own : In o (calls_by world o.process) =
+      subst (In o) (calls_of_client world sound.journals.tickets o.process)
       (in_filter_from (λ p. p.process == o.process) o ops i (eq-eqb o.process o.process refl)) in
-      let d : IsOver o.process o r (w.done o.process) =
-      is_over o.process (w.done o.process) (request_of (w.stage o.process)) o r own e in
-      let t : IsInTime w o.process d.over =
-      all_at (IsInTime w o.process) (w.done o.process) (k.journals.in_time o.process) d.over d.among in
+      let d : IsOver o.process o r (world.done o.process) =
+      is_over o.process (world.done o.process) (request_of (world.stage o.process)) o r own e in
+      let t : IsInTime world o.process d.over =
+      all_at (IsInTime world o.process) (world.done o.process) (sound.journals.in_time o.process) d.over d.among in
       record {
         before = t.0;
         after = t.1;
-        whole = one_logged (w.log o.object) t.0 (logged o.process d.over.request d.over.answer) t.1 (entry_for o r)
-            (ap w.log (sym d.object) ∙ t.2) d.logs;
+        whole = one_logged (world.log o.object) t.0 (logged o.process d.over.request d.over.answer) t.1 (entry_for o r)
+            (ap world.log (sym d.object) ∙ t.2) d.logs;
         early = λ f j. subst (λ n. f.ticket < n) d.returned (all_at (λ e. e.ticket < d.over.returned) t.0 t.3 f j);
       }
 
-  module _ (x : ℕ) where
+  module _ (object : ℕ) where
     abbrev log : List AnyEntry
-    log = w.log x
+    log = world.log object
 
     abbrev on_object : Call → AnyEntry → ProcessCall
-    on_object c e = record { process = e.client; object = x; call = c }
+    on_object c e = record { process = e.client; object = object; call = c }
 
     -- the call of an entry
     record Beside (e : AnyEntry) (c : Call) : Type 0 where
@@ -101,7 +103,7 @@ module _ (kinds : List Kind) (quota : ℕ) (w : World) (k : Sound kinds quota w)
 
     beside : (e : AnyEntry) → In e log → (c : Call) × Beside e c
     beside e i =
-        let s = (sources x e i).has_call in (
+        let s = (sources object e i).has_call in (
           s.call,
           record {
             says = record { number = s.number; op = s.op; reply = s.reply };
@@ -115,30 +117,32 @@ module _ (kinds : List Kind) (quota : ℕ) (w : World) (k : Sound kinds quota w)
     abbrev entries : List Call
     entries = pick.0
 
-    known : (c : Call) → In c entries → Contains (calls_on x past) c
+    known : (c : Call) → In c entries → Contains (calls_on object past) c
     known c i =
         let e = entry_beside Beside log entries pick.1 c i in
-        contains_from_in (calls_on x past) c
-        (in_map_from (λ (o : ProcessCall). o.call) (on_object c e.0) (filter (λ o. o.object == x) ops)
-        (in_filter_from (λ o. o.object == x) (on_object c e.0) ops e.2.among (eq-eqb x x refl)))
+        contains_from_in (calls_on object past) c
+        (in_map_from (λ (o : ProcessCall). o.call) (on_object c e.0) (filter (λ o. o.object == object) ops)
+        (in_filter_from (λ o. o.object == object) (on_object c e.0) ops e.2.among (eq-eqb object object refl)))
 
     -- a call that returned stands beside its entry
-    stands : (o : ProcessCall) (r : Return) → In o ops → o.object ≡ x → o.call.returned ≡ Some r → In o.call entries
+    stands : (o : ProcessCall) (r : Return) → In o ops → o.object ≡ object → o.call.returned ≡ Some r
+        → In o.call entries
     stands o r i on back =
         let e : AnyEntry = entry_for o r in
-        let l : IsLogged (w.log o.object) o r = is_logged o r i back in
-        let split : l.before ++ e ∷ l.after ≡ log = sym l.whole ∙ ap w.log on in
+        let l : IsLogged (world.log o.object) o r = is_logged o r i back in
+        let split : l.before ++ e ∷ l.after ≡ log = sym l.whole ∙ ap world.log on in
         let b = call_beside Beside log entries pick.1 e
         (subst (In e) split (in_right e l.before (e ∷ l.after) (inl refl))) in
         let same : on_object b.0 e ≡ o =
-        one_number number_of ops (on_object b.0 e) o (calls_up w k.journals.tickets) b.2.among i b.2.says.number in
+        one_number number_of ops (on_object b.0 e) o (calls_up world sound.journals.tickets) b.2.among i
+        b.2.says.number in
         subst (λ (c : Call). In c entries) (ap (λ (o : ProcessCall). o.call) same) b.1
 
-    whole : (o : ProcessCall) → In o (filter (λ o. o.object == x) ops) → IsSome o.call.returned → In o.call entries
+    whole : (o : ProcessCall) → In o (filter (λ o. o.object == object) ops) → IsSome o.call.returned → In o.call entries
     whole o i s =
         let back = returned_some o.call.returned s in
-        stands o back.0 (in_filter (λ o. o.object == x) o ops i)
-        (eqb-true o.object x (in_filter_passes (λ o. o.object == x) o ops i)) back.1
+        stands o back.0 (in_filter (λ o. o.object == object) o ops i)
+        (eqb-true o.object object (in_filter_passes (λ o. o.object == object) o ops i)) back.1
 
     in_order : Pairs (λ a b. ReturnsBefore b a → ⊥) entries
     in_order = pairs_beside Beside (λ a b. ReturnsBefore b a → ⊥) log entries pick.1
@@ -151,38 +155,38 @@ module _ (kinds : List Kind) (quota : ℕ) (w : World) (k : Sound kinds quota w)
         let t = l.early e first in
         let n = p.says.number in
         let u = back.2 in
-        omega arith) (in_front log (once x)))
+        omega arith) (in_front log (once object)))
 
-    pub valid : IsValidOrder (kind_at kinds x) (calls_on x past) (order_of log)
+    pub valid : IsValidOrder (kind_at kinds object) (calls_on object past) (order_of log)
     valid = record {
       entries = entries;
       numbers = numbers_beside Beside (λ e c b. b.says) log entries pick.1;
-      known = all_from_in (Contains (calls_on x past)) entries known;
-      once = all_from_pairs (λ a b. a ≢ b) (order_of log) (once_in_order log (once x));
-      whole = all_from_in (λ c. IsSome c.returned → Contains entries c) (calls_on x past)
-          (λ c i. let o = in_map (λ (o : ProcessCall). o.call) c (filter (λ o. o.object == x) ops) i in
+      known = all_from_in (Contains (calls_on object past)) entries known;
+      once = all_from_pairs (λ a b. a ≢ b) (order_of log) (once_in_order log (once object));
+      whole = all_from_in (λ c. IsSome c.returned → Contains entries c) (calls_on object past)
+          (λ c i. let o = in_map (λ (o : ProcessCall). o.call) c (filter (λ o. o.object == object) ops) i in
           subst (λ (c : Call). IsSome c.returned → Contains entries c) (sym o.2)
           (λ s. contains_from_in entries o.0.call (whole o.0 o.1 s)));
       in_order = all_from_pairs (λ a b. ReturnsBefore b a → ⊥) entries in_order;
       replies =
-          let legal = k.legal x in
-          replies_beside Beside (λ e c b. b.says) (empty (kind_at kinds x)) legal.0 log entries legal.1 pick.1;
+          let legal = sound.legal object in
+          replies_beside Beside (λ e c b. b.says) (empty (kind_at kinds object)) legal.0 log entries legal.1 pick.1;
     }
 
 -- the journals and logs of a sound world are a sound record
-pub sound_record : (kinds : List Kind) (quota : ℕ) (w : World) → Sound kinds quota w
-    → IsSoundRecord kinds quota (journal_in w) w.log
-sound_record kinds quota w k = record {
-  count = w.clock;
-  tickets = k.journals.tickets;
-  few = clock_few kinds quota w k;
-  on_objects = k.journals.on_objects;
-  history = history w k.journals.tickets;
-  denoted = history_denoted w k.journals.tickets;
-  well_formed = history_well_formed w k.journals.tickets;
-  legal = k.legal;
-  agree = λ x. all_from_in (λ e. Contains (journal_in w e.client) (Invoked e.ticket x e.op)) (w.log x)
-      (λ e i. contains_from_in (journal_in w e.client) (Invoked e.ticket x e.op)
-      (sources kinds quota w k x e i).invocation);
-  valid = valid kinds quota w k;
+pub sound_record : (kinds : List Kind) (quota : ℕ) (world : World) → Sound kinds quota world
+    → IsSoundRecord kinds quota (journal_in world) world.log
+sound_record kinds quota world sound = record {
+  count = world.clock;
+  tickets = sound.journals.tickets;
+  few = clock_few kinds quota world sound;
+  on_objects = sound.journals.on_objects;
+  history = history world sound.journals.tickets;
+  denoted = history_denoted world sound.journals.tickets;
+  well_formed = history_well_formed world sound.journals.tickets;
+  legal = sound.legal;
+  agree = λ x. all_from_in (λ e. Contains (journal_in world e.client) (Invoked e.ticket x e.op)) (world.log x)
+      (λ e i. contains_from_in (journal_in world e.client) (Invoked e.ticket x e.op)
+      (sources kinds quota world sound x e i).invocation);
+  valid = valid kinds quota world sound;
 }

@@ -15,9 +15,11 @@ use Rattle.model.specs.Objects.{next_map, next_mutex, next_set, next_counter, ne
 use Rattle.model.proofs.Objects.{kind_of_empty}
 use Rattle.desk_model.specs.World.{AnyEntry, Replays}
 
-after_kind : (c d : Content) (q r : AnyReply) → ◌≡◌ {A = Option (Content × AnyReply)} (Some (c, q)) (Some (d, r))
-    → kind_with d ≡ kind_with c
-after_kind c d q r e = ap kind_with (sym (ap (λ (z : Content × AnyReply). z.0) (same_Some (c, q) (d, r) e)))
+after_kind : (content content' : Content) (reply reply' : AnyReply)
+    → ◌≡◌ {A = Option (Content × AnyReply)} (Some (content, reply)) (Some (content', reply'))
+    → kind_with content' ≡ kind_with content
+after_kind content content' reply reply' e = ap kind_with
+    (sym (ap (λ (z : Content × AnyReply). z.0) (same_Some (content, reply) (content', reply') e)))
 
 -- what a step of one kind leaves is of that kind
 stepped_kind : {C : Type 0} (content : C → Content) (kind : Kind) → ((c : C) → kind_with (content c) ≡ kind)
@@ -45,18 +47,21 @@ kind_next (elements s) op d r e = stepped_kind elements Set (λ c. refl) (next_s
 kind_next (count n) op d r e = stepped_kind count Counter (λ c. refl) (next_counter n op) d r e
 kind_next (owner o) op d r e = stepped_kind owner Lock (λ c. refl) (next_lock o op) d r e
 
-replays_kind : (c d : Content) (l : List AnyEntry) → Replays c l d → kind_with d ≡ kind_with c
-replays_kind c d [] h = ap kind_with (sym h)
-replays_kind c d (e ∷ es) h = replays_kind h.0 d es h.2 ∙ kind_next c e.op h.0 e.reply h.1
+replays_kind : (content after : Content) (log : List AnyEntry) → Replays content log after
+    → kind_with after ≡ kind_with content
+replays_kind content after [] h = ap kind_with (sym h)
+replays_kind content after (e ∷ es) h = replays_kind h.0 after es h.2 ∙ kind_next content e.op h.0 e.reply h.1
 
 -- an object that a log leaves has the kind of its first content
-pub kind_replayed : (kind : Kind) (l : List AnyEntry) (d : Content) → Replays (empty kind) l d → kind_with d ≡ kind
-kind_replayed kind l d h = replays_kind (empty kind) d l h ∙ kind_of_empty kind
+pub kind_replayed : (kind : Kind) (log : List AnyEntry) (after : Content) → Replays (empty kind) log after
+    → kind_with after ≡ kind
+kind_replayed kind log after h = replays_kind (empty kind) after log h ∙ kind_of_empty kind
 
 -- and a log leaves one content
-pub replays_once : (c a b : Content) (l : List AnyEntry) → Replays c l a → Replays c l b → a ≡ b
-replays_once c a b [] h k = sym h ∙ k
-replays_once c a b (e ∷ es) h k =
+pub replays_once : (content after after' : Content) (log : List AnyEntry) → Replays content log after
+    → Replays content log after' → after ≡ after'
+replays_once content after after' [] h k = sym h ∙ k
+replays_once content after after' (e ∷ es) h k =
     let same : ◌≡◌ {A = Option (Content × AnyReply)} (Some (h.0, e.reply)) (Some (k.0, e.reply)) = sym h.1 ∙ k.1 in
     let f : h.0 ≡ k.0 = ap (λ (z : Content × AnyReply). z.0) (same_Some (h.0, e.reply) (k.0, e.reply) same) in
-    replays_once k.0 a b es (subst (λ z. Replays z es a) f h.2) k.2
+    replays_once k.0 after after' es (subst (λ z. Replays z es after) f h.2) k.2

@@ -16,42 +16,61 @@ module _ (kinds : List Kind) (quota : ℕ) where
   S = Sound kinds quota
 
   -- the request in hand is for the object that is held
-  on_object : (w : World) (x r : ℕ) (q : AnyRequest) → w.hand x ≡ Some r → w.stage r ≡ picked q → S w → q.object ≡ x
-  on_object w x r q held is k =
-      let b = k.in_hand x r held in let f : picked q ≡ picked b.0 = sym is ∙ b.1 in let same : q ≡ b.0 = cc in
+  on_object : (world : World) (object row : ℕ) (request : AnyRequest) → world.hand object ≡ Some row
+      → world.stage row ≡ picked request → S world → request.object ≡ object
+  on_object world object row request held is sound =
+      let b = sound.in_hand object row held in
+      let f : picked request ≡ picked b.0 = sym is ∙ b.1 in
+      let same : request ≡ b.0 = cc in
       ap (λ z. z.object) same ∙ b.2
 
-  takes_sound : (s : Step) (w w' : World) (c : ℕ) → c < 32 → Takes kinds quota s w c w' → S w → S w'
-  takes_sound (draw_call x op) w w' c low t k =
-      subst S (sym t.after)
-      (sound_called kinds quota w c
-      (record { object = x; ticket = w.clock; op = op }) low t.was t.calls_left t.on_object t.of_kind refl k)
-  takes_sound draw_return w w' c low t k =
-      subst S (sym t.after) (sound_returned kinds quota w c w.clock t.request t.given low t.was refl k)
-  takes_sound post w w' c low t k =
-      subst S (sym t.after) (sound_staged kinds quota w c (posted t.request)
-      (λ r e. absurd cc) (λ r e. absurd (cc))
-      (ap request_of (sym t.was)) (λ e. absurd (cc)) (λ y. ap (served_now y c) (sym t.was)) k)
-  takes_sound (win x) w w' c low t k = subst S (sym t.after) (sound_held kinds quota w x (Some c) (λ e. absurd (cc)) k)
-  takes_sound (pick r) w w' c low t k =
-      subst S (sym t.after) (sound_picked kinds quota w t.object r c t.request t.was t.for_object t.held t.free k)
-  takes_sound answer w w' c low t k =
-      let x : ℕ = t.object in let r : ℕ = t.row in let q : AnyRequest = t.request in let h = t.in_hand in
-      let on = on_object w x r q h.1 h.2 k in
-      subst S (sym t.after) (sound_served kinds quota w x r c q t.given h.2 on h.0 h.1
-      (t.left, replays_more (empty (kind_at kinds x)) t.content t.left (w.log x) r q t.given h.3 t.serves) k)
-  takes_sound put_back w w' c low t k =
-      let h = t.in_hand in
-      subst S (sym t.after)
-      (sound_put_back kinds quota w t.object t.row c t.request h.2
-      (on_object w t.object t.row t.request h.1 h.2 k) h.0 h.1 k)
-  takes_sound take w w' c low t k =
-      subst S (sym t.after) (sound_staged kinds quota w c (taken t.request t.given)
-      (λ r e. absurd cc) (λ r e. absurd (cc))
-      (ap request_of (sym t.was)) (λ e. absurd (cc)) (λ y. ap (served_now y c) (sym t.was)) k)
-  takes_sound release w w' c low t k = subst S (sym t.after) (sound_held kinds quota w t.object None (λ _. t.free) k)
-  takes_sound end w w' c low t k = subst S (sym t.after) (sound_ended kinds quota w c k)
+  -- the world is sound after each step that a client may take
+  takes_sound : (step : Step) (world world' : World) (client : ℕ) → client < 32
+      → Takes kinds quota step world client world' → S world → S world'
+  takes_sound (draw_call object op) world world' client low took sound =
+      subst S (sym took.after)
+      (sound_called kinds quota world client (record { object = object; ticket = world.clock; op = op }) low took.was
+      took.calls_left took.on_object took.of_kind refl sound)
+  takes_sound draw_return world world' client low took sound =
+      subst S (sym took.after)
+      (sound_returned kinds quota world client world.clock took.request took.given low took.was refl sound)
+  takes_sound post world world' client low took sound =
+      subst S (sym took.after)
+      (sound_staged kinds quota world client (posted took.request) (λ q e. absurd cc) (λ q e. absurd (cc))
+      (ap request_of (sym took.was)) (λ e. absurd (cc)) (λ y. ap (served_now y client) (sym took.was)) sound)
+  takes_sound (win object) world world' client low took sound =
+      subst S (sym took.after) (sound_held kinds quota world object (Some client) (λ e. absurd (cc)) sound)
+  takes_sound (pick row) world world' client low took sound =
+      subst S (sym took.after)
+      (sound_picked kinds quota world took.object row client took.request took.was took.for_object took.held took.free
+      sound)
+  takes_sound answer world world' client low took sound =
+      let object : ℕ = took.object in
+      let row : ℕ = took.row in
+      let request : AnyRequest = took.request in
+      let h = took.in_hand in
+      let on = on_object world object row request h.1 h.2 sound in
+      let more = replays_more (empty (kind_at kinds object)) took.content took.left (world.log object) row request
+      took.given h.3 took.serves in
+      subst S (sym took.after)
+      (sound_served kinds quota world object row client request took.given h.2 on h.0 h.1 (took.left, more) sound)
+  takes_sound put_back world world' client low took sound =
+      let object : ℕ = took.object in
+      let row : ℕ = took.row in
+      let h = took.in_hand in
+      let on = on_object world object row took.request h.1 h.2 sound in
+      subst S (sym took.after) (sound_put_back kinds quota world object row client took.request h.2 on h.0 h.1 sound)
+  takes_sound take world world' client low took sound =
+      subst S (sym took.after)
+      (sound_staged kinds quota world client (taken took.request took.given) (λ q e. absurd cc) (λ q e. absurd (cc))
+      (ap request_of (sym took.was)) (λ e. absurd (cc)) (λ y. ap (served_now y client) (sym took.was)) sound)
+  takes_sound release world world' client low took sound =
+      subst S (sym took.after) (sound_held kinds quota world took.object None (λ _. took.free) sound)
+  takes_sound end world world' client low took sound =
+      subst S (sym took.after) (sound_ended kinds quota world client sound)
 
   -- each step keeps the world sound
-  pub transition_keeps_soundness : (s : Step) (w w' : World) (c : ℕ) → Transition kinds quota s w c w' → S w → S w'
-  transition_keeps_soundness s w w' c m k = takes_sound s w w' c m.0 m.3 k
+  pub transition_keeps_soundness : (step : Step) (world world' : World) (client : ℕ)
+      → Transition kinds quota step world client world' → S world → S world'
+  transition_keeps_soundness step world world' client transition sound =
+      takes_sound step world world' client transition.0 transition.3 sound

@@ -97,7 +97,10 @@ module _ (kinds : List Kind) (quota : ℕ) (journals : ℕ → List AnyEvent) (l
   -- a ticket of the journals is below the greatest number of tickets
   module _ (low : quota < 10001) where
     drawn_low : (c t : ℕ) → In t (map ticket_of (journals c)) → t < max_tickets
-    drawn_low c t i = let l = (drawn_by s.tickets c t i).0 in let few = s.few in omega arith
+    drawn_low c t i =
+        let l = (drawn_by s.tickets c t i).0 in
+        let few = s.few in
+        omega arith
 
     entry_low : (x : ℕ) (e : AnyEntry) → In e (logs x) → e.ticket < max_tickets
     entry_low x e i =

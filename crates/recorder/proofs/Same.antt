@@ -6,10 +6,13 @@ use Rattle.model.specs.Lists.{In}
 use Rattle.model.proofs.Lists.{Pairs, in_filter, in_filter_from}
 
 -- what is in both lists, except for the equal first elements, stands after them
-among_later : {X : Type 0} (f : X → ℕ) (x y z : X) (xs ys : List X) → ((w : X) → In w xs → f x < f w) → x ≡ y → In z xs
-    → In z (y ∷ ys) → In z ys
-among_later f x y z xs ys low same i j = elim j [
-  | inl e ↦ let l = low z i in let k : f z ≡ f x = ap f (e ∙ sym same) in absurd (omega arith)
+among_later : {X : Type 0} (number : X → ℕ) (x y z : X) (later later' : List X)
+    → ((w : X) → In w later → number x < number w) → x ≡ y → In z later → In z (y ∷ later') → In z later'
+among_later number x y z later later' low same i j = elim j [
+  | inl e ↦
+      let l = low z i in
+      let k : number z ≡ number x = ap number (e ∙ sym same) in
+      absurd (omega arith)
   | inr k ↦ k
 ]
 
@@ -23,7 +26,10 @@ same_rising f (x ∷ xs) (y ∷ ys) p q g h =
       | inl e ↦ e
       | inr i ↦ elim (h y (inl refl)) [
         | inl e ↦ sym e
-        | inr j ↦ let a = q.0 x i in let b = p.0 y j in absurd (omega arith)
+        | inr j ↦
+            let a = q.0 x i in
+            let b = p.0 y j in
+            absurd (omega arith)
       ]
     ] in
     let rest : xs ≡ ys = same_rising f xs ys p.1 q.1 (λ z i. among_later f x y z xs ys p.0 first i (g z (inr i)))

@@ -20,9 +20,11 @@ use Rattle.std.specs.FinMap as map
 use Rattle.std.specs.FinSet as set
 use Rattle.events.specs.Events.{HasShape}
 
-shaped : (op : AnyOp) (c d : Content) (q r : AnyReply) → HasShape op q
-    → ◌≡◌ {A = Option (Content × AnyReply)} (Some (c, q)) (Some (d, r)) → HasShape op r
-shaped op c d q r h e = subst (HasShape op) (ap (λ (z : Content × AnyReply). z.1) (same_Some (c, q) (d, r) e)) h
+-- a reply has the shape of the operation's replies, if it is the one in a step that replies with the shape
+shaped : (op : AnyOp) (content content' : Content) (reply reply' : AnyReply) → HasShape op reply
+    → ◌≡◌ {A = Option (Content × AnyReply)} (Some (content, reply)) (Some (content', reply')) → HasShape op reply'
+shaped op content content' reply reply' h e =
+    subst (HasShape op) (ap (λ (z : Content × AnyReply). z.1) (same_Some (content, reply) (content', reply') e)) h
 
 never : (op : AnyOp) (d : Content) (r : AnyReply) → ◌≡◌ {A = Option (Content × AnyReply)} None (Some (d, r))
     → HasShape op r
