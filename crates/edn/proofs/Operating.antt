@@ -20,10 +20,11 @@ abbrev or_next : Option Datum → Bool → Datum → Option Datum
 or_next None b d = cond b (Some d) None
 or_next (Some x) b d = Some x
 
-or_next-cond : (b : Bool) (x : Datum) (o : Option Datum) (c : Bool) (d : Datum)
-    → cond b (Some x) (or_next o c d) ≡ or_next (cond b (Some x) o) c d
-or_next-cond true x o c d = refl
-or_next-cond false x o c d = refl
+-- what is found in an entry, or else in those after it with one more, is found in all of them with one more
+or_next-cond : (b : Bool) (here : Datum) (next : Option Datum) (shown : Bool) (left : Datum)
+    → cond b (Some here) (or_next next shown left) ≡ or_next (cond b (Some here) next) shown left
+or_next-cond true here next shown left = refl
+or_next-cond false here next shown left = refl
 
 value_at-more : (key l : List ℕ) (d : Datum) (before : List (List ℕ × Datum))
     → value_at key (entries_of (before ++ (l, d) ∷ []))
@@ -89,6 +90,7 @@ WithPair v new name value =
     (before : List (List ℕ × Datum)) (d : Datum) (ts : List Token) → HasValues v (entries_of before)
     → token_buffer_tokens value ≡ tokens_of d ++ ts → HasValues new (entries_of (before ++ (name, d) ∷ []))
 
+-- a reader of a map that has put one pair more into its values has the entries after this pair left
 pub walk_goes_on : (es : Entries) (tokens after : List Token) (v new : OperationValues) (name : List ℕ)
     (value : List Piece)
     → tokens ≡ leaf (atom (keyword name)) ∷ token_buffer_tokens value → after ≡ after_one (token_buffer_tokens value)

@@ -138,6 +138,7 @@ pub empties_at : {S : Type 0} (content : S → Content) (objects : List S)
     → slice_get (map content objects) x ≡ Some c → c ≡ empty (kind_with c)
 empties_at content [] all x c at = absurd (cc)
 empties_at content (o ∷ os) all zero c at =
-    let here = all 0 o (omega arith) in let same = same_Some (content o) c at in
+    let here = all 0 o (omega arith) in
+    let same = same_Some (content o) c at in
     subst (λ (z : Content). z ≡ empty (kind_with z)) same here
 empties_at content (o ∷ os) all (suc x) c at = empties_at content os (λ i d low. all (suc i) d (omega arith)) x c at

@@ -44,7 +44,7 @@ start_sound kinds quota n = record {
     tickets = record {
       rising = λ c. rw (no_request (nat_lt c n)) (λ i j d l m. absurd (omega arith));
       below = λ c. rw (no_request (nat_lt c n)) (All-nil (λ t. t < 0));
-      apart = λ c d t h. let h' = rw (no_request (nat_lt c n)) at h in let l = h'.1 in absurd (omega arith);
+      apart = λ c d t h. let h' = rw (no_request (nat_lt c n)) at h in absurd (omega (arith, h'.1));
       each = λ t l. absurd (omega arith);
     };
     on_objects = λ c. rw (no_request (nat_lt c n)) (All-nil (IsAmong kinds));

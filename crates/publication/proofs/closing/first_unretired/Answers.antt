@@ -11,7 +11,9 @@ use Rattle.publication.proofs.closing.first_unretired.Goals as goal
 
 pub returns-then-not-sees_end-clause-found : goal.returns-then-not-sees_end-clause-found
 returns-then-not-sees_end-clause-found g c =
-    let i = c.loop-client.invariant in let low = c.loop-client-test.true in let count = c.clients-client-end.ensures in
+    let i = c.loop-client.invariant in
+    let low = c.loop-client-test.true in
+    let count = c.clients-client-end.ensures in
     there_still c.args.desk.now c.loop-client.client c.args.last.now c.loop-client.last c.sees_end.new.last
     (omega arith)
     (λ e. c.if-client-number.true (e ∙ (ap (λ k. k.knows.number) i.2 ∙ sym c.number-number.ensures.number)))

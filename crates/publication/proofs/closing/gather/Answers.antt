@@ -16,7 +16,9 @@ use Rattle.publication.proofs.closing.gather.Goals.{After-close_with-left}
 left_here : (g : Over) (c : After-close_with-left g)
     → Leavings g.S.SeqObject.op_in g.S.SeqObject.reply_in c.args.desk.id.kinds c.args.desk.clients c.args.desk.id.quota
     c.args.last.knows (values_of c.close_with-left.result)
-left_here g c = let d = c.desk.invariant.0 in let k = c.last.invariant.0 in
+left_here g c =
+    let d = c.desk.invariant.0 in
+    let k = c.last.invariant.0 in
     left_by g.S.SeqObject.content g.S.SeqObject.op_in g.S.SeqObject.reply_in c.desk.inside.table.shared.key
     c.args.desk c.args.last
     c.last.inside.seat.id c.last.inside.seat.me.0 (slots_items c.close_with-left.result.words)
@@ -28,14 +30,20 @@ left_here g c = let d = c.desk.invariant.0 in let k = c.last.invariant.0 in
 
 pub take_logs-requires-clause-slots : goal.take_logs-requires-clause-slots
 take_logs-requires-clause-slots g c lfts within =
-    let d = c.desk.invariant.0 in let e = c.close_with-left.ensures in let n = c.len-objects.ensures in
-    let deep = d.1 in let slots = e.counts.1 in let few = d.5 in
+    let d = c.desk.invariant.0 in
+    let e = c.close_with-left.ensures in
+    let n = c.len-objects.ensures in
+    let deep = d.1 in
+    let slots = e.counts.1 in
+    let few = d.5 in
     let count : length c.desk.inside.kinds.items ≡ vec_len c.desk.inside.kinds = search rules in
     ((omega arith, (λ k l h. e.values.1 k l (omega arith)), λ k h. absurd (omega arith)), omega arith)
 
 pub take_logs-requires-clause-cores : goal.take_logs-requires-clause-cores
 take_logs-requires-clause-cores g c lfts within =
-    let d = c.desk.invariant.0 in let k = c.last.invariant.0 in let e = c.close_with-left.ensures in
+    let d = c.desk.invariant.0 in
+    let k = c.last.invariant.0 in
+    let e = c.close_with-left.ensures in
     let left = left_here g (goal.at.take_logs-requires-clause-cores g c).After-close_with-left in
     let n = c.len-objects.ensures in
     let count : length c.desk.inside.kinds.items ≡ vec_len c.desk.inside.kinds = search rules in
@@ -45,15 +53,21 @@ take_logs-requires-clause-cores g c lfts within =
 
 pub take_all_journals-requires-clause-slots : goal.take_all_journals-requires-clause-slots
 take_all_journals-requires-clause-slots g c lfts within =
-    let d = c.desk.invariant.0 in let k = c.last.invariant.0 in let e = c.close_with-left.ensures in
+    let d = c.desk.invariant.0 in
+    let k = c.last.invariant.0 in
+    let e = c.close_with-left.ensures in
     let left = left_here g (goal.at.take_all_journals-requires-clause-slots g c).After-close_with-left in
-    let low = left.number_low in let own : c.last.inside.number ≡ c.args.last.knows.number = sym k.agrees.number_is
-    ∙ ap (λ k. k.knows.number) c.last.view_is in let clients = ap (λ s. s.clients) c.desk.view_is in
+    let low = left.number_low in
+    let own : c.last.inside.number ≡ c.args.last.knows.number = sym k.agrees.number_is
+    ∙ ap (λ k. k.knows.number) c.last.view_is in
+    let clients = ap (λ s. s.clients) c.desk.view_is in
     (c.drop_slots.ensures.0, omega arith, d.6)
 
 pub take_all_journals-requires-clause-present : goal.take_all_journals-requires-clause-present
 take_all_journals-requires-clause-present g c lfts within =
-    let d = c.desk.invariant.0 in let k = c.last.invariant.0 in let e = c.close_with-left.ensures in
+    let d = c.desk.invariant.0 in
+    let k = c.last.invariant.0 in
+    let e = c.close_with-left.ensures in
     let left = left_here g (goal.at.take_all_journals-requires-clause-present g c).After-close_with-left in
     let own : c.last.inside.number ≡ c.args.last.knows.number =
     sym k.agrees.number_is ∙ ap (λ k. k.knows.number) c.last.view_is in
@@ -62,7 +76,10 @@ take_all_journals-requires-clause-present g c lfts within =
     (let b = left.journals n (omega arith) (λ f. other (f ∙ sym own)) in (b.0, b.1))
 
 pub returns : goal.returns
-returns g c = let d = c.desk.invariant.0 in let k = c.last.invariant.0 in let e = c.close_with-left.ensures in
+returns g c =
+    let d = c.desk.invariant.0 in
+    let k = c.last.invariant.0 in
+    let e = c.close_with-left.ensures in
     let left = left_here g (goal.at.returns g c).After-close_with-left in
     let own : c.last.inside.number ≡ c.args.last.knows.number =
     sym k.agrees.number_is ∙ ap (λ k. k.knows.number) c.last.view_is in
@@ -94,7 +111,9 @@ returns g c = let d = c.desk.invariant.0 in let k = c.last.invariant.0 in let e 
 
 pub new-requires-clause-kept : goal.new-requires-clause-kept
 new-requires-clause-kept g c lfts within =
-    let d = c.desk.invariant.0 in let k = c.last.invariant.0 in let e = c.close_with-left.ensures in
+    let d = c.desk.invariant.0 in
+    let k = c.last.invariant.0 in
+    let e = c.close_with-left.ensures in
     let left = left_here g (goal.at.new-requires-clause-kept g c).After-close_with-left in
     let own : c.last.inside.number ≡ c.args.last.knows.number =
     sym k.agrees.number_is ∙ ap (λ k. k.knows.number) c.last.view_is in

@@ -13,8 +13,13 @@ take_journal-requires-clause-journal g c lfts within = let i = c.loop-client.inv
 
 pub loop-client-preserved : goal.loop-client-preserved
 loop-client-preserved g c =
-    let i = c.loop-client.invariant in let p = c.push_reserved.ensures in let n = p.len in let count = i.2 in let t =
-    c.take_journal.ensures.slots.0 in let near = c.loop-client.auto.client in let long = i.4.0 in
+    let i = c.loop-client.invariant in
+    let p = c.push_reserved.ensures in
+    let n = p.len in
+    let count = i.2 in
+    let t = c.take_journal.ensures.slots.0 in
+    let near = c.loop-client.auto.client in
+    let long = i.4.0 in
     let e = items_of_each-push c.loop-client.journals.items c.push_reserved.new.self.items c.take_journal.result
     p.items in
     let journal = subst (λ xs. IsJournalOf xs c.loop-client.client c.take_journal.result.items) i.1
@@ -36,8 +41,11 @@ loop-client-preserved g c =
     )
 
 pub returns-clause-journals : goal.returns-clause-journals
-returns-clause-journals g c = let i = c.loop-client.invariant in let past = c.loop-client-test.false in let end =
-    c.loop-client.auto.client-end c.requires.slots.1 in let same : c.loop-client.client ≡ c.args.to = omega arith in (
+returns-clause-journals g c =
+    let i = c.loop-client.invariant in
+    let past = c.loop-client-test.false in
+    let end = c.loop-client.auto.client-end c.requires.slots.1 in
+    let same : c.loop-client.client ≡ c.args.to = omega arith in (
       subst (λ n. AreJournals c.args.from n (values_of c.args.left.now) (items_of_each c.loop-client.journals.items))
           same
           i.4,

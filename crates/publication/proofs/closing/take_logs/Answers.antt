@@ -13,7 +13,10 @@ take_log-requires-clause-core g c lfts within =
 
 pub loop-x-preserved : goal.loop-x-preserved
 loop-x-preserved g c =
-    let i = c.loop-x.invariant in let p = c.push_reserved.ensures in let n = p.len in let count = i.2 in
+    let i = c.loop-x.invariant in
+    let p = c.push_reserved.ensures in
+    let n = p.len in
+    let count = i.2 in
     let e = items_of_each-push c.loop-x.logs.items c.push_reserved.new.self.items c.take_log.result p.items in
     let log = subst (λ xs. IsLogOf xs c.loop-x.x c.take_log.result.items) i.1 c.take_log.ensures.log in (
       c.take_log.ensures.slots.0,
@@ -31,6 +34,8 @@ loop-x-preserved g c =
 
 pub returns-clause-logs : goal.returns-clause-logs
 returns-clause-logs g c =
-    let i = c.loop-x.invariant in let past = c.loop-x-test.false in let end = c.loop-x.auto.x-end in
+    let i = c.loop-x.invariant in
+    let past = c.loop-x-test.false in
+    let end = c.loop-x.auto.x-end in
     let same : c.loop-x.x ≡ c.args.objects = omega arith in
     subst (λ n. AreLogs n (values_of c.args.left.now) (items_of_each c.loop-x.logs.items)) same i.4

@@ -7,14 +7,21 @@ use Rattle.publication.proofs.Growing.{cores_longer, nothing_more}
 use Rattle.publication.proofs.new_desk.all_slots.Goals as goal
 
 pub loop-slots-init : goal.loop-slots-init
-loop-slots-init g c = let e = c.in_ok-slots.ensures in let n = e.0 in let few = c.requires.0 in
+loop-slots-init g c =
+    let e = c.in_ok-slots.ensures in
+    let n = e.0 in
+    let few = c.requires.0 in
     (omega arith, e.1, search rules, omega arith, e.2, λ i l h. absurd (omega arith))
 
 pub loop-slots-preserved : goal.loop-slots-preserved
 loop-slots-preserved g c =
-    let i = c.loop-slots.invariant in let p = c.push_reserved.ensures in let n = p.len in
+    let i = c.loop-slots.invariant in
+    let p = c.push_reserved.ensures in
+    let n = p.len in
     let room = c.loop-slots-test.true in
-    let is = c.len.ensures in let few = i.3 in let same = i.2 in
+    let is = c.len.ensures in
+    let few = i.3 in
+    let same = i.2 in
     let count : length c.loop-slots.slots.items + 1 ≡ c.push_reserved.new.self.len = omega arith in (
       omega arith,
       search rules,
@@ -28,6 +35,9 @@ loop-slots-preserved g c =
 
 pub returns : goal.returns
 returns g c =
-    let i = c.loop-slots.invariant in let full = c.loop-slots-test.false in let is = c.len.ensures in let top = i.0 in
+    let i = c.loop-slots.invariant in
+    let full = c.loop-slots-test.false in
+    let is = c.len.ensures in
+    let top = i.0 in
     let same = i.2 in
     record { long = omega arith; cores = i.4; others = λ j l h. i.5 j l (omega arith) }

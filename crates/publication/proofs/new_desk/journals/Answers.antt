@@ -5,8 +5,12 @@ use Rattle.publication.proofs.new_desk.journals.Goals as goal
 
 pub loop-preserved : goal.loop-preserved
 loop-preserved g c =
-    let i = c.loop.invariant in let p = c.push_reserved.ensures in let n = p.len in let m = i.0 in
-    let e = c.in_ok-events.ensures in let room = e.exact in (
+    let i = c.loop.invariant in
+    let p = c.push_reserved.ensures in
+    let n = p.len in
+    let m = i.0 in
+    let e = c.in_ok-events.ensures in
+    let room = e.exact in (
       omega arith,
       search rules,
       subst (All (HasRoom c.args.quota)) (sym p.items)

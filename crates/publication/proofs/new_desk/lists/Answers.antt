@@ -7,16 +7,26 @@ use Rattle.publication.proofs.new_desk.lists.Goals as goal
 
 pub new_with_places-requires-clause-room : goal.new_with_places-requires-clause-room
 new_with_places-requires-clause-room c =
-    let low = c.loop-alloc-test.true in let n = c.len.ensures in let long = c.loop-alloc.rosters.ok.0 in
+    let low = c.loop-alloc-test.true in
+    let n = c.len.ensures in
+    let long = c.loop-alloc.rosters.ok.0 in
     room_left _ _ c.loop-alloc.owners.items (omega arith) c.loop-alloc.invariant.5
 
 pub loop-alloc-preserved : goal.loop-alloc-preserved
 loop-alloc-preserved c =
-    let i = c.loop-alloc.invariant in let p = c.push_reserved.ensures in
+    let i = c.loop-alloc.invariant in
+    let p = c.push_reserved.ensures in
     let q = c.push_reserved-in-loop-alloc.ensures in
-    let low = c.loop-alloc-test.true in let n = c.len.ensures in
-    let len = p.len in let cap = p.capacity in let len' = q.len in let cap' = q.capacity in let room = i.1 in
-    let room' = i.3 in let both = i.2 in let d = c.in_ok-roster.ensures in (
+    let low = c.loop-alloc-test.true in
+    let n = c.len.ensures in
+    let len = p.len in
+    let cap = p.capacity in
+    let len' = q.len in
+    let cap' = q.capacity in
+    let room = i.1 in
+    let room' = i.3 in
+    let both = i.2 in
+    let d = c.in_ok-roster.ensures in (
       omega arith,
       omega arith,
       omega arith,

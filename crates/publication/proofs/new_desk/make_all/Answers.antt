@@ -6,17 +6,24 @@ use Rattle.std.proofs.lemmas.List.Elements.{All-pop}
 use Rattle.publication.specs.Handles.{begun, fresh_places}
 use Rattle.publication.specs.Making.{HasRoom, HasPlaces, AreDealt}
 use Rattle.publication.proofs.Dealing.{first_gone}
-use Rattle.publication.proofs.Growing.{one_more}
+use Rattle.publication.proofs.Growing.{numbered_more}
 use Rattle.publication.proofs.new_desk.make_all.Goals as goal
 
 pub loop-journal-preserved : goal.loop-journal-preserved
-loop-journal-preserved g c = let i = c.loop-journal.invariant in let p = c.push_reserved.ensures in let popped =
+loop-journal-preserved g c =
+    let i = c.loop-journal.invariant in
+    let p = c.push_reserved.ensures in
+    let popped =
     All-pop (HasRoom c.args.quota) c.loop-journal.journals.items c.pop.new.self.items c.pop.result
     c.pop.ensures.items i.3 in
     let long : length c.push_reserved.new.self.items ≡ length c.loop-journal.made.items + 1 =
-    ap length p.items ∙ length-append c.loop-journal.made.items (c.new_client.result ∷ []) in let n = p.len in
-    let count = i.2 in let one =
-    c.in-Some.ensures.cases in let m = i.5 in let made = i.7 in let lists = c.args.table.now.shared.key.lists.items in
+    ap length p.items ∙ length-append c.loop-journal.made.items (c.new_client.result ∷ []) in
+    let n = p.len in
+    let count = i.2 in
+    let one = c.in-Some.ensures.cases in
+    let m = i.5 in
+    let made = i.7 in
+    let lists = c.args.table.now.shared.key.lists.items in
     let owners = first_gone c.loop-journal.number
     (vec_len c.pop.new.self) lists c.loop-journal.owners.items c.remove.new.self.items
     c.remove.ensures.items (subst (λ z. AreDealt c.loop-journal.number z lists c.loop-journal.owners.items)
@@ -29,7 +36,7 @@ loop-journal-preserved g c = let i = c.loop-journal.invariant in let p = c.push_
       omega arith,
       search rules,
       omega arith,
-      one_more (begun (record {
+      numbered_more (begun (record {
         table = c.args.table.now.shared.table_id;
         quota = c.args.quota;
         kinds = c.args.table.now.shared.key.kinds.items;
@@ -45,14 +52,16 @@ loop-journal-preserved g c = let i = c.loop-journal.invariant in let p = c.push_
 
 pub remove-requires : goal.remove-requires
 remove-requires g c =
-    let i = c.loop-journal.invariant in let count = i.4.0 in let long = c.loop-journal.owners.ok.0 in
-    let one = c.in-Some.ensures.cases in omega arith
+    let i = c.loop-journal.invariant in
+    omega (arith, i.4.0, c.loop-journal.owners.ok.0, c.in-Some.ensures.cases)
 
 pub invariant_of-places : goal.invariant_of-places
-invariant_of-places g c = let i = c.loop-journal.invariant in let count = i.4.0 in let one = c.in-Some.ensures.cases in
+invariant_of-places g c =
+    let i = c.loop-journal.invariant in
+    let count = i.4.0 in
+    let one = c.in-Some.ensures.cases in
     let k = subst (HasPlaces _ _) (sym c.remove.ensures.value) (i.4.1 0 c.remove.result (omega arith)) in
-    let n = k.1 in let long =
-    c.remove.result.ok.0 in let lists = c.requires.owners.1 in omega arith
+    omega (arith, k.1, c.remove.result.ok.0, c.requires.owners.1)
 
 pub new_client-requires-clause-journal : goal.new_client-requires-clause-journal
 new_client-requires-clause-journal g c = λ κs bounds. let i = c.loop-journal.invariant in
@@ -62,7 +71,9 @@ new_client-requires-clause-journal g c = λ κs bounds. let i = c.loop-journal.i
     c.pop.ensures.items i.3).1)
 
 pub new_client-requires-clause-places : goal.new_client-requires-clause-places
-new_client-requires-clause-places g c = λ κs bounds. let i = c.loop-journal.invariant in let count = i.4.0 in
+new_client-requires-clause-places g c = λ κs bounds.
+    let i = c.loop-journal.invariant in
+    let count = i.4.0 in
     let one = c.in-Some.ensures.cases in
     let k = subst (HasPlaces _ _) (sym c.remove.ensures.value) (i.4.1 0 c.remove.result (omega arith)) in (
       c.in_ok-member.ensures.2

@@ -17,7 +17,9 @@ serve-answer-requires-after_bounds g c =
 
 pub store-requires : goal.store-requires
 store-requires g c =
-    let h = c.self.invariant.0 in let low = h.row_low in let wide = c.desk.invariant.0.0 in
+    let h = c.self.invariant.0 in
+    let low = h.row_low in
+    let wide = c.desk.invariant.0.0 in
     let e = c.serve-answer.ensures in
     let r = answer_ready _ _ _ _ _ _ _ _ c.serve-answer.new.core h c.exchange.ensures.3 e.log e.content in (
       search rules,
@@ -26,7 +28,9 @@ store-requires g c =
     )
 
 pub invariant_of-result : goal.invariant_of-result
-invariant_of-result g c = let h = c.self.invariant.0 in let e = c.serve-answer.ensures in
+invariant_of-result g c =
+    let h = c.self.invariant.0 in
+    let e = c.serve-answer.ensures in
     let r = answer_ready _ _ _ _ _ _ _ _ c.serve-answer.new.core h c.exchange.ensures.3 e.log e.content in
     let t = c.store.ensures.2 _ _ _ _ _ _ _ r.1 r.2 in (
       answered_ok _ _ _ _ _ _ _ _ c.serve-answer.new.core h e.state.1 e.content e.log c.exchange.ensures.3 t,
@@ -34,7 +38,9 @@ invariant_of-result g c = let h = c.self.invariant.0 in let e = c.serve-answer.e
     )
 
 pub returns-clause-answered : goal.returns-clause-answered
-returns-clause-answered g c = let h = c.self.invariant.0 in let e = c.serve-answer.ensures in
+returns-clause-answered g c =
+    let h = c.self.invariant.0 in
+    let e = c.serve-answer.ensures in
     let r = answer_ready _ _ _ _ _ _ _ _ c.serve-answer.new.core h c.exchange.ensures.3 e.log e.content in
     let fits = core_grows g.S.SeqObject.content g.S.SeqObject.op_in g.S.SeqObject.reply_in _ _ _ c.self.inside.core
     c.serve-answer.new.core
@@ -43,7 +49,9 @@ returns-clause-answered g c = let h = c.self.invariant.0 in let e = c.serve-answ
     (c.store.ensures.2 _ _ _ _ _ _ _ r.1 r.2) e.log (_, fits.1)
 
 pub returns-clause-desk : goal.returns-clause-desk
-returns-clause-desk g c = let h = c.self.invariant.0 in let e = c.serve-answer.ensures in
+returns-clause-desk g c =
+    let h = c.self.invariant.0 in
+    let e = c.serve-answer.ensures in
     let r = answer_ready _ _ _ _ _ _ _ _ c.serve-answer.new.core h c.exchange.ensures.3 e.log e.content in
     same_desk (c.store.ensures.0 ∙ c.exchange.ensures.0) refl
     (ap (λ m. m.0.kinds) (c.store.ensures.2 _ _ _ _ _ _ _ r.1 r.2) ∙ ap (λ m. m.0.kinds) c.exchange.ensures.3) refl

@@ -8,7 +8,10 @@ use Rattle.publication.proofs.CallClauses.{is_put_back}
 use Rattle.publication.proofs.client.Hand.put_back.Goals as goal
 
 pub store-requires : goal.store-requires
-store-requires g c = let h = c.self.invariant.0 in let low = h.row_low in let wide = c.desk.invariant.0.0 in
+store-requires g c =
+    let h = c.self.invariant.0 in
+    let low = h.row_low in
+    let wide = c.desk.invariant.0.0 in
     let r = back_ready _ _ _ _ _ _ _ _ h c.exchange.ensures.3 in (
       search rules,
       omega arith,
@@ -16,8 +19,10 @@ store-requires g c = let h = c.self.invariant.0 in let low = h.row_low in let wi
     )
 
 pub invariant_of-result : goal.invariant_of-result
-invariant_of-result g c = let h = c.self.invariant.0 in
-    let r = back_ready _ _ _ _ _ _ _ _ h c.exchange.ensures.3 in let t = c.store.ensures.2 _ _ _ _ r.1 in (
+invariant_of-result g c =
+    let h = c.self.invariant.0 in
+    let r = back_ready _ _ _ _ _ _ _ _ h c.exchange.ensures.3 in
+    let t = c.store.ensures.2 _ _ _ _ r.1 in (
       back_ok _ _ _ _ _ _ _ _ h c.exchange.ensures.3 t,
       own_still _ _ _ _ (ap (λ m. m.0.lists) t ∙ ap (λ m. m.0.lists) c.exchange.ensures.3) c.self.invariant.1,
     )

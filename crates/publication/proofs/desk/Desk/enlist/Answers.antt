@@ -8,7 +8,8 @@ use Rattle.publication.proofs.desk.Desk.enlist.Goals as goal
 
 pub enlist-requires : goal.enlist-requires
 enlist-requires g c =
-    let few = c.self.invariant.0.5 in let low : c.args.object < length c.self.inside.kinds.items = search rules in
+    let few = c.self.invariant.0.5 in
+    let low : c.args.object < length c.self.inside.kinds.items = search rules in
     omega arith
 
 pub invariant_of-client : goal.invariant_of-client
@@ -19,7 +20,9 @@ invariant_of-client g c = let k = c.client.invariant in
     (k.0, still_own _ c.args.object c.enlist.result _ _ k.1)
 
 pub returns-clause-tried : goal.returns-clause-tried
-returns-clause-tried g c = let m = c.client.inside in let e = c.enlist.ensures in
+returns-clause-tried g c =
+    let m = c.client.inside in
+    let e = c.enlist.ensures in
     let lists = ap (λ z. map (λ (p : PlaceSeen). p.roster) z.places) e
     ∙ same_rosters c.args.object c.enlist.result m.member.places in
     (λ i. record {
@@ -30,7 +33,8 @@ returns-clause-tried g c = let m = c.client.inside in let e = c.enlist.ensures i
 
 pub returns-clause-own : goal.returns-clause-own
 returns-clause-own g c =
-    let few = c.self.invariant.0.5 in let low : c.args.object < length c.self.inside.kinds.items = search rules in
+    let few = c.self.invariant.0.5 in
+    let low : c.args.object < length c.self.inside.kinds.items = search rules in
     let k = c.client.invariant in
     let p = own_place _ c.args.object _ _ (omega arith) k.1 in
     subst (λ (z : Known). HasPlaceAt z c.args.object) c.client.view_is (p.0, p.1, p.2 ∙ sym k.0.agrees.number_is, p.3)

@@ -26,9 +26,12 @@ join_seat-requires g c =
 
 pub load-requires : goal.load-requires
 load-requires g c =
-    let d = c.self.invariant.0 in let wide = d.0 in let few = d.5 in
+    let d = c.self.invariant.0 in
+    let wide = d.0 in
+    let few = d.5 in
     let low : c.args.object < length c.self.inside.kinds.items = search rules in
-    let e = c.join_seat.ensures.2 in let k = c.one.invariant.0.agrees in (
+    let e = c.join_seat.ensures.2 in
+    let k = c.one.invariant.0.agrees in (
       search rules,
       omega arith,
       learn_keeps_rule _ _ _ _ _ _ _ _ _ _ (ap (λ z. z.0.role) e ∙ k.client_is) (omega arith)
@@ -51,10 +54,13 @@ join_seat-requires-2 g c =
 
 pub load-requires-2 : goal.load-requires-2
 load-requires-2 g c =
-    let d = c.self.invariant.0 in let wide = d.0 in let few = d.5 in
-    let low : c.args.object < length c.self.inside.kinds.items =
-    search rules in let low' : c.args.object < 16 = omega arith in
-    let t = c.load.ensures.2 in let k = c.other.invariant.0.agrees in
+    let d = c.self.invariant.0 in
+    let wide = d.0 in
+    let few = d.5 in
+    let low : c.args.object < length c.self.inside.kinds.items = search rules in
+    let low' : c.args.object < 16 = omega arith in
+    let t = c.load.ensures.2 in
+    let k = c.other.invariant.0.agrees in
     let received = ap (λ z. z.0) c.join_seat.ensures.2
     ∙ ap (λ z. after_message c.one.inside.seat.me.0 z.0) c.split_seat-message.ensures.4 in
     let back = ap (λ z. z.0) c.join_seat-2.ensures.2
@@ -72,10 +78,12 @@ load-requires-2 g c =
 
 pub invariant_of-result : goal.invariant_of-result
 invariant_of-result g c =
-    let d = c.self.invariant.0 in let few = d.5 in
+    let d = c.self.invariant.0 in
+    let few = d.5 in
     let low : c.args.object < length c.self.inside.kinds.items = search rules in
     let low' : c.args.object < 16 = omega arith in
-    let x : ℕ = c.args.object in let t = c.load.ensures.2 in
+    let x : ℕ = c.args.object in
+    let t = c.load.ensures.2 in
     let first = c.split_seat-message-2.ensures.2
     ∙ (t.1 ∙ ap (λ z. (after_meet x t.0 z.0, z.1)) c.join_seat.ensures.2) in (
       met_ok g.S.SeqObject.op_in g.S.SeqObject.reply_in _ _ _ _ _ x t.0 c.split_seat-message.result.me.0.seen
@@ -87,10 +95,12 @@ invariant_of-result g c =
 
 pub invariant_of-result-2 : goal.invariant_of-result-2
 invariant_of-result-2 g c =
-    let d = c.self.invariant.0 in let few = d.5 in
+    let d = c.self.invariant.0 in
+    let few = d.5 in
     let low : c.args.object < length c.self.inside.kinds.items = search rules in
     let low' : c.args.object < 16 = omega arith in
-    let x : ℕ = c.args.object in let t = c.load.ensures.2 in
+    let x : ℕ = c.args.object in
+    let t = c.load.ensures.2 in
     let received = ap (λ z. z.0) c.join_seat.ensures.2
     ∙ ap (λ z. after_message c.one.inside.seat.me.0 z.0) c.split_seat-message.ensures.4 in
     let back = ap (λ z. z.0) c.join_seat-2.ensures.2
@@ -99,7 +109,8 @@ invariant_of-result-2 g c =
     (ap (λ z. z.0) t.1) t.5 back in
     let whole = c.join_seat-2.ensures.2
     ∙ ap (λ z. (after_message z.0 c.split_seat-message-2.result.me.0, z.1)) c.split_seat-message.ensures.2 in
-    let u = c.load-2.ensures.2 in let second = u.0 ∙ (λ i. (after_meet x (is i) (whole i).0, (whole i).1)) in (
+    let u = c.load-2.ensures.2 in
+    let second = u.0 ∙ (λ i. (after_meet x (is i) (whole i).0, (whole i).1)) in (
       met_ok g.S.SeqObject.op_in g.S.SeqObject.reply_in _ _ _ _ _ x t.0 c.split_seat-message-2.result.me.0.seen
           c.other.inside.seat.me _ c.other.invariant.0 low'
           (subst (λ l. IsLegalLog (kind_at c.other.inside.seat.me.0.kinds x) l)
@@ -113,11 +124,14 @@ invariant_of-result-2 g c =
 
 pub returns-clause-met : goal.returns-clause-met
 returns-clause-met g c =
-    let wide = c.one.invariant.0.agrees.wide in let wide' = c.other.invariant.0.agrees.wide in
+    let wide = c.one.invariant.0.agrees.wide in
+    let wide' = c.other.invariant.0.agrees.wide in
     let d = c.self.invariant.0 in
-    let few = d.5 in let low : c.args.object < length c.self.inside.kinds.items = search rules in
+    let few = d.5 in
+    let low : c.args.object < length c.self.inside.kinds.items = search rules in
     let low' : c.args.object < 16 = omega arith in
-    let x : ℕ = c.args.object in let t = c.load.ensures.2 in
+    let x : ℕ = c.args.object in
+    let t = c.load.ensures.2 in
     let first = c.split_seat-message-2.ensures.2
     ∙ (t.1 ∙ ap (λ z. (after_meet x t.0 z.0, z.1)) c.join_seat.ensures.2) in
     let received = ap (λ z. z.0) c.join_seat.ensures.2
@@ -128,7 +142,8 @@ returns-clause-met g c =
     (ap (λ z. z.0) t.1) t.5 back in
     let whole = c.join_seat-2.ensures.2
     ∙ ap (λ z. (after_message z.0 c.split_seat-message-2.result.me.0, z.1)) c.split_seat-message.ensures.2 in
-    let u = c.load-2.ensures.2 in let second = u.0 ∙ (λ i. (after_meet x (is i) (whole i).0, (whole i).1)) in
+    let u = c.load-2.ensures.2 in
+    let second = u.0 ∙ (λ i. (after_meet x (is i) (whole i).0, (whole i).1)) in
     let there = begins_there x c.one.inside.seat.me.0 c.other.inside.seat.me.0 _ c.join_seat-2.new.seat.me.0
     t.0 received (ap (λ z. z.seen) back) t.4 in
     met x c.args.one c.args.other _ _ _ _ c.one.inside.seat.me.0 c.other.inside.seat.me.0 _ _ t.0

@@ -21,7 +21,8 @@ look_and_exchange-found-requires-clause-look g c =
 
 pub look_and_exchange-found-requires-clause-exchange : goal.look_and_exchange-found-requires-clause-exchange
 look_and_exchange-found-requires-clause-exchange g c =
-    let k = c.client.invariant.0 in let low = k.agrees.number_low in
+    let k = c.client.invariant.0 in
+    let low = k.agrees.number_low in
     let o = (outstanding (sym c.is_outstanding.ensures ∙ c.if-not-is_outstanding.false) k).1 in
     take_keeps_rule _ _ _ _ _ _ _ _ _ _ o.0 k.agrees.client_is k.agrees.number_is o.1 k.free o.2 low
 
@@ -68,10 +69,12 @@ exchange-requires g c =
 pub fetch_add-ticket-requires : goal.fetch_add-ticket-requires
 fetch_add-ticket-requires g c =
     let own = outstanding (sym c.is_outstanding.ensures ∙ c.if-not-is_outstanding.false) c.client.invariant.0 in
-    let k = own.0 in let o = own.1 in
+    let k = own.0 in
+    let o = own.1 in
     let t = (c.look_and_exchange-found.ensures.tried c.client.inside.number o.0 k.agrees.number_is refl o.1).0
     c.if-found-ne-ANSWERED.false in
-    let wide = c.self.invariant.0.0 in let took = ap (λ z. z.0) c.exchange.ensures.3 ∙ ap (λ z. z.0) t.2 in (
+    let wide = c.self.invariant.0.0 in
+    let took = ap (λ z. z.0) c.exchange.ensures.3 ∙ ap (λ z. z.0) t.2 in (
       search rules,
       omega arith,
       return_keeps_rule _ _ _ _ _ _ _ _ _ _ _ (ap (λ z. z.role) took ∙ k.agrees.client_is) (ap (λ z. z.own) took)
@@ -81,7 +84,8 @@ fetch_add-ticket-requires g c =
 pub note_returned-requires : goal.note_returned-requires
 note_returned-requires g c =
     let own = outstanding (sym c.is_outstanding.ensures ∙ c.if-not-is_outstanding.false) c.client.invariant.0 in
-    let k = own.0 in let o = own.1 in
+    let k = own.0 in
+    let o = own.1 in
     let t = (c.look_and_exchange-found.ensures.tried c.client.inside.number o.0 k.agrees.number_is refl o.1).0
     c.if-found-ne-ANSWERED.false in
     record { room = room_to_return k.agrees o.1 }
@@ -89,7 +93,8 @@ note_returned-requires g c =
 pub invariant_of-client-in-Answer : goal.invariant_of-client-in-Answer
 invariant_of-client-in-Answer g c =
     let own = outstanding (sym c.is_outstanding.ensures ∙ c.if-not-is_outstanding.false) c.client.invariant.0 in
-    let k = own.0 in let o = own.1 in
+    let k = own.0 in
+    let o = own.1 in
     let t = (c.look_and_exchange-found.ensures.tried c.client.inside.number o.0 k.agrees.number_is refl o.1).0
     c.if-found-ne-ANSWERED.false in
     let f = (c.fetch_add-ticket.ensures.2 _ _ (ap (λ z. z.0.own) c.exchange.ensures.3 ∙ ap (λ z. z.0.own) t.2)).0 in
@@ -107,7 +112,8 @@ invariant_of-client-in-Answer g c =
 pub returns-clause-polled : goal.returns-clause-polled
 returns-clause-polled g c =
     let own = outstanding (sym c.is_outstanding.ensures ∙ c.if-not-is_outstanding.false) c.client.invariant.0 in
-    let k = own.0 in let o = own.1 in
+    let k = own.0 in
+    let o = own.1 in
     let t = (c.look_and_exchange-found.ensures.tried c.client.inside.number o.0 k.agrees.number_is refl o.1).0
     c.if-found-ne-ANSWERED.false in
     let f = c.fetch_add-ticket.ensures.2 _ _ (ap (λ z. z.0.own) c.exchange.ensures.3 ∙ ap (λ z. z.0.own) t.2) in
@@ -121,7 +127,8 @@ returns-clause-polled g c =
 pub returns-clause-desk : goal.returns-clause-desk
 returns-clause-desk g c =
     let own = outstanding (sym c.is_outstanding.ensures ∙ c.if-not-is_outstanding.false) c.client.invariant.0 in
-    let k = own.0 in let o = own.1 in
+    let k = own.0 in
+    let o = own.1 in
     let t = (c.look_and_exchange-found.ensures.tried c.client.inside.number o.0 k.agrees.number_is refl o.1).0
     c.if-found-ne-ANSWERED.false in
     let f = c.fetch_add-ticket.ensures.2 _ _ (ap (λ z. z.0.own) c.exchange.ensures.3 ∙ ap (λ z. z.0.own) t.2) in

@@ -30,9 +30,12 @@ calls_left g c = subst (λ (z : Known). calls_made z.knows.done (own_request z.k
     (sym c.client.view_is) c.in_default.ensures.may.1
 
 pub fetch_add-ticket-requires : goal.fetch_add-ticket-requires
-fetch_add-ticket-requires g c = let k = before g (goal.at.fetch_add-ticket-requires g c).After-exchange in
+fetch_add-ticket-requires g c =
+    let k = before g (goal.at.fetch_add-ticket-requires g c).After-exchange in
     let is = own_idle _ k.agrees.at_rest (sym k.agrees.outstanding_is) in
-    let d = c.self.invariant.0 in let wide = d.0 in let e = c.exchange.ensures.3 in
+    let d = c.self.invariant.0 in
+    let wide = d.0 in
+    let e = c.exchange.ensures.3 in
     let ok = c.in_default.ensures.there in
     let kinds = sym (ap (λ v. v.id.kinds) c.self.view_is) ∙ sym d.2 in
     let on : c.args.object < length c.self.inside.table.shared.key.kinds.items =
@@ -41,7 +44,8 @@ fetch_add-ticket-requires g c = let k = before g (goal.at.fetch_add-ticket-requi
     let quota : c.client.inside.member.quota ≡ c.self.inside.table.shared.key.quota =
     ap (λ v. v.desk.quota) c.client.view_is
     ∙ (ap (λ z. z.quota) c.requires ∙ (sym (ap (λ v. v.id.quota) c.self.view_is) ∙ sym d.4)) in
-    let count = k.agrees.calls_is in let left = calls_left g (goal.at.fetch_add-ticket-requires g c).After-exchange in
+    let count = k.agrees.calls_is in
+    let left = calls_left g (goal.at.fetch_add-ticket-requires g c).After-exchange in
     let few : c.client.inside.member.calls < c.client.inside.member.quota = omega arith in
     let done : length c.exchange.new.seat.me.0.done ≡ length c.client.inside.seat.me.0.done =
     ap (λ z. length z.0.done) e in
@@ -64,13 +68,18 @@ slot_mut-requires g c =
 
 pub set_ticket-requires : goal.set_ticket-requires
 set_ticket-requires g c =
-    let e = c.exchange.ensures.3 in let f = c.fetch_add-ticket.ensures.2 _ _ _ (ap (λ z. z.1) e) in
+    let e = c.exchange.ensures.3 in
+    let f = c.fetch_add-ticket.ensures.2 _ _ _ (ap (λ z. z.1) e) in
     (_, came_out _ _ _ _ _ (ap (λ z. z.1) f ∙ ap (λ z. z.1) e) c.slot_mut.ensures.value)
 
 pub store-requires : goal.store-requires
-store-requires g c = let k = before g (goal.at.store-requires g c).After-exchange in
-    let wide = c.self.invariant.0.0 in let low = k.agrees.number_low in let e = c.exchange.ensures.3 in let f =
-    c.fetch_add-ticket.ensures.2 _ _ _ (ap (λ z. z.1) e) in let h =
+store-requires g c =
+    let k = before g (goal.at.store-requires g c).After-exchange in
+    let wide = c.self.invariant.0.0 in
+    let low = k.agrees.number_low in
+    let e = c.exchange.ensures.3 in
+    let f = c.fetch_add-ticket.ensures.2 _ _ _ (ap (λ z. z.1) e) in
+    let h =
     in_slot c.fetch_add-ticket.new.seat.me.0 (16 + c.client.inside.number) _ _ (rest c.fetch_add-ticket.new.seat.me.1)
     (c.set_ticket.ensures _ (came_out _ _ _ _ _ (ap (λ z. z.1) f ∙ ap (λ z. z.1) e) c.slot_mut.ensures.value)) in (
       search rules,
@@ -95,16 +104,20 @@ note_invoked-requires-clause-calls g c = let count = c.client.invariant.0.agrees
     let left = calls_left g (goal.at.note_invoked-requires-clause-calls g c).After-exchange in omega arith
 
 pub invariant_of-client : goal.invariant_of-client
-invariant_of-client g c = let k = before g (goal.at.invariant_of-client g c).After-exchange in
-    let e = c.exchange.ensures.3 in let f = c.fetch_add-ticket.ensures.2 _ _ _ (ap (λ z. z.1) e) in let h =
+invariant_of-client g c =
+    let k = before g (goal.at.invariant_of-client g c).After-exchange in
+    let e = c.exchange.ensures.3 in
+    let f = c.fetch_add-ticket.ensures.2 _ _ _ (ap (λ z. z.1) e) in
+    let h =
     in_slot c.fetch_add-ticket.new.seat.me.0 (16 + c.client.inside.number) _ _ (rest c.fetch_add-ticket.new.seat.me.1)
     (c.set_ticket.ensures _ (came_out _ _ _ _ _ (ap (λ z. z.1) f ∙ ap (λ z. z.1) e) c.slot_mut.ensures.value)) in
     let p = c.note_invoked.ensures in
     let written : c.note_invoked.new.self.journal.events.items
     ≡ c.client.inside.member.journal.events.items ++ Invoked c.fetch_add-ticket.result c.args.object
-    c.args.op ∷ [] = p.events in let few = c.self.invariant.0.5 in let ok = c.in_default.ensures.there in
-    let turn = post_turn k e f h
-    (c.store.ensures.2 _ (ap (λ z. z.0.own) h ∙ ap (λ z. z.0.own) f)) in
+    c.args.op ∷ [] = p.events in
+    let few = c.self.invariant.0.5 in
+    let ok = c.in_default.ensures.there in
+    let turn = post_turn k e f h (c.store.ensures.2 _ (ap (λ z. z.0.own) h ∙ ap (λ z. z.0.own) f)) in
     let low : c.args.object < length c.self.inside.kinds.items = search rules in
     let ok = client_after_post
     (record { object = c.args.object; ticket = c.fetch_add-ticket.result; op = c.args.op }) k turn (omega arith)
@@ -119,17 +132,21 @@ invariant_of-client g c = let k = before g (goal.at.invariant_of-client g c).Aft
     )
 
 pub returns-clause-posted : goal.returns-clause-posted
-returns-clause-posted g c = let k = before g (goal.at.returns-clause-posted g c).After-exchange in
-    let e = c.exchange.ensures.3 in let f = c.fetch_add-ticket.ensures.2 _ _ _ (ap (λ z. z.1) e) in let h =
+returns-clause-posted g c =
+    let k = before g (goal.at.returns-clause-posted g c).After-exchange in
+    let e = c.exchange.ensures.3 in
+    let f = c.fetch_add-ticket.ensures.2 _ _ _ (ap (λ z. z.1) e) in
+    let h =
     in_slot c.fetch_add-ticket.new.seat.me.0 (16 + c.client.inside.number) _ _ (rest c.fetch_add-ticket.new.seat.me.1)
     (c.set_ticket.ensures _ (came_out _ _ _ _ _ (ap (λ z. z.1) f ∙ ap (λ z. z.1) e) c.slot_mut.ensures.value)) in
-    let turn = post_turn k e f h
-    (c.store.ensures.2 _ (ap (λ z. z.0.own) h ∙ ap (λ z. z.0.own) f)) in
+    let turn = post_turn k e f h (c.store.ensures.2 _ (ap (λ z. z.0.own) h ∙ ap (λ z. z.0.own) f)) in
     posted c.args.op k (sym (ap (λ v. v.knows) c.client.view_is)) turn
 
 pub returns-clause-desk : goal.returns-clause-desk
 returns-clause-desk g c =
-    let e = c.exchange.ensures.3 in let f = c.fetch_add-ticket.ensures.2 _ _ _ (ap (λ z. z.1) e) in let h =
+    let e = c.exchange.ensures.3 in
+    let f = c.fetch_add-ticket.ensures.2 _ _ _ (ap (λ z. z.1) e) in
+    let h =
     in_slot c.fetch_add-ticket.new.seat.me.0 (16 + c.client.inside.number) _ _ (rest c.fetch_add-ticket.new.seat.me.1)
     (c.set_ticket.ensures _ (came_out _ _ _ _ _ (ap (λ z. z.1) f ∙ ap (λ z. z.1) e) c.slot_mut.ensures.value)) in
     let d = c.store.ensures.2 _ (ap (λ z. z.0.own) h ∙ ap (λ z. z.0.own) f) in

@@ -10,8 +10,12 @@ use Rattle.publication.proofs.desk.Desk.retire.Goals as goal
 
 pub store-requires : goal.store-requires
 store-requires g c =
-    let d = c.self.invariant.0 in let wide = d.0 in let k = c.client.invariant.0 in let low = k.agrees.number_low in
-    let e = c.exchange.ensures in let t = c.turn.ensures in
+    let d = c.self.invariant.0 in
+    let wide = d.0 in
+    let k = c.client.invariant.0 in
+    let low = k.agrees.number_low in
+    let e = c.exchange.ensures in
+    let t = c.turn.ensures in
     let same = ap (λ m. m.0) e.3 ∙ ap (λ m. m.0) t.2 in
     let calm = subst (λ (v : DeskView). IsAtRest v.own) (sym same) k.agrees.at_rest in (
       e.0 ∙ (t.0 ∙ (ap (λ k. k.desk.table) c.client.view_is
@@ -24,7 +28,10 @@ store-requires g c =
     )
 
 pub split_seat-requires : goal.split_seat-requires
-split_seat-requires g c = let d = c.self.invariant.0 in let wide = d.0 in let k = c.client.invariant.0 in
+split_seat-requires g c =
+    let d = c.self.invariant.0 in
+    let wide = d.0 in
+    let k = c.client.invariant.0 in
     let same = ap (λ m. m.0) c.store.ensures.2 ∙ ap (λ m. after_end m.0) c.exchange.ensures.3
     ∙ ap (λ m. after_end m.0) c.turn.ensures.2 in (
       search rules,
@@ -33,7 +40,9 @@ split_seat-requires g c = let d = c.self.invariant.0 in let wide = d.0 in let k 
     )
 
 pub returns : goal.returns
-returns g c = let k = c.client.invariant.0 in let s = c.split_seat.ensures in
+returns g c =
+    let k = c.client.invariant.0 in
+    let s = c.split_seat.ensures in
     let same = ap (λ m. m.0) c.store.ensures.2 ∙ ap (λ m. after_end m.0) c.exchange.ensures.3
     ∙ ap (λ m. after_end m.0) c.turn.ensures.2 in
     let table = s.3 ∙ (c.store.ensures.0

@@ -5,7 +5,9 @@ use Rattle.publication.specs.Handles.{IsClient}
 use Rattle.publication.proofs.desk.Desk.tell.Goals as goal
 
 pub join_seat-requires : goal.join_seat-requires
-join_seat-requires g c = let wide = c.self.invariant.0.0 in let table = sym (ap (λ s. s.id.table) c.self.view_is) in (
+join_seat-requires g c =
+    let wide = c.self.invariant.0.0 in
+    let table = sym (ap (λ s. s.id.table) c.self.view_is) in (
   ap (λ k. k.desk.table) c.client.view_is ∙ (ap (λ s. s.table) c.requires.client ∙ table),
   ap (λ r. r.table) c.retired.view_is ∙ (c.requires.retired ∙ table),
   c.retired.invariant,

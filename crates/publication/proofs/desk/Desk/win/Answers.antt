@@ -28,7 +28,9 @@ pub look_and_exchange-found-requires-clause-missed : goal.look_and_exchange-foun
 look_and_exchange-found-requires-clause-missed g c = λ n m miss told below. ((λ hit. absurd (miss hit)), (told below).1)
 
 pub look_and_exchange-found-requires-clause-exchange : goal.look_and_exchange-found-requires-clause-exchange
-look_and_exchange-found-requires-clause-exchange g c = let d = c.self.invariant in let m = c.client.invariant.0 in
+look_and_exchange-found-requires-clause-exchange g c =
+    let d = c.self.invariant in
+    let m = c.client.invariant.0 in
     let inside : c.args.object < length c.self.inside.kinds.items = search rules in
     let inside' : c.args.object < length c.self.inside.table.shared.key.kinds.items =
     subst (λ (z : ℕ). c.args.object < z) (ap length (sym d.0.2)) inside in
@@ -53,7 +55,8 @@ exchange-requires g c =
 pub invariant_of-result-in-Core : goal.invariant_of-result-in-Core
 invariant_of-result-in-Core g c =
     let low = there g (goal.at.invariant_of-result-in-Core g c).After-client in
-    let t = (c.look_and_exchange-found.ensures.tried low).0 c.if-found-ne0.false in let e = c.exchange.ensures in
+    let t = (c.look_and_exchange-found.ensures.tried low).0 c.if-found-ne0.false in
+    let e = c.exchange.ensures in
     let few = c.self.invariant.0.5 in
     let low : c.args.object < length c.self.inside.kinds.items = search rules in (
       pass_after_win _ _ _ _ _ _ _ _ _ c.client.invariant.0 t.2 e.3
@@ -70,7 +73,8 @@ unreachable-requires g c =
 pub returns-clause-won : goal.returns-clause-won
 returns-clause-won g c =
     let low = there g (goal.at.returns-clause-won g c).After-client in
-    let t = (c.look_and_exchange-found.ensures.tried low).0 c.if-found-ne0.false in let e = c.exchange.ensures in
+    let t = (c.look_and_exchange-found.ensures.tried low).0 c.if-found-ne0.false in
+    let e = c.exchange.ensures in
     let same = same_core _ _ (sym c.in-Core.is ∙ came_out _ _ _ _ _ (ap (λ m. m.1) t.2) e.2) in
     win_gives g.S.SeqObject.content g.S.SeqObject.op_in g.S.SeqObject.reply_in c.args.client c.args.object t.0
     c.in-Core.core t.1
