@@ -117,7 +117,7 @@ module _ {contents : List Content} {s : State} (m : IsMachine contents s) (c : �
         record { moves = moved; kinds = like.kinds; clients = like.stages; quota = like.quota },
       )
 
-  -- Where only the stage of r is written, and its request stays, the journals are those of the world.
+  -- Where only the stage of one row is written, and its request stays, the journals are those of the world.
   journals_stay : (s' : State) (row : ℕ) (t : Stage) → (world_of s').stage ≡ changed (world_of s).stage row t
       → request_of t ≡ request_of ((world_of s).stage row) → (j : ℕ)
       → get_or s.journals j [] ≡ journal_of (done_in (get_or s.journals j [])) (request_of ((world_of s').stage j))

@@ -93,7 +93,7 @@ pub is_put_back : {S O R : Type 0} (desk : DeskId) (state : PassState) {h v : Ha
 is_put_back desk state is e f = rw (is, f, e) assumption
 
 module _ {S O R : Type 0} (content : S → Content) (op_in : O → AnyOp) (reply_in : R → AnyReply) where
-  -- After a win the client has opened the object x, whose log goes on from what it had seen: the object was won, and
+  -- After a win the client has opened the object, whose log goes on from what it had seen: the object was won, and
   -- its slot emptied.
   pub win_gives : (client : Known) (object : ℕ) (found core : Core S O R) (log : List AnyEntry)
       (before won emptied : Me (Slot S O R) DeskView) (desk : DeskId) (state : PassState)
@@ -113,7 +113,7 @@ module _ {S O R : Type 0} (content : S → Content) (op_in : O → AnyOp) (reply
       }
 
 module _ {S O R : Type 0} (op_in : O → AnyOp) where
-  -- After a pick the client has got the request of the row r: it was picked, and its slot emptied.
+  -- After a pick the client has got the request of the row: it was picked, and its slot emptied.
   pub pick_gives : (desk : DeskId) (state : PassState) (row : ℕ) {p v : Holding} {q q' : Request O} {tl : List (ℕ × Slot S O R)}
       {picked emptied : Me (Slot S O R) DeskView} → p ≡ v
       → picked ≡ (after_pick v.object v.log row (request_in op_in q) v.knows, (16 + row, slot.Request q) ∷ tl)

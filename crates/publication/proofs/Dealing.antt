@@ -64,7 +64,7 @@ pub own_still : (client : ℕ) (lists lists' : List TableId) (places : List Plac
     → ArePlacesOf client lists places → ArePlacesOf client lists' places
 own_still client lists lists' places e own = rw e own
 
--- the place in the list of x
+-- of equal rows, each that is found is that row
 row_there : (count object client row : ℕ) → get_elem? (replicate count client) object ≡ some row → row ≡ client
 row_there zero object client row e = absurd (some-ne-none row (sym e))
 row_there (suc count) zero client row e = sym (some-injective client row e)

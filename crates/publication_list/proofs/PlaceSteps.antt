@@ -32,7 +32,7 @@ Holds = Kept
 abbrev Hands : Type 0
 Hands = Me ℕ ListView
 
--- the view that the owner of c has
+-- the view that the owner of a row has
 known : (state : St) (kept : Kept state) (id row : ℕ) (knows : RowKnowledge) (tries : List Enlist)
     → get_elem? state.views id ≡ some (view.Place row knows tries) → (id ≡ 1 + row) × (row < kept.list.made)
     × OwnRowAgrees knows (kept.list.stage row)

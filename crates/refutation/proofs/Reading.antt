@@ -78,11 +78,12 @@ sound_before fs i f rs lt is h = record {
   faultless = no_fault (views (take i fs)) rs h;
 }
 
-pub one_more_read : (fs : List Form) (i : ℕ) (f : Form) (rs : List Reason) (r : Reason) → i < length fs
+-- one form more that spells a reason is read
+pub reason_read : (fs : List Form) (i : ℕ) (f : Form) (rs : List Reason) (r : Reason) → i < length fs
     → f ≡ get_or fs i f
     → Denotes (views (take i fs)) rs → reason_in (view f) ≡ Some (reason_seen r)
     → Denotes (views (take (i + 1) fs)) (rs ++ r ∷ [])
-one_more_read fs i f rs r lt is h own =
+reason_read fs i f rs r lt is h own =
     let more = ap views (take_more fs i f lt ∙ ap (λ (x : Form). take i fs ++ x ∷ []) (sym is))
     ∙ map-append view (take i fs) (f ∷ []) in
     ap (map reason_in) more ∙ map-append reason_in (views (take i fs)) (view f ∷ [])

@@ -18,9 +18,10 @@ slot_within n done zero h = omega arith
 slot_within n done (suc k) h = let l = h.0 in omega arith
 
 -- of two slots with the same stop after a gap, neither is less
-same_slot_le : (n : ℕ) (done : List ℕ) (s t q : ℕ) → IsSlot n done t → t ≤ q → IsFilledGap done s q → s < t → ⊥
-same_slot_le n done s zero q h le gap l = omega arith
-same_slot_le n done s (suc k) q h le gap l = h.1 (gap k (omega arith) (omega arith))
+same_slot_le : (n : ℕ) (done : List ℕ) (one other stop : ℕ) → IsSlot n done other → other ≤ stop
+    → IsFilledGap done one stop → one < other → ⊥
+same_slot_le n done one zero stop h le gap l = omega arith
+same_slot_le n done one (suc k) stop h le gap l = h.1 (gap k (omega arith) (omega arith))
 
 same_slot : {n : ℕ} {done : List ℕ} {s t q : ℕ} → IsSlotBefore n done s q → IsSlotBefore n done t q → s ≡ t
 same_slot {n} {done} {s} {t} {q} a b = elim (cases_order s t) [

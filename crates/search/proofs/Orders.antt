@@ -101,7 +101,9 @@ ordered n call done c (k ∷ rest) h = onto (ordered n call (k ∷ done) h.2 res
   where
     onto : Ordered n call (k ∷ done) h.2 rest → Ordered n call done c (k ∷ rest)
     onto m =
-        let kept : (j : ℕ) → In j rest → IsLeft n done j = λ j i. let l = m.left j i in (l.0, λ d. l.1 (inr d)) in
+        let kept : (j : ℕ) → In j rest → IsLeft n done j = λ j i.
+        let l = m.left j i in
+        (l.0, λ d. l.1 (inr d)) in
         record {
           left = λ j i. elim i [ inl e ↦ rw e h.0 | inr d ↦ kept j d ];
           apart = (λ j i e. (m.left j i).1 (inl (sym e)), m.apart);
@@ -113,6 +115,7 @@ ordered n call done c (k ∷ rest) h = onto (ordered n call (k ∷ done) h.2 res
           ];
         }
 
+-- places that go on from the start are a valid order, by the numbers of their calls
 pub valid_from : (kind : Kind) (calls : List Call) (n : ℕ) (call : ℕ → Call) (rest : List ℕ) (order : List ℤ)
     → AreListed calls n call
     → Continues n call [] (empty kind) rest → order ≡ map (λ k. pos (call k).number) rest
