@@ -37,14 +37,14 @@ invariant_of-result g c =
     let quota = c.requires.plan.0.2 in
     let is = c.requires.plan.2 in
     let key = c.args.table.now.shared.key in
-    let f = c.requires.fresh in
+    let fresh = c.requires.fresh in
     let me =
     entered key.kinds.items key.lists.items c.args.number c.args.maker.now.me c.split_seat-seat.result.me
     c.load.new.seat.me c.requires.maker
     c.split_seat-seat.ensures.4 (c.load.ensures.2 c.args.number refl) in (
       subst (λ (z : ℕ × ℕ × Bool). IsClient g.S.SeqObject.op_in g.S.SeqObject.reply_in c.args.number z.0 z.1 z.2
           c.args.member.journal c.load.new.seat.me)
-          (λ i. (sym f.0 i, sym f.1 i, sym f.2 i))
+          (λ i. (sym fresh.0 i, sym fresh.1 i, sym fresh.2 i))
           (begun_ok g.S.SeqObject.op_in g.S.SeqObject.reply_in key.kinds.items key.lists.items c.args.number
           c.args.quota c.args.member.journal c.load.new.seat.me
           (omega arith) (omega arith) c.requires.journal me),
