@@ -48,6 +48,7 @@ found_kept found key l d before n h =
     subst (IsValue found) (sym (value_at-more key l d before))
     (kept_by found (value_at key (entries_of before)) (same_bytes key l) d n h)
 
+-- where nothing was found before, the value at hand is taken if its key is the one
 taken_by : (value : List Piece) (o : Option Datum) (b : Bool) (d : Datum) (ts : List Token) → b ≡ true → IsValue [] o
     → token_buffer_tokens value ≡ tokens_of d ++ ts → IsValue value (or_next o b d)
 taken_by value None b d ts e h q = subst (λ (c : Bool). IsValue value (cond c (Some d) None)) (sym e) (ts, q)
@@ -133,6 +134,7 @@ walk_ends es tokens v n w = by_left w.left refl
 not_empty : (found : List Piece) (b : Bool) → false ≡ (length found == 0) → found ≡ [] → b ≡ false
 not_empty found b h e = let z : (length found == 0) ≡ true = ap (λ (f : List Piece). length f == 0) e in absurd cc
 
+-- a value that was found is still the first of its key after one entry more
 pub is_found : (found : List Piece) (key l : List ℕ) → false ≡ (length found == 0)
     → (before : List (List ℕ × Datum)) (d : Datum)
     → IsValue found (value_at key (entries_of before))
@@ -143,6 +145,7 @@ pub empty_is : (found : List Piece) → true ≡ (length found == 0) → found �
 empty_is [] h = refl
 empty_is (p ∷ ps) h = let z : length (p ∷ ps) ≡ 0 = eqb-true (length (p ∷ ps)) 0 (sym h) in absurd (omega arith)
 
+-- the value at hand is the first of its key, if nothing was found before and its key is the one
 pub is_taken : (found value : List Piece) (key l : List ℕ) → true ≡ (length found == 0) → true ≡ same_bytes key l
     → (before : List (List ℕ × Datum)) (d : Datum) (ts : List Token) → IsValue found (value_at key (entries_of before))
     → token_buffer_tokens value ≡ tokens_of d ++ ts → IsValue value (value_at key (entries_of (before ++ (l, d) ∷ [])))

@@ -41,6 +41,7 @@ module _ {A : Type 0} where
   kind_there kind_of (x ∷ xs) (suc i) found e = kind_there kind_of xs i found e
 
 module _ {S O R : Type 0} (content : S → Content) (op_in : O → AnyOp) (reply_in : R → AnyReply) where
+  -- the words and slots with which a desk begins keep the rule, as its maker knows it
   pub opens_on : (plan : Plan) (objects : List S) (slots : List (Slot S O R)) → IsSmall plan
       → plan.kinds.items ≡ kinds_with content objects
       → AreEmpty content objects → IsLaid objects plan.lists.items slots

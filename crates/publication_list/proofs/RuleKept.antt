@@ -152,6 +152,7 @@ enlist_keeps_sound list row next low was sound = record {
         let h : i < length list.rows = omega arith in
         update_of_ne ℕ_discrete (apart i h) listed list.stage ∙ sound.listed i h
 
+-- the words after a row that is awake was put in front: the head leads to it, and its next word stays
 pub enlist_keeps_tied : (list : PublicationList) (row next : ℕ) (words : List ℕ) → row < 32
     → list.stage row ≡ awake next → get_or words 0 0 ≡ next → Sound list → Tied list words
     → Tied (with_stage list row listed (row ∷ list.rows)) (set words 0 (1 + row))
@@ -190,6 +191,7 @@ unlink_keeps_sound list p inside sound = record {
       (b.0, b.1, b.2 ∙ a.2));
 }
 
+-- the words after a row was taken out: the row before it leads to the row after it
 pub unlink_keeps_tied : (list : PublicationList) (p next : ℕ) (words : List ℕ) → suc p < length list.rows
     → next ≡ word_at list.rows (suc (suc p)) → Sound list → Tied list words
     → Tied (with_stage list (get_or list.rows (suc p) 0) unlinked (remove list.rows (suc p)))

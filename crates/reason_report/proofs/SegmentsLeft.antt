@@ -25,6 +25,7 @@ pub segment_pushed : (old new segment rest left all : List ℕ) → new ≡ old 
 segment_pushed old new segment rest left all is parts done =
     ap (λ x. x ++ rest) is ∙ (append_assoc old segment rest ∙ (ap (λ x. old ++ x) (sym parts) ∙ done))
 
+-- of two texts that were pushed one after the other, both are at the end
 pub two_pushed : (old first second new last : List ℕ) → new ≡ old ++ first → last ≡ new ++ second
     → last ≡ old ++ (first ++ second)
 two_pushed old first second new last p q = q ∙ (ap (λ x. x ++ second) p ∙ append_assoc old first second)

@@ -22,6 +22,7 @@ use Rattle.refutation.specs.declared.refuting.ReasonAnswer.TheVariants.{NoPart, 
 use Rattle.refutation.specs.Refutations.{shows_impossible, IfPart, IfShownImpossible, IfNotShown, IsWhyNotShown}
 use Rattle.refutation.specs.Refutations.{IsNamedPart, PartHasNoValidOrder, IsShownBy, IsReasonAnswerOn, IsReasonAnswer}
 
+-- a history with an object of which no order is valid is not linearizable
 pub none_among : (es : List Event) (objects : List ObjectCalls) → All (λ o. o.kind ≡ kind_of_object es o.object) objects
     → All (λ o. calls_of o.ops ≡ calls_on o.object (denoted es)) objects
     → ((kinds : ℕ → Kind) (h : List Numbered) → IsHistory h → IsLinearizable kinds (events h) → (x : ℕ)
@@ -49,6 +50,7 @@ answer_added Not answers more answer e one all x i p = elim (in_append x answers
   | inr j ↦ elim j [ inl q ↦ one (ap shows_impossible (sym q) ∙ p) | inr k ↦ absurd k ]
 ]
 
+-- a relation that holds of two lists, place by place, and of one more element of each
 zip_push : {X Y : Type 0} (Fits : X → Y → Type 0) (xs : List X) (ys : List Y) (x : X) (y : Y) → AllZip Fits xs ys
     → Fits x y → AllZip Fits (xs ++ x ∷ []) (ys ++ y ∷ [])
 zip_push Fits [] [] x y h r = (r, tt)

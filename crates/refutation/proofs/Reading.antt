@@ -48,6 +48,7 @@ after_any : (earlier : List Datum) (d : Datum) (kind : ReasonFaultKind) → IsRe
 after_any earlier d NotAReason h = h
 after_any earlier d NoMemory h = h
 
+-- the first form that spells no reason is the first fault
 pub first_fault : (fs : List Form) (i : ℕ) (f : Form) (rs : List Reason) (kind : ReasonFaultKind) → i < length fs
     → f ≡ get_or fs i f → Denotes (views (take i fs)) rs → IsReasonFault [] (view f) kind
     → IsFirstFault (views fs) (record { kind = kind; form = i })
@@ -67,6 +68,7 @@ first_fault fs i f rs kind lt is h fault =
 pub not_denoted : (ds : List Datum) (e : ReasonFault) → IsFirstFault ds e → (rs : List Reason) → Denotes ds rs → ⊥
 not_denoted ds e f rs h = no_fault ds rs h f.earlier f.later f.form e.kind f.split f.stands
 
+-- the forms before one, which spell reasons, are faultless
 pub sound_before : (fs : List Form) (i : ℕ) (f : Form) (rs : List Reason) → i < length fs → f ≡ get_or fs i f
     → Denotes (views (take i fs)) rs → AreReasonsSoundBefore (views fs) i
 sound_before fs i f rs lt is h = record {

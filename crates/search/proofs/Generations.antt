@@ -31,6 +31,7 @@ kept_dead t before kept all is_kept = elim is_kept [
   }
 ]
 
+-- a pair that is dead is remembered among such
 remembered_dead : (t : Trials) (before : Dead) (pair : Pair) (after : Dead) → AreAllDead t before
     → IsDeadPair (length t.items.items) (call_at t.items.items) pair.high pair.not_done.items
     (content_kept pair.content)

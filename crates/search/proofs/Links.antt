@@ -190,6 +190,7 @@ module _ {n : ℕ} {done nx pv : List ℕ} (h : Linked n done nx pv) where
 
   -- ---- the places that the list of links gives
 
+  -- the first place to which the links lead is left
   listed_here : (s u : ℕ) (us : List ℕ) (high : ℕ) → s ≤ n → IsSlot n done s → LeadsThrough nx s (u ∷ us) high
       → IsLeft n done u
   listed_here s u us high le sl w =
@@ -202,6 +203,7 @@ module _ {n : ℕ} {done nx pv : List ℕ} (h : Linked n done nx pv) where
       inside [] w = w.0
       inside (v ∷ vs) w = w.0
 
+  -- each place to which the links lead is left
   listed_left : (s : ℕ) (us : List ℕ) (high : ℕ) → s ≤ n → IsSlot n done s → LeadsThrough nx s us high → (k : ℕ)
       → In k us
       → IsLeft n done k
@@ -210,6 +212,7 @@ module _ {n : ℕ} {done nx pv : List ℕ} (h : Linked n done nx pv) where
       let here = listed_here s u us high le sl w in
       elim i [ inl e ↦ rw e here | inr m ↦ listed_left (suc u) us high here.0 here w.2 k m ]
 
+  -- each place below the bound to which no link leads is done
   listed_cover : (s : ℕ) (us : List ℕ) (high : ℕ) → s ≤ n → IsSlot n done s → LeadsThrough nx s us high
       → (k : ℕ) → s ≤ k → k < n → k < high → (In k us → ⊥) → In k done
   listed_cover s [] high le sl w k sk kn kh out =

@@ -40,6 +40,7 @@ pub record AreListed (calls : List Call) (n : ℕ) (call : ℕ → Call) : Type 
 abbrev same_number : Invocation → Invocation → Bool
 same_number a b = a.number == b.number
 
+-- the calls at two places have different numbers
 numbers_differ : (ops items : List Invocation) → AllPairs (λ a b. a.number < b.number) ops
     → IsPermutation (filter happens ops) items → (j k : ℕ)
     → j < k → k < length items → (call_at items j).number ≢ (call_at items k).number
