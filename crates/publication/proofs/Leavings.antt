@@ -64,8 +64,8 @@ none_held (Some c) never = absurd (never c refl)
 
 module _ {S O R : Type 0} (content : S → Content) (op_in : O → AnyOp) (reply_in : R → AnyReply) (kinds : List Kind)
     (clients quota : ℕ) where
-  -- a client at rest that holds nothing, and knows that all others have ended, leaves each slot with what belongs
-  -- there
+  -- Where a client at rest holds nothing, and knows that all others have ended, each slot has its object, or what its
+  -- client left.
   leavings : (id : ℕ) (view : DeskView) (words : List ℕ) (slots : List (Slot S O R)) → view.role ≡ role.Client
       → view.held ≡ held.Free → IsAtRest view.own
       → ((c : ℕ) → c < clients → c ≢ view.number → Contains view.retired c)
