@@ -114,8 +114,8 @@ module _ {S O R : Type 0} (content : S → Content) (op_in : O → AnyOp) (reply
 
 module _ {S O R : Type 0} (op_in : O → AnyOp) where
   -- After a pick the client has got the request of the row: it was picked, and its slot emptied.
-  pub pick_gives : (desk : DeskId) (state : PassState) (row : ℕ) {p v : Holding} {q q' : Request O} {tl : List (ℕ × Slot S O R)}
-      {picked emptied : Me (Slot S O R) DeskView} → p ≡ v
+  pub pick_gives : (desk : DeskId) (state : PassState) (row : ℕ) {p v : Holding} {q q' : Request O}
+      {tl : List (ℕ × Slot S O R)} {picked emptied : Me (Slot S O R) DeskView} → p ≡ v
       → picked ≡ (after_pick v.object v.log row (request_in op_in q) v.knows, (16 + row, slot.Request q) ∷ tl)
       → emptied ≡ (picked.0, (16 + row, slot.Nothing) ∷ rest picked.1) → q ≡ q' → q.object ≡ v.object
       → kind_of (op_in q.op) ≡ kind_at v.knows.kinds v.object

@@ -24,7 +24,8 @@ rosters ps = map (λ (p : PlaceSeen). p.roster) ps
 
 -- one try more at the place i
 pub tried : (places : List PlaceSeen) (i : ℕ) (old new : PlaceSeen) (outcome : Enlist) → i < length places
-    → old ≡ get_or places i old → new ≡ record old { tries = old.tries ++ outcome ∷ [] } → set places i new ≡ trying i outcome places
+    → old ≡ get_or places i old → new ≡ record old { tries = old.tries ++ outcome ∷ [] }
+    → set places i new ≡ trying i outcome places
 tried [] i old new outcome low is more = absurd (omega arith)
 tried (x ∷ xs) zero old new outcome low is more =
     ap (λ z. z ∷ xs) (more ∙ ap (λ (z : PlaceSeen). record z { tries = z.tries ++ outcome ∷ [] }) is)

@@ -45,10 +45,10 @@ one_ended client start now after e t f before is =
 pub there_still : (desk : DeskSeen) (client : ℕ) (start now after : Known) → client < desk.clients
     → client ≢ now.knows.number → after.knows ≡ after_end_unset client now.knows → HaveEnded client now
     → HasLearntEnds start now → All (λ l. l.client ≢ client) now.knows.left → IsStillThere desk start client after
-there_still desk client start now after low other e before is untold = let same = ap (λ z. z.knows.number) is in record {
+there_still desk client start now after low other e before is left = let same = ap (λ z. z.knows.number) is in record {
   client_low = low;
   other = λ f. other (f ∙ sym same);
-  untold = rw is at untold;
+  untold = rw is at left;
   least = λ c l apart. subst (λ z. Contains z c) (sym (ap (λ v. v.retired) e)) (before c l (λ f. apart (f ∙ same)));
   looked = (now.knows, e, ap (λ z. z.knows) is);
 }
