@@ -365,7 +365,12 @@ module _ {contents : List Content} {s : State} (m : IsMachine contents s) (c : �
           (λ yx. let here : after ≡ d =
           same_Some after d (sym (slice_get-set_same contents object after before at)
           ∙ ap (slice_get (set contents object after)) (sym yx) ∙ e) in
-          rw (← here, yx, same, get_or-set_same s.logs object (get_or s.logs object [] ++ logged row request given) []
-          there) whole)
+          rw (
+            ← here,
+            yx,
+            same,
+            get_or-set_same s.logs object (get_or s.logs object [] ++ logged row request given) []
+                there,
+          ) whole)
           (λ yo. rw (get_or-set_other s.logs object y (get_or s.logs object [] ++ logged row request given) [] yo)
           (m.fits y d (sym (slice_get-set_other contents object after y yo) ∙ e)))

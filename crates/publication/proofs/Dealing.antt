@@ -139,11 +139,11 @@ module _ {Z : Type 0} where
             let g = grown.1 c d (omega arith) in
             let b = all.1 c d l in
             let e : c ≡ 0 + c = omega arith in (
-          g.0 ∙ ((λ i. b.0 i ++ record { roster = id; row = e i; tries = [] } ∷ [])
-              ∙ sym (map-append (λ z. record { roster = z; row = 0 + c; tries = [] }) lists (id ∷ []))),
-          omega (arith, g.2, b.1),
-          g.1 ∙ b.2,
-        ),
+              g.0 ∙ ((λ i. b.0 i ++ record { roster = id; row = e i; tries = [] } ∷ [])
+                  ∙ sym (map-append (λ z. record { roster = z; row = 0 + c; tries = [] }) lists (id ∷ []))),
+              omega (arith, g.2, b.1),
+              g.1 ∙ b.2,
+            ),
       )
 
   -- the first goes

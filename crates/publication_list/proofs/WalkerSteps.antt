@@ -64,13 +64,14 @@ meet_keeps_rule slots id made left out walks held state kept deep at small =
       λ made' left' out' walks' is _.
           let m : made ≡ made' = ap made_of is in
           let m' : made ≡ list.made = ok.1 in (
-        list.rows,
-        ap (λ (z : ListView). (view.Walker (made_of z) list.rows (out_of z) (walks_of z ++ list.rows ∷ []), held)) is,
-        kept.tied.head,
-        (front, ok.2.1 ∙ ap (λ (z : ListView). front ++ list_left z) is, kept.sound.distinct),
-        (λ i l. let low = kept.sound.low i l in omega arith),
-        (let few = few_below list.made list.rows kept.sound.distinct kept.sound.low in omega arith),
-      ),
+            list.rows,
+            ap (λ (z : ListView). (view.Walker (made_of z) list.rows (out_of z) (walks_of z ++ list.rows ∷ []), held))
+                is,
+            kept.tied.head,
+            (front, ok.2.1 ∙ ap (λ (z : ListView). front ++ list_left z) is, kept.sound.distinct),
+            (λ i l. let low = kept.sound.low i l in omega arith),
+            (let few = few_below list.made list.rows kept.sound.distinct kept.sound.low in omega arith),
+          ),
     )
 
 -- ---- the walker goes on to the next row
@@ -169,11 +170,11 @@ unlink_keeps_rule slots id i next place made left walks held low word leads stat
           (front, ap (λ z. remove z Q) e ∙ remove_append front left (suc place) Q Q_is),
           subst (λ z. (z < list.made) × (after.stage z ≡ unlinked) × ((q : ℕ) → after.stage q ≡ unlinked → q ≡ z))
               at_q (
-            r_low,
-            update_self ℕ_discrete row unlinked list.stage,
-            updated_all (λ q z. z ≡ unlinked → q ≡ row) list.stage row unlinked (λ _. refl)
-                (λ q _ e. absurd (ok.3 q e)),
-          ),
+                r_low,
+                update_self ℕ_discrete row unlinked list.stage,
+                updated_all (λ q z. z ≡ unlinked → q ≡ row) list.stage row unlinked (λ _. refl)
+                    (λ q _ e. absurd (ok.3 q e)),
+              ),
         );
       },
       λ made' left' out' walks' q is q_low q_word. let same : left ≡ left' = ap list_left is in

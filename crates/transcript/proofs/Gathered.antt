@@ -68,10 +68,10 @@ pub of_client : (client : ℕ) (last : Option Call) (js : List AnyEvent) (line :
     → In line (journal_lines_from client last js) → line.event.process ≡ client
 of_client client last [] line i = absurd i
 of_client client last (e ∷ js) line i =
-    elim (in_append line (line_with client e (call_after last e)) (journal_lines_from client (call_after last e) js) i)
-    [
-      | inl j ↦ of_line client e (call_after last e) line j
-      | inr j ↦ of_client client (call_after last e) js line j
+    let call = call_after last e in
+    elim (in_append line (line_with client e call) (journal_lines_from client call js) i) [
+      | inl j ↦ of_line client e call line j
+      | inr j ↦ of_client client call js line j
     ]
 
 -- ---- the lines of all journals
