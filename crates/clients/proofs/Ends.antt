@@ -26,23 +26,24 @@ use Rattle.clients.specs.Made.{MadeOrStopped, IsNew, IsDeskFor, IsDone, ClosedBy
 use Rattle.clients.specs.Made.{HasMadeNoCall, HasRunWork, HaveTold, IsRunRecord}
 
 -- a client that has made no call
-pub is_new : (d : DeskSeen) (w : Work) (n : ℕ) (k : Known) → HasMadeNoCall d.id n k → IsDeskFor d w → n < length w.calls
-    → IsNew d w k
-is_new d w n k none desk low = record {
-  desk = desk;
-  low = subst (λ z. z < length w.calls) (sym none.number) low;
-  none = record { desk = none.desk; number = refl; idle = none.idle; none = none.none };
+pub is_new : (desk : DeskSeen) (work : Work) (number : ℕ) (client : Known) → HasMadeNoCall desk.id number client
+    → IsDeskFor desk work → number < length work.calls → IsNew desk work client
+is_new desk work number client new fits low = record {
+  desk = fits;
+  low = subst (λ z. z < length work.calls) (sym new.number) low;
+  none = record { desk = new.desk; number = refl; idle = new.idle; none = new.none };
 }
 
 -- client 0 was told of the end of each that it has met
-pub have_told : (d : DeskSeen) (w : Work) (k : Known) → IsDone d w k → HaveTold d k
-have_told d w k e c low other =
-    let zero_is = e.worked.number in
-    let m = e.met c (above_zero c (λ z. other (z ∙ sym zero_is))) low in (end_notice m.other, m.told, m.number)
+pub have_told : (desk : DeskSeen) (work : Work) (client : Known) → IsDone desk work client → HaveTold desk client
+have_told desk work client done other low differs =
+    let zero_is = done.worked.number in
+    let m = done.met other (above_zero other (λ z. differs (z ∙ sym zero_is))) low in
+    (end_notice m.other, m.told, m.number)
   where
-    above_zero : (c : ℕ) → c ≢ 0 → 0 < c
-    above_zero zero other = absurd (other refl)
-    above_zero (suc c) other = omega arith
+    above_zero : (other : ℕ) → other ≢ 0 → 0 < other
+    above_zero zero differs = absurd (differs refl)
+    above_zero (suc other) differs = omega arith
 
 -- a quota that is greater allows for more tickets
 for_more : (kinds : List Kind) (q n : ℕ) (journals : ℕ → List AnyEvent) (logs : ℕ → List AnyEntry) → q ≤ n
@@ -138,7 +139,8 @@ pub objects_more : (os more : List AnyObject) (o : AnyObject) (ks : List Kind) (
     → All IsEmpty os → content_of o ≡ empty (get_or ks i kind.Queue) → more ≡ os ++ o ∷ [] → i < length ks
     → (map (λ o. kind_with (content_of o)) more ≡ take (i + 1) ks) × All IsEmpty more
 objects_more os more o ks i so_far all is grown low =
-    let f : AnyObject → Kind = λ o. kind_with (content_of o) in let k : Kind = get_or ks i kind.Queue in
+    let f : AnyObject → Kind = λ o. kind_with (content_of o) in
+    let k : Kind = get_or ks i kind.Queue in
     let here : f o ≡ k = ap kind_with is ∙ kind_of_empty k in (
       ap (map f) grown
           ∙ (map-append f os (o ∷ []) ∙ ((λ j. so_far j ++ here j ∷ []) ∙ sym (take_more ks i kind.Queue low))),

@@ -32,16 +32,18 @@ keeps_on v w u a b = record {
   left = λ l c. b.left l (a.left l c);
 }
 
--- more of the object x was seen
-pub keeps_seeing : (v w : DeskView) (x : ℕ) (l : List AnyEntry)
-    → w ≡ after_meet x l (record v { received = w.received }) → StartsWith l (seen_of v x) → Keeps v w
-keeps_seeing v w x l e begins = record {
+-- a meeting at which more of one object's log is seen keeps what the client knew
+pub keeps_seeing : (before after : DeskView) (object : ℕ) (log : List AnyEntry)
+    → after ≡ after_meet object log (record before { received = after.received })
+    → StartsWith log (seen_of before object) → Keeps before after
+keeps_seeing before after object log e begins = record {
   calls = record {
     number = ap (λ z. z.number) e;
     kinds = ap (λ z. z.kinds) e;
     own = ap (λ z. z.own) e;
     done = ap (λ z. z.done) e;
-    seen = λ y. subst (λ z. StartsWith (seen_of z y) (seen_of v y)) (sym e) (seen_on v.seen x l begins y);
+    seen = λ y. subst (λ z. StartsWith (seen_of z y) (seen_of before y)) (sym e)
+        (seen_on before.seen object log begins y);
   };
   left = λ m c. subst (λ z. Contains z m) (sym (ap (λ z. z.left) e)) c;
 }
@@ -57,45 +59,49 @@ alike_more i one other one' other' so_far m x low = dite (ℕ_discrete x i)
     ∙ sym (ap (λ z. seen_of z x) m.second ∙ get_or-set_other other.knows.seen i x m.log [] differ)))
 
 -- what a log has of a client's calls depends on these alone
-same_account : (x : ℕ) (v w : DeskView) (log : List AnyEntry) → KeepsCalls v w → IsAccount x v log
-    → IsAccount x w log
-same_account x v w log k =
-    subst (λ (t : ℕ × Own × List AnyDone). (now : List AnyEntry) × (entries_of_client t.0 log ≡ served x t.0 t.2 ++ now)
-    × MayHold x t.0 t.1 now) (λ i. (sym k.number i, sym k.own i, sym k.done i))
+same_account : (object : ℕ) (before after : DeskView) (log : List AnyEntry) → KeepsCalls before after
+    → IsAccount object before log → IsAccount object after log
+same_account object before after log kept =
+    subst (λ (t : ℕ × Own × List AnyDone). (now : List AnyEntry)
+    × (entries_of_client t.0 log ≡ served object t.0 t.2 ++ now)
+    × MayHold object t.0 t.1 now) (λ i. (sym kept.number i, sym kept.own i, sym kept.done i))
 
-pub same_journal : (v w : DeskView) → KeepsCalls v w → journal w ≡ journal v
-same_journal v w k = λ i. journal_of (k.done i) (own_request (k.own i))
+pub same_journal : (before after : DeskView) → KeepsCalls before after → journal after ≡ journal before
+same_journal before after kept = λ i. journal_of (kept.done i) (own_request (kept.own i))
 
 -- who was met stays met
-still_met : (w : Work) (v u : DeskView) (c : ℕ) → Keeps v u → HasMetClient w v c → HasMetClient w u c
-still_met w v u c k m = record {
-  other = m.other;
-  number = m.number;
-  made = m.made;
-  told = k.left (end_notice m.other) m.told;
-  met = λ x low. let h = m.met x low in record {
+still_met : (work : Work) (before after : DeskView) (client : ℕ) → Keeps before after → HasMetClient work before client
+    → HasMetClient work after client
+still_met work before after client kept met = record {
+  other = met.other;
+  number = met.number;
+  made = met.made;
+  told = kept.left (end_notice met.other) met.told;
+  met = λ x low. let h = met.met x low in record {
     seen = h.seen;
-    begins = starts_longer (seen_of u x) (seen_of v x) h.seen (k.calls.seen x) h.begins;
-    first = same_account x v u h.seen k.calls h.first;
+    begins = starts_longer (seen_of after x) (seen_of before x) h.seen (kept.calls.seen x) h.begins;
+    first = same_account x before after h.seen kept.calls h.first;
     second = h.second;
   };
 }
 
--- who has made its calls makes none by meeting others
-pub still_worked : (d : DeskSeen) (w : Work) (c : ℕ) (k u : Known) → HasWorked d w c k → Keeps k.knows u.knows
-    → u.desk ≡ d.id → HasWorked d w c u
-still_worked d w c k u h kept desk = record {
-  desk = desk;
-  number = kept.calls.number ∙ h.number;
-  made = subst (MadeOrStopped (calls_at w c)) (sym (same_journal k.knows u.knows kept.calls)) h.made;
+-- a client that has made its calls makes none by meeting others
+pub still_worked : (desk : DeskSeen) (work : Work) (client : ℕ) (before after : Known)
+    → HasWorked desk work client before → Keeps before.knows after.knows
+    → after.desk ≡ desk.id → HasWorked desk work client after
+still_worked desk work client before after worked kept same = record {
+  desk = same;
+  number = kept.calls.number ∙ worked.number;
+  made = subst (MadeOrStopped (calls_at work client)) (sym (same_journal before.knows after.knows kept.calls))
+      worked.made;
 }
 
--- one more was met
-pub met_more : (w : Work) (v u : Known) (n : ℕ) → HasMetBelow w v n → Keeps v.knows u.knows → HasMetClient w u.knows n
-    → HasMetBelow w u (n + 1)
-met_more w v u n before k last c some low = dite (ℕ_discrete c n)
-    (λ same. subst (HasMetClient w u.knows) (sym same) last)
-    (λ differ. still_met w v.knows u.knows c k (before c some (omega arith)))
+-- a client that has met all below a number, and then the one of this number, has met all below the next
+pub met_more : (work : Work) (old new : Known) (client : ℕ) → HasMetBelow work old client → Keeps old.knows new.knows
+    → HasMetClient work new.knows client → HasMetBelow work new (client + 1)
+met_more work old new client before kept last other some low = dite (ℕ_discrete other client)
+    (λ same. subst (HasMetClient work new.knows) (sym same) last)
+    (λ differ. still_met work old.knows new.knows other kept (before other some (omega arith)))
 
 -- told of the other's end
 pub keeps_told : (v : DeskView) (l : Leaving) → Keeps v (after_notice (l ∷ []) v)
@@ -104,19 +110,21 @@ keeps_told v l = record {
   left = λ m c. Contains-append_left v.left (l ∷ []) m c;
 }
 
-pub has_met : (d : DeskSeen) (w : Work) (n : ℕ) (k : Known) (v u : DeskView) → HasWorked d w n k → Keeps k.knows u
-    → d.id.kinds ≡ w.kinds → HaveSeenAlike (length d.id.kinds) v u
-    → ((x : ℕ) → IsAccount x v (seen_of v x)) → ((x : ℕ) → IsAccount x u (seen_of u x))
-    → HasMetClient w (after_notice (end_notice u ∷ []) v) n
-has_met d w n k v u h kept kinds alike first second = record {
-  other = u;
-  number = kept.calls.number ∙ h.number;
-  made = subst (MadeOrStopped (calls_at w n)) (sym (same_journal k.knows u kept.calls)) h.made;
-  told = Contains-push v.left (end_notice u);
+-- a client that has seen on each object what another had seen at the end, and is told of this end, has met it
+pub has_met : (desk : DeskSeen) (work : Work) (client : ℕ) (known : Known) (own other : DeskView)
+    → HasWorked desk work client known → Keeps known.knows other
+    → desk.id.kinds ≡ work.kinds → HaveSeenAlike (length desk.id.kinds) own other
+    → ((x : ℕ) → IsAccount x own (seen_of own x)) → ((x : ℕ) → IsAccount x other (seen_of other x))
+    → HasMetClient work (after_notice (end_notice other ∷ []) own) client
+has_met desk work client known own other worked kept kinds alike first second = record {
+  other = other;
+  number = kept.calls.number ∙ worked.number;
+  made = subst (MadeOrStopped (calls_at work client)) (sym (same_journal known.knows other kept.calls)) worked.made;
+  told = Contains-push own.left (end_notice other);
   met = λ x low. record {
-    seen = seen_of v x;
-    begins = starts_same (seen_of v x);
+    seen = seen_of own x;
+    begins = starts_same (seen_of own x);
     first = first x;
-    second = subst (IsAccount x u) (sym (alike x (subst (λ ks. x < length ks) (sym kinds) low))) (second x);
+    second = subst (IsAccount x other) (sym (alike x (subst (λ ks. x < length ks) (sym kinds) low))) (second x);
   };
 }

@@ -1,5 +1,5 @@
 -- Clients that have made no call: all that a desk was made with (`all_new`), and each that has made none since
--- (`still_none`). The last of them is taken off the list and put back (`one_fewer`, `one_more`).
+-- (`still_none`). The last of them is taken off the list and put back (`client_taken`, `client_added`).
 use Rattle.std.proofs.Common.{◌≡◌, ℕ, zero, suc, ◌+◌, ◌<◌, List, [], ◌∷◌, ◌++◌, length, length-append, refl, sym, ap}
 use Rattle.std.proofs.Common.{◌∙◌, subst, ⊎_elim, arith}
 use mathlib.Core.Option.{some, some-injective, some-ne-none}
@@ -27,29 +27,29 @@ all_new d cs begins c k at =
     }
 
 -- a client that has made no call, and has made none since
-pub still_none : (d : DeskId) (c : ℕ) (k u : Known) → HasMadeNoCall d c k → u.desk ≡ k.desk → KeepsCalls k.knows u.knows
-    → HasMadeNoCall d c u
-still_none d c k u n desk kept = record {
-  desk = desk ∙ n.desk;
-  number = kept.number ∙ n.number;
-  idle = kept.own ∙ n.idle;
-  none = kept.done ∙ n.none;
+pub still_none : (id : DeskId) (number : ℕ) (before after : Known) → HasMadeNoCall id number before
+    → after.desk ≡ before.desk → KeepsCalls before.knows after.knows → HasMadeNoCall id number after
+still_none id number before after new desk kept = record {
+  desk = desk ∙ new.desk;
+  number = kept.number ∙ new.number;
+  idle = kept.own ∙ new.idle;
+  none = kept.done ∙ new.none;
 }
 
--- the last of them, and the others
-pub one_fewer : (d : DeskId) (l m : List Known) (a : Known) → m ≡ l ++ a ∷ [] → AreNew d m
-    → HasMadeNoCall d (length l) a × (length l + 1 ≡ length m) × AreNew d l
-one_fewer d l m a e all = (
-  all (length l) a (ap (λ z. get_elem? z (length l)) e ∙ at_last l a (length l) refl),
-  sym (ap length e ∙ length-append l (a ∷ [])),
-  λ c k at. all c k (ap (λ z. get_elem? z c) e ∙ at_longer l (a ∷ []) c k at),
+-- of clients that have made no call the last is taken: it has made none, and those before it have made none
+pub client_taken : (id : DeskId) (others all : List Known) (last : Known) → all ≡ others ++ last ∷ [] → AreNew id all
+    → HasMadeNoCall id (length others) last × (length others + 1 ≡ length all) × AreNew id others
+client_taken id others all last is new = (
+  new (length others) last (ap (λ z. get_elem? z (length others)) is ∙ at_last others last (length others) refl),
+  sym (ap length is ∙ length-append others (last ∷ [])),
+  λ c k at. new c k (ap (λ z. get_elem? z c) is ∙ at_longer others (last ∷ []) c k at),
 )
 
--- and one more
-pub one_more : (d : DeskId) (l m : List Known) (a : Known) → m ≡ l ++ a ∷ [] → AreNew d l → HasMadeNoCall d (length l) a
-    → AreNew d m
-one_more d l m a e before last c k at = ⊎_elim
-    (λ (t : get_elem? l c ≡ some k). before c k t)
-    (λ (t : (c ≡ length l) × (a ≡ k)). subst (λ (z : ℕ × Known). HasMadeNoCall d z.0 z.1) (λ i. (sym t.0 i, t.1 i))
-    last)
-    (at_end l a k c (sym (ap (λ z. get_elem? z c) e) ∙ at))
+-- one client more that has made no call, at the end of a list of such clients
+pub client_added : (id : DeskId) (others all : List Known) (last : Known) → all ≡ others ++ last ∷ [] → AreNew id others
+    → HasMadeNoCall id (length others) last → AreNew id all
+client_added id others all last is new none c k at = ⊎_elim
+    (λ (t : get_elem? others c ≡ some k). new c k t)
+    (λ (t : (c ≡ length others) × (last ≡ k)).
+    subst (λ (z : ℕ × Known). HasMadeNoCall id z.0 z.1) (λ i. (sym t.0 i, t.1 i)) none)
+    (at_end others last k c (sym (ap (λ z. get_elem? z c) is) ∙ at))

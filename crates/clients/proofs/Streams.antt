@@ -12,30 +12,37 @@ use Rattle.clients.specs.Workloads.{WorkCall, IsCall}
 use Rattle.seq_objects.specs.Kinds.{kind_in, kinds_of}
 use Rattle.clients.specs.Drawing.{draws_from, op_for, drawn_calls, pairs_from}
 
--- more: the calls so far; all: the calls from the stream on
-pub drawn_more : (kinds : Kinds) (m n left : ℕ) (s t : Stream) (d : Draws) (op : AnyOp) (so_far all : List WorkCall)
-    → n ≡ suc left → (d, t) ≡ draws_from m s → op ≡ op_for (kind_in kinds d.object) d
-    → so_far ++ drawn_calls kinds m n s ≡ all → (so_far ++ (d.object, op) ∷ []) ++ drawn_calls kinds m left t ≡ all
-drawn_more kinds m n left s t d op so_far all one_less e op_is is =
-    append_assoc so_far ((d.object, op) ∷ []) (drawn_calls kinds m left t)
-    ∙ ap (λ (o : AnyOp). so_far ++ (d.object, o) ∷ drawn_calls kinds m left t) op_is
+-- one call is drawn: the calls so far and those that the stream still gives are as before
+pub drawn_more : (kinds : Kinds) (objects calls left : ℕ) (stream rest : Stream) (draws : Draws) (op : AnyOp)
+    (so_far all : List WorkCall)
+    → calls ≡ suc left → (draws, rest) ≡ draws_from objects stream → op ≡ op_for (kind_in kinds draws.object) draws
+    → so_far ++ drawn_calls kinds objects calls stream ≡ all
+    → (so_far ++ (draws.object, op) ∷ []) ++ drawn_calls kinds objects left rest ≡ all
+drawn_more kinds objects calls left stream rest draws op so_far all one_less e op_is is =
+    append_assoc so_far ((draws.object, op) ∷ []) (drawn_calls kinds objects left rest)
+    ∙ ap (λ (o : AnyOp). so_far ++ (draws.object, o) ∷ drawn_calls kinds objects left rest) op_is
     ∙ ap (λ (p : Draws × Stream). so_far ++ (p.0.object, op_for (kind_in kinds p.0.object) p.0)
-    ∷ drawn_calls kinds m left p.1) e
-    ∙ ap (λ (k : ℕ). so_far ++ drawn_calls kinds m k s) (sym one_less) ∙ is
+    ∷ drawn_calls kinds objects left p.1) e
+    ∙ ap (λ (k : ℕ). so_far ++ drawn_calls kinds objects k stream) (sym one_less) ∙ is
 
-pub pair_more : (take free : AnyOp) (m n left : ℕ) (s t u : Stream) (d e : Draws) (so_far all : List WorkCall)
-    → n ≡ suc left → (d, t) ≡ draws_from m s → (e, u) ≡ draws_from m t
-    → so_far ++ pairs_from take free m n s ≡ all
-    → ((so_far ++ (d.object, take) ∷ []) ++ (d.object, free) ∷ []) ++ pairs_from take free m left u ≡ all
-pair_more take free m n left s t u d e so_far all one_less first second is =
-    append_assoc (so_far ++ (d.object, take) ∷ []) ((d.object, free) ∷ []) (pairs_from take free m left u)
-    ∙ append_assoc so_far ((d.object, take) ∷ []) ((d.object, free) ∷ pairs_from take free m left u)
-    ∙ ap (λ (p : Draws × Stream). so_far ++ (d.object, take) ∷ (d.object, free) ∷ pairs_from take free m left p.1)
+-- two calls on one object are drawn: the calls so far and those that the stream still gives are as before
+pub pair_more : (take free : AnyOp) (objects pairs left : ℕ) (stream between rest : Stream) (draws others : Draws)
+    (so_far all : List WorkCall)
+    → pairs ≡ suc left → (draws, between) ≡ draws_from objects stream → (others, rest) ≡ draws_from objects between
+    → so_far ++ pairs_from take free objects pairs stream ≡ all
+    → ((so_far ++ (draws.object, take) ∷ []) ++ (draws.object, free) ∷ []) ++ pairs_from take free objects left rest
+    ≡ all
+pair_more take free objects pairs left stream between rest draws others so_far all one_less first second is =
+    append_assoc (so_far ++ (draws.object, take) ∷ []) ((draws.object, free) ∷ [])
+    (pairs_from take free objects left rest)
+    ∙ append_assoc so_far ((draws.object, take) ∷ []) ((draws.object, free) ∷ pairs_from take free objects left rest)
+    ∙ ap (λ (p : Draws × Stream). so_far ++ (draws.object, take) ∷ (draws.object, free)
+    ∷ pairs_from take free objects left p.1)
     second
     ∙ ap (λ (p : Draws × Stream). so_far ++ (p.0.object, take) ∷ (p.0.object, free)
-    ∷ pairs_from take free m left (draws_from m p.1).1)
+    ∷ pairs_from take free objects left (draws_from objects p.1).1)
     first
-    ∙ ap (λ (k : ℕ). so_far ++ pairs_from take free m k s) (sym one_less) ∙ is
+    ∙ ap (λ (k : ℕ). so_far ++ pairs_from take free objects k stream) (sym one_less) ∙ is
 
 -- a call on one of the objects, of its kind
 pub is_call : (kinds : Kinds) (m x : ℕ) (op : AnyOp) → x < m → kind_of op ≡ kind_in kinds x

@@ -21,32 +21,42 @@ pub record HasMade (cs : List WorkCall) (v w : DeskView) : Type 0 where
   pub journal : journal w ≡ journal v ++ events
   pub made : AreCallsMade cs events
 
--- one call more
-made_more : (cs : List WorkCall) (c : WorkCall) (es : List AnyEvent) (t u : ℕ) (a : AnyAnswer) → AreCallsMade cs es
-    → AreCallsMade (cs ++ c ∷ []) (es ++ Invoked t c.0 c.1 ∷ Returned u a ∷ [])
-made_more [] c es t u a made = (t, u, a, [], ap (λ z. z ++ Invoked t c.0 c.1 ∷ Returned u a ∷ []) made, refl)
-made_more (d ∷ cs) c es t u a (t', u', b, rest, is, made) = (
+-- the calls of a list are made by events, and one call more by its invocation and its return after these
+made_more : (cs : List WorkCall) (call : WorkCall) (events : List AnyEvent) (invoked returned : ℕ) (answer : AnyAnswer)
+    → AreCallsMade cs events
+    → AreCallsMade (cs ++ call ∷ []) (events ++ Invoked invoked call.0 call.1 ∷ Returned returned answer ∷ [])
+made_more [] call events invoked returned answer made = (
+  invoked,
+  returned,
+  answer,
+  [],
+  ap (λ z. z ++ Invoked invoked call.0 call.1 ∷ Returned returned answer ∷ []) made,
+  refl,
+)
+made_more (d ∷ cs) call events invoked returned answer (t', u', b, rest, is, made) = (
   t',
   u',
   b,
-  rest ++ Invoked t c.0 c.1 ∷ Returned u a ∷ [],
-  ap (λ z. z ++ Invoked t c.0 c.1 ∷ Returned u a ∷ []) is,
-  made_more cs c rest t u a made,
+  rest ++ Invoked invoked call.0 call.1 ∷ Returned returned answer ∷ [],
+  ap (λ z. z ++ Invoked invoked call.0 call.1 ∷ Returned returned answer ∷ []) is,
+  made_more cs call rest invoked returned answer made,
 )
 
-pub one_made : (cs : List WorkCall) (c : WorkCall) (v w x : DeskView) (a : AnyAnswer) → HasMade cs v w
-    → IsCallOver w c.0 c.1 a x
-    → HasMade (cs ++ c ∷ []) v x
-one_made cs c v w x a k d = let n = k.calls in let m = d.calls in record {
-  number = d.number ∙ k.number;
-  kinds = d.kinds ∙ k.kinds;
-  idle = d.idle;
-  calls = omega (arith, length-append cs (c ∷ []));
-  events = k.events ++ Invoked d.invoked c.0 c.1 ∷ Returned d.returned a ∷ [];
-  journal = d.journal
-      ∙ (ap (λ z. z ++ Invoked d.invoked c.0 c.1 ∷ Returned d.returned a ∷ []) k.journal
-      ∙ append_assoc (journal v) k.events (Invoked d.invoked c.0 c.1 ∷ Returned d.returned a ∷ []));
-  made = made_more cs c k.events d.invoked d.returned a k.made;
+-- an idle client that made calls and then one call more has made them all
+pub one_made : (cs : List WorkCall) (call : WorkCall) (start before after : DeskView) (answer : AnyAnswer)
+    → HasMade cs start before → IsCallOver before call.0 call.1 answer after
+    → HasMade (cs ++ call ∷ []) start after
+one_made cs call start before after answer so_far over = record {
+  number = over.number ∙ so_far.number;
+  kinds = over.kinds ∙ so_far.kinds;
+  idle = over.idle;
+  calls = omega (arith, so_far.calls, over.calls, length-append cs (call ∷ []));
+  events = so_far.events ++ Invoked over.invoked call.0 call.1 ∷ Returned over.returned answer ∷ [];
+  journal = over.journal
+      ∙ (ap (λ z. z ++ Invoked over.invoked call.0 call.1 ∷ Returned over.returned answer ∷ []) so_far.journal
+      ∙ append_assoc (journal start) so_far.events (Invoked over.invoked call.0 call.1 ∷ Returned over.returned answer
+      ∷ []));
+  made = made_more cs call so_far.events over.invoked over.returned answer so_far.made;
 }
 
 parts : {A : Type 0} (l : List A) (i : ℕ) (d : A) → i < length l → l ≡ take i l ++ get_or l i d ∷ drop (suc i) l
@@ -55,24 +65,26 @@ parts (x ∷ xs) zero d h = refl
 parts (x ∷ xs) (suc i) d h = ap (λ z. x ∷ z) (parts xs i d (omega arith))
 
 -- the call i is outstanding, after those that were made
-pub stopped : (cs : List WorkCall) (i : ℕ) (none : WorkCall) (v w x : DeskView) → i < length cs
-    → HasMade (take i cs) v w
-    → IsStillOutstanding w (get_or cs i none).0 (get_or cs i none).1 x → HasMadeCalls cs v x
-stopped cs i none v w x low k o = let u : DeskView = o.0 in let p = o.1 in let c : WorkCall = get_or cs i none in
+pub stopped : (cs : List WorkCall) (i : ℕ) (none : WorkCall) (start before after : DeskView) → i < length cs
+    → HasMade (take i cs) start before
+    → IsStillOutstanding before (get_or cs i none).0 (get_or cs i none).1 after → HasMadeCalls cs start after
+stopped cs i none start before after low so_far still =
+    let p = still.1 in
+    let call : WorkCall = get_or cs i none in
     record {
-      number = o.2.number ∙ (ap (λ z. z.number) p.knows ∙ k.number);
-      kinds = o.2.kinds ∙ (ap (λ z. z.kinds) p.knows ∙ k.kinds);
-      events = k.events ++ Invoked p.ticket c.0 c.1 ∷ [];
-      journal = (λ j. journal_of (o.2.done j) (own_request (o.2.own j)))
-          ∙ (p.journal ∙ (ap (λ z. z ++ Invoked p.ticket c.0 c.1 ∷ []) k.journal
-          ∙ append_assoc (journal v) k.events (Invoked p.ticket c.0 c.1 ∷ [])));
+      number = still.2.number ∙ (ap (λ z. z.number) p.knows ∙ so_far.number);
+      kinds = still.2.kinds ∙ (ap (λ z. z.kinds) p.knows ∙ so_far.kinds);
+      events = so_far.events ++ Invoked p.ticket call.0 call.1 ∷ [];
+      journal = (λ j. journal_of (still.2.done j) (own_request (still.2.own j)))
+          ∙ (p.journal ∙ (ap (λ z. z ++ Invoked p.ticket call.0 call.1 ∷ []) so_far.journal
+          ∙ append_assoc (journal start) so_far.events (Invoked p.ticket call.0 call.1 ∷ [])));
       made = inr record {
         front = take i cs;
-        call = c;
+        call = call;
         later = drop (suc i) cs;
         calls = parts cs i none low;
-        events = k.events;
-        made = k.made;
+        events = so_far.events;
+        made = so_far.made;
         ticket = p.ticket;
         last = refl;
       };

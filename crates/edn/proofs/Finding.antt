@@ -29,12 +29,14 @@ at_place key es i e bytes l is text b test =
     ap (λ ds. value_at key (entries_of (pair_views ds))) whole
     ∙ ap (λ t. cond t (Some (view e.1)) (value_at key (entries_of (pair_views (drop (i + 1) es))))) own
 
+-- the entry at hand has the key, and nothing before it had: its value is the value of the key in all entries
 pub found_here : (key : List ℕ) (es : List (Name × Form)) (i : ℕ) (e : Name × Form) → i < length es → e ≡ get_or es i e
     → value_at key (entries_of (pair_views (drop i es))) ≡ value_at key (entries_of (pair_views es))
     → (bytes : List ℕ) → bytes ≡ name_bytes e.0
     → true ≡ same_bytes key bytes → Some (view e.1) ≡ value_at key (entries_of (pair_views es))
 found_here key es i e l is left bytes text test = sym (at_place key es i e bytes l is text true test) ∙ left
 
+-- the entry at hand has another key: the value of the key in the entries after it is that in all entries
 pub passed_over : (key : List ℕ) (es : List (Name × Form)) (i : ℕ) (e : Name × Form) → i < length es → e ≡ get_or es i e
     → value_at key (entries_of (pair_views (drop i es))) ≡ value_at key (entries_of (pair_views es))
     → (bytes : List ℕ) → bytes ≡ name_bytes e.0

@@ -20,10 +20,11 @@ abbrev or_next : Option Datum → Bool → Datum → Option Datum
 or_next None b d = cond b (Some d) None
 or_next (Some x) b d = Some x
 
-or_next-cond : (b : Bool) (x : Datum) (o : Option Datum) (c : Bool) (d : Datum)
-    → cond b (Some x) (or_next o c d) ≡ or_next (cond b (Some x) o) c d
-or_next-cond true x o c d = refl
-or_next-cond false x o c d = refl
+-- what is found in an entry, or else in those after it with one more, is found in all of them with one more
+or_next-cond : (b : Bool) (here : Datum) (next : Option Datum) (shown : Bool) (left : Datum)
+    → cond b (Some here) (or_next next shown left) ≡ or_next (cond b (Some here) next) shown left
+or_next-cond true here next shown left = refl
+or_next-cond false here next shown left = refl
 
 value_at-more : (key l : List ℕ) (d : Datum) (before : List (List ℕ × Datum))
     → value_at key (entries_of (before ++ (l, d) ∷ []))
@@ -47,6 +48,7 @@ found_kept found key l d before n h =
     subst (IsValue found) (sym (value_at-more key l d before))
     (kept_by found (value_at key (entries_of before)) (same_bytes key l) d n h)
 
+-- where nothing was found before, the value at hand is taken if its key is the one
 taken_by : (value : List Piece) (o : Option Datum) (b : Bool) (d : Datum) (ts : List Token) → b ≡ true → IsValue [] o
     → token_buffer_tokens value ≡ tokens_of d ++ ts → IsValue value (or_next o b d)
 taken_by value None b d ts e h q = subst (λ (c : Bool). IsValue value (cond c (Some d) None)) (sym e) (ts, q)
@@ -89,6 +91,7 @@ WithPair v new name value =
     (before : List (List ℕ × Datum)) (d : Datum) (ts : List Token) → HasValues v (entries_of before)
     → token_buffer_tokens value ≡ tokens_of d ++ ts → HasValues new (entries_of (before ++ (name, d) ∷ []))
 
+-- a reader of a map that has put one pair more into its values has the entries after this pair left
 pub walk_goes_on : (es : Entries) (tokens after : List Token) (v new : OperationValues) (name : List ℕ)
     (value : List Piece)
     → tokens ≡ leaf (atom (keyword name)) ∷ token_buffer_tokens value → after ≡ after_one (token_buffer_tokens value)
@@ -131,6 +134,7 @@ walk_ends es tokens v n w = by_left w.left refl
 not_empty : (found : List Piece) (b : Bool) → false ≡ (length found == 0) → found ≡ [] → b ≡ false
 not_empty found b h e = let z : (length found == 0) ≡ true = ap (λ (f : List Piece). length f == 0) e in absurd cc
 
+-- a value that was found is still the first of its key after one entry more
 pub is_found : (found : List Piece) (key l : List ℕ) → false ≡ (length found == 0)
     → (before : List (List ℕ × Datum)) (d : Datum)
     → IsValue found (value_at key (entries_of before))
@@ -141,6 +145,7 @@ pub empty_is : (found : List Piece) → true ≡ (length found == 0) → found �
 empty_is [] h = refl
 empty_is (p ∷ ps) h = let z : length (p ∷ ps) ≡ 0 = eqb-true (length (p ∷ ps)) 0 (sym h) in absurd (omega arith)
 
+-- the value at hand is the first of its key, if nothing was found before and its key is the one
 pub is_taken : (found value : List Piece) (key l : List ℕ) → true ≡ (length found == 0) → true ≡ same_bytes key l
     → (before : List (List ℕ × Datum)) (d : Datum) (ts : List Token) → IsValue found (value_at key (entries_of before))
     → token_buffer_tokens value ≡ tokens_of d ++ ts → IsValue value (value_at key (entries_of (before ++ (l, d) ∷ [])))

@@ -45,6 +45,7 @@ grown vs c old new e low read is =
     items_of-set vs c new ∙ ap (set (items_of_each vs) c)
     (is ∙ ap (λ es. es ++ e ∷ []) (sym (items_at vs c old low read)))
 
+-- a journal that has the same events after a write changes nothing
 pub ungrown : {A Z : Type 0} (vs : List (Vec A Z)) (c : ℕ) (old new : Vec A Z) → c < length vs → old ≡ get_or vs c old
     → new.items ≡ old.items → items_of_each (set vs c new) ≡ items_of_each vs
 ungrown vs c old new low read is =

@@ -11,7 +11,7 @@ use Rattle.model.specs.Objects.{Content, empty, next, kind_of, kind_with}
 use Rattle.desk_model.specs.World as world
 use Rattle.model.specs.declared.AnyOp.{AnyOp}
 use Rattle.desk_model.specs.declared.JournalEvent.TheVariants.{Returned}
-use Rattle.desk_model.specs.World.{AnyRequest, AnyAnswer, AnyDone, AnyEvent, World, Stage, AnyEntry, kind_at, logged}
+use Rattle.desk_model.specs.World.{AnyRequest, AnyAnswer, AnyDone, AnyEvent, World, Stage, kind_at, logged}
 use Rattle.desk_model.specs.World.{Serves, request_of, invoked, calls_made, journal_of, journal_in, Replays}
 use Rattle.desk_model.specs.Transitions.{Step, Takes, Transition, MayEnd, HoldsNothing, changed, staged, ticked}
 use Rattle.desk_model.specs.Transitions.{held_by, handed, served_by, draw_call, draw_return, answer, win, release, end}
@@ -27,22 +27,27 @@ use Rattle.machine.proofs.Journals.{done_in-journal_of, journal_called, journal_
 
 -- ---- runs that are one transition longer
 
-leads_more : (kinds : List Kind) (quota : ℕ) (w : World) (ms : List (ℕ × Step)) (m : ℕ × Step) (between after : World)
-    → Leads kinds quota w ms between → Transition kinds quota m.1 between m.0 after
-    → Leads kinds quota w (ms ++ m ∷ []) after
-leads_more kinds quota w [] m between after l h = (after, subst (λ z. Transition kinds quota m.1 z m.0 after) l h, refl)
-leads_more kinds quota w (n ∷ ns) m between after l h = (l.0, l.1, leads_more kinds quota l.0 ns m between after l.2 h)
+-- steps that lead to a world, and a transition from it, lead on
+leads_more : (kinds : List Kind) (quota : ℕ) (start : World) (steps : List (ℕ × Step)) (last : ℕ × Step)
+    (between after : World) → Leads kinds quota start steps between → Transition kinds quota last.1 between last.0 after
+    → Leads kinds quota start (steps ++ last ∷ []) after
+leads_more kinds quota start [] last between after leads moves =
+    (after, subst (λ z. Transition kinds quota last.1 z last.0 after) leads moves, refl)
+leads_more kinds quota start (first ∷ rest) last between after leads moves =
+    (leads.0, leads.1, leads_more kinds quota leads.0 rest last between after leads.2 moves)
 
 -- one more transition of a run
-pub run_more : (kinds : List Kind) (n quota : ℕ) (step : Step) (w after : World) (c : ℕ)
-    → IsWorldOfRun kinds n quota w → Transition kinds quota step w c after → IsWorldOfRun kinds n quota after
-run_more kinds n quota step w after c r h =
-    (r.0 ++ (c, step) ∷ [], leads_more kinds quota _ r.0 (c, step) w after r.1 h)
+pub run_more : (kinds : List Kind) (n quota : ℕ) (step : Step) (before after : World) (client : ℕ)
+    → IsWorldOfRun kinds n quota before → Transition kinds quota step before client after
+    → IsWorldOfRun kinds n quota after
+run_more kinds n quota step before after client run moves =
+    (run.0 ++ (client, step) ∷ [], leads_more kinds quota _ run.0 (client, step) before after run.1 moves)
 
 -- a step of a machine is one
-pub run_taken : (s s' : State) (c : ℕ) (w : Step) → HasRun s → IsStepTaken s c w s' → HasRun s'
-run_taken s s' c w run t = rw (t.kinds, t.clients, t.quota)
-    (run_more s.kinds (clients_of s) s.quota w (world_of s) (world_of s') c run t.moves)
+pub run_taken : (state after : State) (client : ℕ) (step : Step) → HasRun state → IsStepTaken state client step after
+    → HasRun after
+run_taken state after client step run taken = rw (taken.kinds, taken.clients, taken.quota)
+    (run_more state.kinds (clients_of state) state.quota step (world_of state) (world_of after) client run taken.moves)
 
 -- a client that is there has come
 named : (t : AnyStage) → stage_of t ≢ world.absent
@@ -80,16 +85,20 @@ Leaves contents s c w s' = IsMachine contents s' × IsStepTaken s c w s'
 
 module _ {contents : List Content} {s : State} (m : IsMachine contents s) (c : ℕ) (go : IsGoing s c) where
   -- what a client that is going takes is a transition
-  moves_on : (w : Step) (after : World) → Takes s.kinds s.quota w (world_of s) c after
-      → Transition s.kinds s.quota w (world_of s) c after
-  moves_on w after t = let low = go.0 in let few = m.few_clients in (omega arith, go.1, is_there s.stages c low, t)
+  moves_on : (step : Step) (after : World) → Takes s.kinds s.quota step (world_of s) c after
+      → Transition s.kinds s.quota step (world_of s) c after
+  moves_on step after takes =
+      let low = go.0 in
+      let few = m.few_clients in
+      (omega arith, go.1, is_there s.stages c low, takes)
 
-  kept : (w : Step) {contents' : List Content} {s' : State} {after : World} → world_of s' ≡ after
-      → Takes s.kinds s.quota w (world_of s) c after → IsLike s s' → Keeps contents' s' → Leaves contents' s c w s'
-  kept w {contents'} {s'} is takes like keeps =
-      let moved : Transition s.kinds s.quota w (world_of s) c (world_of s') = rw is (moves_on w _ takes) in
+  kept : (step : Step) {contents' : List Content} {s' : State} {after : World} → world_of s' ≡ after
+      → Takes s.kinds s.quota step (world_of s) c after → IsLike s s' → Keeps contents' s'
+      → Leaves contents' s c step s'
+  kept step {contents'} {s'} is takes like keeps =
+      let moved : Transition s.kinds s.quota step (world_of s) c (world_of s') = rw is (moves_on step _ takes) in
       let same_kinds : length s'.kinds ≡ length s.kinds = ap (λ (ks : List Kind). length ks) like.kinds in
-      let run = run_more s.kinds (clients_of s) s.quota w (world_of s) (world_of s') c m.run moved in (
+      let run = run_more s.kinds (clients_of s) s.quota step (world_of s) (world_of s') c m.run moved in (
         record {
           kinds = keeps.kinds;
           logs = like.logs ∙ m.logs ∙ sym same_kinds;
@@ -108,23 +117,23 @@ module _ {contents : List Content} {s : State} (m : IsMachine contents s) (c : �
         record { moves = moved; kinds = like.kinds; clients = like.stages; quota = like.quota },
       )
 
-  -- Where only the stage of r is written, and its request stays, the journals are those of the world.
-  journals_stay : (s' : State) (r : ℕ) (t : Stage) → (world_of s').stage ≡ changed (world_of s).stage r t
-      → request_of t ≡ request_of ((world_of s).stage r) → (j : ℕ)
+  -- Where only the stage of one row is written, and its request stays, the journals are those of the world.
+  journals_stay : (s' : State) (row : ℕ) (t : Stage) → (world_of s').stage ≡ changed (world_of s).stage row t
+      → request_of t ≡ request_of ((world_of s).stage row) → (j : ℕ)
       → get_or s.journals j [] ≡ journal_of (done_in (get_or s.journals j [])) (request_of ((world_of s').stage j))
-  journals_stay s' r t is same j = m.journals_are j ∙ ap (journal_of (done_in (get_or s.journals j [])))
-      (changed_all (λ k v. request_of ((world_of s).stage k) ≡ request_of v) (world_of s).stage r t (sym same)
+  journals_stay s' row t is same j = m.journals_are j ∙ ap (journal_of (done_in (get_or s.journals j [])))
+      (changed_all (λ k v. request_of ((world_of s).stage k) ≡ request_of v) (world_of s).stage row t (sym same)
       (λ k _. refl) j ∙ ap (λ (f : ℕ → Stage). request_of (f j)) (sym is))
 
   -- ---- the steps that write a stage, a holder or an end
 
   -- A client only goes to another stage, with the same request.
-  pub staged_now : (t : AnyStage) (w : Step)
-      → Takes s.kinds s.quota w (world_of s) c (staged (world_of s) c (stage_of t))
+  pub staged_now : (t : AnyStage) (step : Step)
+      → Takes s.kinds s.quota step (world_of s) c (staged (world_of s) c (stage_of t))
       → request_of (stage_of t) ≡ request_of ((world_of s).stage c)
-      → Leaves contents s c w (record s { stages = set s.stages c t })
-  staged_now t w takes same =
-      let is = world-staged s c t go.0 in kept w is takes (assumption (length-set s.stages c t)) (record {
+      → Leaves contents s c step (record s { stages = set s.stages c t })
+  staged_now t step takes same =
+      let is = world-staged s c t go.0 in kept step is takes (assumption (length-set s.stages c t)) (record {
         kinds = m.kinds;
         fits = m.fits;
         single = m.single;
@@ -133,71 +142,80 @@ module _ {contents : List Content} {s : State} (m : IsMachine contents s) (c : �
       })
 
   -- An object goes to another holder, or to none.
-  pub held_now : (x : ℕ) (h : Option ℕ) (w : Step) → x < length s.holders
-      → Takes s.kinds s.quota w (world_of s) c (held_by (world_of s) x h)
-      → ((d y z : ℕ) → changed (λ k. get_or s.holders k None) x h y ≡ Some d
-      → changed (λ k. get_or s.holders k None) x h z ≡ Some d → y ≡ z)
-      → Leaves contents s c w (record s { holders = set s.holders x h })
-  held_now x h w low takes single =
-      kept w (world-held s x h low) takes (assumption (length-set s.holders x h)) (record {
+  pub held_now : (object : ℕ) (holder : Option ℕ) (step : Step) → object < length s.holders
+      → Takes s.kinds s.quota step (world_of s) c (held_by (world_of s) object holder)
+      → ((d y z : ℕ) → changed (λ k. get_or s.holders k None) object holder y ≡ Some d
+      → changed (λ k. get_or s.holders k None) object holder z ≡ Some d → y ≡ z)
+      → Leaves contents s c step (record s { holders = set s.holders object holder })
+  held_now object holder step low takes single =
+      kept step (world-held s object holder low) takes (assumption (length-set s.holders object holder)) (record {
         kinds = m.kinds;
         fits = m.fits;
         journals_are = m.journals_are;
-        single = λ d y z a b. single d y z (sym (get_or-set s.holders x h None low y) ∙ a)
-            (sym (get_or-set s.holders x h None low z) ∙ b);
+        single = λ d y z a b. single d y z (sym (get_or-set s.holders object holder None low y) ∙ a)
+            (sym (get_or-set s.holders object holder None low z) ∙ b);
       })
 
-  pub win_now : (x : ℕ) → x < length s.kinds → (world_of s).holder x ≡ None → HoldsNothing (world_of s) c
-      → Leaves contents s c (win x) (record s { holders = set s.holders x (Some c) })
-  win_now x low free nothing = let e = m.holders in held_now x (Some c) (win x) (omega arith)
+  pub win_now : (object : ℕ) → object < length s.kinds → (world_of s).holder object ≡ None → HoldsNothing (world_of s) c
+      → Leaves contents s c (win object) (record s { holders = set s.holders object (Some c) })
+  win_now object low free nothing = let e = m.holders in held_now object (Some c) (win object) (omega arith)
       (record { on_object = low; free = free; holds_nothing = nothing; after = refl }) single
     where
       f : ℕ → Option ℕ
       f k = get_or s.holders k None
 
-      single : (d y z : ℕ) → changed f x (Some c) y ≡ Some d → changed f x (Some c) z ≡ Some d → y ≡ z
+      single : (d y z : ℕ) → changed f object (Some c) y ≡ Some d → changed f object (Some c) z ≡ Some d → y ≡ z
       single d y z a b = grind (
         arith,
-        changed_here f x (Some c),
-        changed_else f x (Some c) y,
-        changed_else f x (Some c) z,
+        changed_here f object (Some c),
+        changed_else f object (Some c) y,
+        changed_else f object (Some c) z,
         nothing y,
         nothing z,
         m.single d y z,
       )
 
-  pub release_now : (x : ℕ) → x < length s.kinds → (world_of s).holder x ≡ Some c → (world_of s).hand x ≡ None
-      → Leaves contents s c release (record s { holders = set s.holders x None })
-  release_now x low held hand = let e = m.holders in held_now x None release (omega arith)
-      (record { object = x; held = held; free = hand; after = refl }) single
+  pub release_now : (object : ℕ) → object < length s.kinds → (world_of s).holder object ≡ Some c
+      → (world_of s).hand object ≡ None → Leaves contents s c release (record s { holders = set s.holders object None })
+  release_now object low held hand = let e = m.holders in held_now object None release (omega arith)
+      (record { object = object; held = held; free = hand; after = refl }) single
     where
       f : ℕ → Option ℕ
       f k = get_or s.holders k None
 
-      single : (d y z : ℕ) → changed f x None y ≡ Some d → changed f x None z ≡ Some d → y ≡ z
+      single : (d y z : ℕ) → changed f object None y ≡ Some d → changed f object None z ≡ Some d → y ≡ z
       single d y z a b =
-          grind (arith, changed_here f x None, changed_else f x None y, changed_else f x None z, m.single d y z)
+          grind (
+            arith,
+            changed_here f object None,
+            changed_else f object None y,
+            changed_else f object None z,
+            m.single d y z,
+          )
 
   pub end_now : MayEnd ((world_of s).stage c) → HoldsNothing (world_of s) c
       → Leaves contents s c end (record s { ended = set s.ended c true })
   end_now may nothing =
-      let low = go.0 in let long = m.ended in
+      let low = go.0 in
+      let long = m.ended in
       kept end (world-ended s c (omega arith)) (record { may_end = may; holds_nothing = nothing; after = refl })
       (assumption (length-set s.ended c true)) assumption
 
   -- ---- the steps that draw a ticket
 
   -- what a draw leaves: each journal is that of the world
-  ticked_now : (t : AnyStage) (js : List AnyEvent) (w : Step)
-      → Takes s.kinds s.quota w (world_of s) c (ticked (world_of s) c (stage_of t) (done_in js))
+  ticked_now : (t : AnyStage) (js : List AnyEvent) (step : Step)
+      → Takes s.kinds s.quota step (world_of s) c (ticked (world_of s) c (stage_of t) (done_in js))
       → js ≡ journal_of (done_in js) (request_of (stage_of t))
-      → Leaves contents s c w
+      → Leaves contents s c step
       (record s { clock = s.clock + 1; stages = set s.stages c t; journals = set s.journals c js })
-  ticked_now t js w takes here =
+  ticked_now t js step takes here =
       let s' : State = record s { clock = s.clock + 1; stages = set s.stages c t; journals = set s.journals c js } in
-      let low = go.0 in let long = m.journals in let within : c < length s.journals = omega arith in
+      let low = go.0 in
+      let long = m.journals in
+      let within : c < length s.journals = omega arith in
       let is : world_of s' ≡ ticked (world_of s) c (stage_of t) (done_in js) = world-ticked s c t js go.0 within in
-      kept w is takes (assumption (length-set s.stages c t, length-set s.journals c js))
+      kept step is takes (assumption (length-set s.stages c t, length-set s.journals c js))
       (record { kinds = m.kinds; fits = m.fits; single = m.single; journals_are = λ j. each s' is within j })
     where
       IsOwn : List AnyEvent → Stage → Type 0
@@ -214,133 +232,145 @@ module _ {contents : List Content} {s : State} (m : IsMachine contents s) (c : �
             changed_else (world_of s).stage c (stage_of t) j other,
           ) (m.journals_are j)))
 
-  pub call_now : (x : ℕ) (op : AnyOp) → (world_of s).stage c ≡ world.idle
-      → calls_made ((world_of s).done c) None < s.quota → x < length s.kinds → kind_of op ≡ kind_at s.kinds x
-      → let q : AnyRequest = record { object = x; ticket = s.clock; op = op } in let s' : State =
-      record s {
+  pub call_now : (object : ℕ) (op : AnyOp) → (world_of s).stage c ≡ world.idle
+      → calls_made ((world_of s).done c) None < s.quota → object < length s.kinds → kind_of op ≡ kind_at s.kinds object
+      → let request : AnyRequest = record { object = object; ticket = s.clock; op = op } in
+      let s' : State = record s {
         clock = s.clock + 1;
-        stages = set s.stages c (Drawn q);
-        journals = set s.journals c (get_or s.journals c [] ++ invoked q ∷ []);
+        stages = set s.stages c (Drawn request);
+        journals = set s.journals c (get_or s.journals c [] ++ invoked request ∷ []);
       } in
-      Leaves contents s c (draw_call x op) s'
-  call_now x op idle few low kind =
-      let q : AnyRequest = record { object = x; ticket = s.clock; op = op } in
+      Leaves contents s c (draw_call object op) s'
+  call_now object op idle few low kind =
+      let request : AnyRequest = record { object = object; ticket = s.clock; op = op } in
       let ds : List AnyDone = (world_of s).done c in
-      let js : List AnyEvent = get_or s.journals c [] ++ invoked q ∷ [] in
-      let whole : js ≡ journal_of ds (Some q) =
-      ap (λ es. es ++ invoked q ∷ []) (m.journals_are c ∙ ap (λ t. journal_of ds (request_of t)) idle)
-      ∙ journal_called ds q in
-      let over : done_in js ≡ ds = ap done_in whole ∙ done_in-journal_of ds (Some q) in
-      ticked_now (Drawn q) js (draw_call x op)
+      let js : List AnyEvent = get_or s.journals c [] ++ invoked request ∷ [] in
+      let whole : js ≡ journal_of ds (Some request) =
+      ap (λ es. es ++ invoked request ∷ []) (m.journals_are c ∙ ap (λ t. journal_of ds (request_of t)) idle)
+      ∙ journal_called ds request in
+      let over : done_in js ≡ ds = ap done_in whole ∙ done_in-journal_of ds (Some request) in
+      ticked_now (Drawn request) js (draw_call object op)
       (record {
         was = idle;
         calls_left = few;
         on_object = low;
         of_kind = kind;
-        after = ap (ticked (world_of s) c (world.drawn q)) over;
-      }) (whole ∙ ap (λ z. journal_of z (Some q)) (sym over))
+        after = ap (ticked (world_of s) c (world.drawn request)) over;
+      }) (whole ∙ ap (λ z. journal_of z (Some request)) (sym over))
 
-  pub return_now : (q : AnyRequest) (a : AnyAnswer) → (world_of s).stage c ≡ world.taken q a
+  pub return_now : (request : AnyRequest) (given : AnyAnswer) → (world_of s).stage c ≡ world.taken request given
       → let s' : State = record s {
         clock = s.clock + 1;
         stages = set s.stages c Idle;
-        journals = set s.journals c (get_or s.journals c [] ++ Returned s.clock a ∷ []);
+        journals = set s.journals c (get_or s.journals c [] ++ Returned s.clock given ∷ []);
       } in
       Leaves contents s c draw_return s'
-  return_now q a taken =
+  return_now request given taken =
       let ds : List AnyDone = (world_of s).done c in
-      let es : List AnyDone = ds ++ record { request = q; answer = a; returned = s.clock } ∷ [] in
-      let js : List AnyEvent = get_or s.journals c [] ++ Returned s.clock a ∷ [] in
+      let es : List AnyDone = ds ++ record { request = request; answer = given; returned = s.clock } ∷ [] in
+      let js : List AnyEvent = get_or s.journals c [] ++ Returned s.clock given ∷ [] in
       let whole : js ≡ journal_of es None =
-      ap (λ es. es ++ Returned s.clock a ∷ []) (m.journals_are c ∙ ap (λ t. journal_of ds (request_of t)) taken)
-      ∙ journal_returned ds q a s.clock in
+      ap (λ es. es ++ Returned s.clock given ∷ []) (m.journals_are c ∙ ap (λ t. journal_of ds (request_of t)) taken)
+      ∙ journal_returned ds request given s.clock in
       let over : done_in js ≡ es = ap done_in whole ∙ done_in-journal_of es None in
       ticked_now Idle js draw_return
-      (record { request = q; given = a; was = taken; after = ap (ticked (world_of s) c world.idle) over })
+      (record { request = request; given = given; was = taken; after = ap (ticked (world_of s) c world.idle) over })
       (whole ∙ ap (λ z. journal_of z None) (sym over))
 
   -- ---- picking a request up, putting it back and answering it
 
   -- A request is picked up or put back.
-  pub handed_now : (x : ℕ) (h : Option ℕ) (r : ℕ) (t : AnyStage) (w : Step) → x < length s.kinds → r < length s.stages
-      → Takes s.kinds s.quota w (world_of s) c (handed (world_of s) x h r (stage_of t))
-      → request_of (stage_of t) ≡ request_of ((world_of s).stage r)
-      → Leaves contents s c w (record s { hands = set s.hands x h; stages = set s.stages r t })
-  handed_now x h r t w low within takes same =
-      let s' : State = record s { hands = set s.hands x h; stages = set s.stages r t } in
-      let long = m.hands in let is = world-handed s x h r t (omega arith) within in
-      kept w is takes (assumption (length-set s.hands x h, length-set s.stages r t)) (record {
+  pub handed_now : (object : ℕ) (hand : Option ℕ) (row : ℕ) (t : AnyStage) (step : Step) → object < length s.kinds
+      → row < length s.stages
+      → Takes s.kinds s.quota step (world_of s) c (handed (world_of s) object hand row (stage_of t))
+      → request_of (stage_of t) ≡ request_of ((world_of s).stage row)
+      → Leaves contents s c step (record s { hands = set s.hands object hand; stages = set s.stages row t })
+  handed_now object hand row t step low within takes same =
+      let s' : State = record s { hands = set s.hands object hand; stages = set s.stages row t } in
+      let long = m.hands in
+      let is = world-handed s object hand row t (omega arith) within in
+      kept step is takes (assumption (length-set s.hands object hand, length-set s.stages row t)) (record {
         kinds = m.kinds;
         fits = m.fits;
         single = m.single;
-        journals_are = journals_stay s' r (stage_of t) (ap (λ (z : World). z.stage) is) same;
+        journals_are = journals_stay s' row (stage_of t) (ap (λ (z : World). z.stage) is) same;
       })
 
   -- The client answers the request in hand: the object contains what the operation leaves, and the log has the answer.
-  pub served_now : (x r : ℕ) (q : AnyRequest) (before after : Content) (a : AnyAnswer)
-      → slice_get contents x ≡ Some before → x < length s.kinds
-      → r < length s.stages → kind_at s.kinds x ≡ kind_with before → kind_with after ≡ kind_with before
-      → (world_of s).holder x ≡ Some c → (world_of s).hand x ≡ Some r → (world_of s).stage r ≡ world.picked q
-      → IsSome (next before q.op) → Serves before q.op a after
+  pub served_now : (object row : ℕ) (request : AnyRequest) (before after : Content) (given : AnyAnswer)
+      → slice_get contents object ≡ Some before → object < length s.kinds
+      → row < length s.stages → kind_at s.kinds object ≡ kind_with before → kind_with after ≡ kind_with before
+      → (world_of s).holder object ≡ Some c → (world_of s).hand object ≡ Some row
+      → (world_of s).stage row ≡ world.picked request
+      → IsSome (next before request.op) → Serves before request.op given after
       → let s' : State = record s {
-        logs = set s.logs x (get_or s.logs x [] ++ logged r q a);
-        hands = set s.hands x None;
-        stages = set s.stages r (Answered q a);
+        logs = set s.logs object (get_or s.logs object [] ++ logged row request given);
+        hands = set s.hands object None;
+        stages = set s.stages row (Answered request given);
       } in
-      Leaves (set contents x after) s c answer s'
-  served_now x r q before after a at low within kind same held hand stage can serves =
+      Leaves (set contents object after) s c answer s'
+  served_now object row request before after given at low within kind same held hand stage can serves =
       let s' : State = record s {
-        logs = set s.logs x (get_or s.logs x [] ++ logged r q a);
-        hands = set s.hands x None;
-        stages = set s.stages r (Answered q a);
+        logs = set s.logs object (get_or s.logs object [] ++ logged row request given);
+        hands = set s.hands object None;
+        stages = set s.stages row (Answered request given);
       } in
-      let hands_long = m.hands in let logs_long = m.logs in
-      let there : x < length s.logs = omega arith in
+      let hands_long = m.hands in
+      let logs_long = m.logs in
+      let there : object < length s.logs = omega arith in
       -- the new world is that of an answered request
-      let is : world_of s' ≡ served_by (world_of s) x r q a = world-served s x r q a (omega arith) there within in
+      let is : world_of s' ≡ served_by (world_of s) object row request given =
+      world-served s object row request given (omega arith) there within in
       -- the log of the object replays to what it contains
-      let replays : Replays (empty (kind_at s.kinds x)) (get_or s.logs x []) before =
-      subst (λ (k : Kind). Replays (empty k) (get_or s.logs x []) before) (sym kind) (m.fits x before at) in
+      let replays : Replays (empty (kind_at s.kinds object)) (get_or s.logs object []) before =
+      subst (λ (k : Kind). Replays (empty k) (get_or s.logs object []) before) (sym kind) (m.fits object before at) in
       kept answer is
       -- the step is an answer to the request in hand
       (record {
-        object = x;
-        row = r;
-        request = q;
+        object = object;
+        row = row;
+        request = request;
         content = before;
         left = after;
-        given = a;
+        given = given;
         in_hand = (held, hand, stage, replays);
         possible = can;
         serves = serves;
         after = refl;
       })
       (assumption (
-        length-set s.logs x (get_or s.logs x [] ++ logged r q a),
-        length-set s.hands x None,
-        length-set s.stages r (Answered q a),
+        length-set s.logs object (get_or s.logs object [] ++ logged row request given),
+        length-set s.hands object None,
+        length-set s.stages row (Answered request given),
       ))
       -- the new state keeps what a machine has to keep
       (record {
-        kinds = m.kinds ∙ sym (map-set_same_at kind_with contents x after before at same);
-        fits = fits_served x r q before after a at there kind same
-            (replays_more (empty (kind_with before)) before after (get_or s.logs x []) r q a
-            (m.fits x before at) serves);
+        kinds = m.kinds ∙ sym (map-set_same_at kind_with contents object after before at same);
+        fits = fits_served object row request before after given at there kind same
+            (replays_more (empty (kind_with before)) before after (get_or s.logs object []) row request given
+            (m.fits object before at) serves);
         single = m.single;
-        journals_are = journals_stay s' r (world.answered q a) (ap (λ (z : World). z.stage) is)
+        journals_are = journals_stay s' row (world.answered request given) (ap (λ (z : World). z.stage) is)
             (ap request_of (sym stage));
       })
     where
-      fits_served : (x r : ℕ) (q : AnyRequest) (before after : Content) (a : AnyAnswer)
-          → slice_get contents x ≡ Some before → x < length s.logs
-          → kind_at s.kinds x ≡ kind_with before → kind_with after ≡ kind_with before
-          → Replays (empty (kind_with before)) (get_or s.logs x [] ++ logged r q a) after
-          → (y : ℕ) (d : Content) → slice_get (set contents x after) y ≡ Some d
-          → Replays (empty (kind_with d)) (get_or (set s.logs x (get_or s.logs x [] ++ logged r q a)) y []) d
-      fits_served x r q before after a at there kind same whole y d e = dite (ℕ_discrete y x)
+      fits_served : (object row : ℕ) (request : AnyRequest) (before after : Content) (given : AnyAnswer)
+          → slice_get contents object ≡ Some before → object < length s.logs
+          → kind_at s.kinds object ≡ kind_with before → kind_with after ≡ kind_with before
+          → Replays (empty (kind_with before)) (get_or s.logs object [] ++ logged row request given) after
+          → (y : ℕ) (d : Content) → slice_get (set contents object after) y ≡ Some d
+          → Replays (empty (kind_with d))
+          (get_or (set s.logs object (get_or s.logs object [] ++ logged row request given)) y []) d
+      fits_served object row request before after given at there kind same whole y d e = dite (ℕ_discrete y object)
           (λ yx. let here : after ≡ d =
-          same_Some after d (sym (slice_get-set_same contents x after before at)
-          ∙ ap (slice_get (set contents x after)) (sym yx) ∙ e) in
-          rw (← here, yx, same, get_or-set_same s.logs x (get_or s.logs x [] ++ logged r q a) [] there) whole)
-          (λ yo. rw (get_or-set_other s.logs x y (get_or s.logs x [] ++ logged r q a) [] yo)
-          (m.fits y d (sym (slice_get-set_other contents x after y yo) ∙ e)))
+          same_Some after d (sym (slice_get-set_same contents object after before at)
+          ∙ ap (slice_get (set contents object after)) (sym yx) ∙ e) in
+          rw (
+            ← here,
+            yx,
+            same,
+            get_or-set_same s.logs object (get_or s.logs object [] ++ logged row request given) []
+                there,
+          ) whole)
+          (λ yo. rw (get_or-set_other s.logs object y (get_or s.logs object [] ++ logged row request given) [] yo)
+          (m.fits y d (sym (slice_get-set_other contents object after y yo) ∙ e)))

@@ -74,31 +74,33 @@ no_request : (b : Bool) → request_of (if b then world.idle else world.absent) 
 no_request true = refl
 no_request false = refl
 
-pub machine_start : (contents : List Content) (m quota : ℕ) → length contents < 17 → m < 33 → quota < 10001
+-- a machine begins with empty objects, up to 16 of them, up to 32 clients, and room for 10,000 calls of each
+pub machine_start : (contents : List Content) (clients quota : ℕ) → length contents < 17 → clients < 33 → quota < 10001
     → ((x : ℕ) (c : Content) → slice_get contents x ≡ Some c → c ≡ empty (kind_with c))
-    → IsMachine contents (start_state (map kind_with contents) (length contents) m quota)
-machine_start contents m quota few_objects few_clients few_calls empties =
-    let n = length contents in
-    let s = start_state (map kind_with contents) n m quota in
-    let is : world_of s ≡ start_world m = world-start (map kind_with contents) n m quota in
-    let kinds_long : length (map kind_with contents) ≡ n = simp length-map in
+    → IsMachine contents (start_state (map kind_with contents) (length contents) clients quota)
+machine_start contents clients quota few_objects few_clients few_calls empties =
+    let objects = length contents in
+    let state = start_state (map kind_with contents) objects clients quota in
+    let is : world_of state ≡ start_world clients = world-start (map kind_with contents) objects clients quota in
+    let kinds_long : length (map kind_with contents) ≡ objects = simp length-map in
     record {
       kinds = refl;
-      logs = length-replicate n [] ∙ sym kinds_long;
-      holders = length-replicate n None ∙ sym kinds_long;
-      hands = length-replicate n None ∙ sym kinds_long;
-      journals = length-replicate m [] ∙ sym (length-replicate m Idle);
-      ended = length-replicate m false ∙ sym (length-replicate m Idle);
+      logs = length-replicate objects [] ∙ sym kinds_long;
+      holders = length-replicate objects None ∙ sym kinds_long;
+      hands = length-replicate objects None ∙ sym kinds_long;
+      journals = length-replicate clients [] ∙ sym (length-replicate clients Idle);
+      ended = length-replicate clients false ∙ sym (length-replicate clients Idle);
       few_objects = omega arith;
-      few_clients = subst (λ (k : ℕ). k < 33) (sym (length-replicate m Idle)) few_clients;
+      few_clients = subst (λ (k : ℕ). k < 33) (sym (length-replicate clients Idle)) few_clients;
       few_calls = few_calls;
-      fits = λ x c at. subst (λ (l : List AnyEntry). Replays (empty (kind_with c)) l c) (sym (get_or-copies n [] x))
+      fits = λ x c at. subst (λ (l : List AnyEntry). Replays (empty (kind_with c)) l c)
+          (sym (get_or-copies objects [] x))
           (sym (empties x c at));
-      journals_are = λ c. get_or-copies m [] c
-          ∙ sym (ap (λ (w : World). journal_in w c) is ∙ ap (journal_of []) (no_request (nat_lt c m)));
-      single = λ c x y a. let e : None ≡ Some c = sym (get_or-copies n None x) ∙ a in absurd (cc);
-      run = subst (λ (k : ℕ). IsWorldOfRun (map kind_with contents) k quota (world_of s))
-          (sym (length-replicate m Idle))
+      journals_are = λ c. get_or-copies clients [] c
+          ∙ sym (ap (λ (w : World). journal_in w c) is ∙ ap (journal_of []) (no_request (nat_lt c clients)));
+      single = λ c x y a. let e : None ≡ Some c = sym (get_or-copies objects None x) ∙ a in absurd (cc);
+      run = subst (λ (k : ℕ). IsWorldOfRun (map kind_with contents) k quota (world_of state))
+          (sym (length-replicate clients Idle))
           ([], is);
     }
 
@@ -138,6 +140,7 @@ pub empties_at : {S : Type 0} (content : S → Content) (objects : List S)
     → slice_get (map content objects) x ≡ Some c → c ≡ empty (kind_with c)
 empties_at content [] all x c at = absurd (cc)
 empties_at content (o ∷ os) all zero c at =
-    let here = all 0 o (omega arith) in let same = same_Some (content o) c at in
+    let here = all 0 o (omega arith) in
+    let same = same_Some (content o) c at in
     subst (λ (z : Content). z ≡ empty (kind_with z)) same here
 empties_at content (o ∷ os) all (suc x) c at = empties_at content os (λ i d low. all (suc i) d (omega arith)) x c at

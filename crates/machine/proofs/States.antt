@@ -18,50 +18,57 @@ staged_at s c t low j =
     ∙ get_or-set (map stage_of s.stages) c (stage_of t) world.absent (simp length-map low) j
 
 -- the stage of one client is written
-pub world-staged : (s : State) (c : ℕ) (t : AnyStage) → c < length s.stages
-    → world_of (record s { stages = set s.stages c t }) ≡ staged (world_of s) c (stage_of t)
-world-staged s c t low = λ i. record (world_of s) { stage = λ j. staged_at s c t low j i }
+pub world-staged : (state : State) (client : ℕ) (t : AnyStage) → client < length state.stages
+    → world_of (record state { stages = set state.stages client t }) ≡ staged (world_of state) client (stage_of t)
+world-staged state client t low = λ i. record (world_of state) { stage = λ j. staged_at state client t low j i }
 
 -- the holder of one object is written
-pub world-held : (s : State) (x : ℕ) (h : Option ℕ) → x < length s.holders
-    → world_of (record s { holders = set s.holders x h }) ≡ held_by (world_of s) x h
-world-held s x h low = λ i. record (world_of s) { holder = λ j. get_or-set s.holders x h None low j i }
+pub world-held : (state : State) (object : ℕ) (h : Option ℕ) → object < length state.holders
+    → world_of (record state { holders = set state.holders object h }) ≡ held_by (world_of state) object h
+world-held state object h low =
+    λ i. record (world_of state) { holder = λ j. get_or-set state.holders object h None low j i }
 
-pub world-ended : (s : State) (c : ℕ) → c < length s.ended
-    → world_of (record s { ended = set s.ended c true }) ≡ ended_by (world_of s) c
-world-ended s c low = λ i. record (world_of s) { ended = λ j. get_or-set s.ended c true false low j i }
+pub world-ended : (state : State) (client : ℕ) → client < length state.ended
+    → world_of (record state { ended = set state.ended client true }) ≡ ended_by (world_of state) client
+world-ended state client low =
+    λ i. record (world_of state) { ended = λ j. get_or-set state.ended client true false low j i }
 
 -- a ticket is drawn: the clock goes on, the stage of one client is written, and its journal
-pub world-ticked : (s : State) (c : ℕ) (t : AnyStage) (js : List AnyEvent) → c < length s.stages → c < length s.journals
-    → world_of (record s { clock = s.clock + 1; stages = set s.stages c t; journals = set s.journals c js })
-    ≡ ticked (world_of s) c (stage_of t) (done_in js)
-world-ticked s c t js low within =
-    λ i. record (world_of s) {
-      clock = s.clock + 1;
-      stage = λ j. staged_at s c t low j i;
-      done = λ j. get_or-set_by done_in s.journals c js [] within j i;
+pub world-ticked : (state : State) (client : ℕ) (t : AnyStage) (js : List AnyEvent) → client < length state.stages
+    → client < length state.journals
+    → world_of (record state {
+      clock = state.clock + 1;
+      stages = set state.stages client t;
+      journals = set state.journals client js;
+    }) ≡ ticked (world_of state) client (stage_of t) (done_in js)
+world-ticked state client t js low within =
+    λ i. record (world_of state) {
+      clock = state.clock + 1;
+      stage = λ j. staged_at state client t low j i;
+      done = λ j. get_or-set_by done_in state.journals client js [] within j i;
     }
 
 -- the hand of one object and the stage of one row are written
-pub world-handed : (s : State) (x : ℕ) (h : Option ℕ) (r : ℕ) (t : AnyStage) → x < length s.hands → r < length s.stages
-    → world_of (record s { hands = set s.hands x h; stages = set s.stages r t })
-    ≡ handed (world_of s) x h r (stage_of t)
-world-handed s x h r t low within =
-    λ i. record (world_of s)
-    { hand = λ j. get_or-set s.hands x h None low j i; stage = λ j. staged_at s r t within j i }
+pub world-handed : (state : State) (object : ℕ) (h : Option ℕ) (row : ℕ) (t : AnyStage) → object < length state.hands
+    → row < length state.stages
+    → world_of (record state { hands = set state.hands object h; stages = set state.stages row t })
+    ≡ handed (world_of state) object h row (stage_of t)
+world-handed state object h row t low within =
+    λ i. record (world_of state)
+    { hand = λ j. get_or-set state.hands object h None low j i; stage = λ j. staged_at state row t within j i }
 
 -- also the log of the object
-pub world-served : (s : State) (x r : ℕ) (q : AnyRequest) (a : AnyAnswer) → x < length s.hands → x < length s.logs
-    → r < length s.stages
-    → world_of (record s {
-      logs = set s.logs x (get_or s.logs x [] ++ logged r q a);
-      hands = set s.hands x None;
-      stages = set s.stages r (Answered q a);
-    }) ≡ served_by (world_of s) x r q a
-world-served s x r q a low there within =
-    λ i. record (world_of s) {
-      hand = λ j. get_or-set s.hands x None None low j i;
-      stage = λ j. staged_at s r (Answered q a) within j i;
+pub world-served : (state : State) (object row : ℕ) (request : AnyRequest) (given : AnyAnswer)
+    → object < length state.hands → object < length state.logs → row < length state.stages
+    → world_of (record state {
+      logs = set state.logs object (get_or state.logs object [] ++ logged row request given);
+      hands = set state.hands object None;
+      stages = set state.stages row (Answered request given);
+    }) ≡ served_by (world_of state) object row request given
+world-served state object row request given low there within =
+    λ i. record (world_of state) {
+      hand = λ j. get_or-set state.hands object None None low j i;
+      stage = λ j. staged_at state row (Answered request given) within j i;
       log =
-          λ j. get_or-set s.logs x (get_or s.logs x [] ++ logged r q a) [] there j i;
+          λ j. get_or-set state.logs object (get_or state.logs object [] ++ logged row request given) [] there j i;
     }

@@ -10,22 +10,23 @@ use Rattle.machine.specs.Machines.{State}
 use Rattle.machine.specs.Runs.{TakesPossible}
 use Rattle.machine.specs.Steps.{IsLike}
 
-pub joined_steps : (kinds : List Kind) (quota : ℕ) (w : World) (ms : List (ℕ × Step)) (n : ℕ) (between : World)
-    (ns : List (ℕ × Step)) (k : ℕ) (after : World)
-    → TakesPossible kinds quota w ms n between → TakesPossible kinds quota between ns k after
-    → TakesPossible kinds quota w (ms ++ ns) (n + k) after
-joined_steps kinds quota w [] n between ns k after h j = let none = h.0 in
-    subst (λ (m : ℕ). TakesPossible kinds quota w ns m after) (let e : k ≡ n + k = omega arith in e)
-    (subst (λ (z : World). TakesPossible kinds quota z ns k after) h.1 j)
-joined_steps kinds quota w (m ∷ ms) n between ns k after h j = elim h [
-  | inl t ↦ inl (t.0, t.1, joined_steps kinds quota t.0 ms n between ns k after t.2 j)
+-- of two lists of steps, one after the other, the transitions are those of both, and so is their number
+pub joined_steps : (kinds : List Kind) (quota : ℕ) (start : World) (steps : List (ℕ × Step)) (n : ℕ) (between : World)
+    (more : List (ℕ × Step)) (k : ℕ) (after : World)
+    → TakesPossible kinds quota start steps n between → TakesPossible kinds quota between more k after
+    → TakesPossible kinds quota start (steps ++ more) (n + k) after
+joined_steps kinds quota start [] n between more k after here there = let none = here.0 in
+    subst (λ (m : ℕ). TakesPossible kinds quota start more m after) (let e : k ≡ n + k = omega arith in e)
+    (subst (λ (z : World). TakesPossible kinds quota z more k after) here.1 there)
+joined_steps kinds quota start (m ∷ steps) n between more k after here there = elim here [
+  | inl t ↦ inl (t.0, t.1, joined_steps kinds quota t.0 steps n between more k after t.2 there)
   | inr p ↦
       let e = p.2 in inr (
         p.0,
         p.1 + k,
         let f : n + k ≡ p.1 + k + 1 = omega arith in
             f,
-        joined_steps kinds quota w ms p.1 between ns k after p.3 j,
+        joined_steps kinds quota start steps p.1 between more k after p.3 there,
       )
 ]
 

@@ -11,25 +11,29 @@ use Rattle.machine.specs.Runs.{IsImpossible}
 use Rattle.machine.specs.Steps.{IsDraw, IsPossible, Tries}
 use Rattle.machine.proofs.Kept.{run_taken}
 
-pub not_now : {R : Type 0} (reply_in : R → AnyReply) (s s' : State) (c : ℕ) (w v : Step)
-    (r : Result (Outcome R) StepFault) → w ≡ v
-    → Tries reply_in s c v r s' → IfErr r (λ e. e ≡ NotNow → IsImpossible s.kinds s.quota (world_of s) (c, w))
-not_now reply_in s s' c w v (Ok o) is h = tt
-not_now reply_in s s' c w v (Err NotNow) is h =
-    λ e. subst (λ (z : Step). IsImpossible s.kinds s.quota (world_of s) (c, z)) (sym is) h.1
-not_now reply_in s s' c w v (Err NoMemory) is h = λ e. absurd (cc)
+-- a step that was refused as not possible now is impossible in the world
+pub not_now : {R : Type 0} (reply_in : R → AnyReply) (state after : State) (client : ℕ) (step tried : Step)
+    (result : Result (Outcome R) StepFault) → step ≡ tried
+    → Tries reply_in state client tried result after
+    → IfErr result (λ e. e ≡ NotNow → IsImpossible state.kinds state.quota (world_of state) (client, step))
+not_now reply_in state after client step tried (Ok o) is h = tt
+not_now reply_in state after client step tried (Err NotNow) is h =
+    λ e. subst (λ (z : Step). IsImpossible state.kinds state.quota (world_of state) (client, z)) (sym is) h.1
+not_now reply_in state after client step tried (Err NoMemory) is h = λ e. absurd (cc)
 
 -- An allocation failed at a draw that is possible, and nothing has changed.
-pub no_memory : {R : Type 0} (reply_in : R → AnyReply) (s s' : State) (c : ℕ) (w : Step)
-    (r : Result (Outcome R) StepFault) (e : StepFault)
-    → IsErrAnd r (λ f. f ≡ e) → e ≡ NoMemory → s' ≡ s → IsDraw w → IsPossible s c w → Tries reply_in s c w r s'
-no_memory reply_in s s' c w (Ok o) e h is same draw possible = absurd h
-no_memory reply_in s s' c w (Err f) e h is same draw possible =
-    subst (λ (z : StepFault). Tries reply_in s c w (Err z) s') (sym (h ∙ is)) (same, draw, possible)
+pub no_memory : {R : Type 0} (reply_in : R → AnyReply) (state after : State) (client : ℕ) (step : Step)
+    (result : Result (Outcome R) StepFault) (fault : StepFault)
+    → IsErrAnd result (λ f. f ≡ fault) → fault ≡ NoMemory → after ≡ state → IsDraw step → IsPossible state client step
+    → Tries reply_in state client step result after
+no_memory reply_in state after client step (Ok o) fault h is same draw possible = absurd h
+no_memory reply_in state after client step (Err f) fault h is same draw possible =
+    subst (λ (z : StepFault). Tries reply_in state client step (Err z) after) (sym (h ∙ is)) (same, draw, possible)
 
 -- One step more, or none, is a run still.
-pub tried_run : {R : Type 0} (reply_in : R → AnyReply) (s s' : State) (c : ℕ) (w : Step)
-    (r : Result (Outcome R) StepFault) → HasRun s → Tries reply_in s c w r s' → HasRun s'
-tried_run reply_in s s' c w (Ok o) run h = run_taken s s' c w run h.0
-tried_run reply_in s s' c w (Err NotNow) run h = subst HasRun (sym h.0) run
-tried_run reply_in s s' c w (Err NoMemory) run h = subst HasRun (sym h.0) run
+pub tried_run : {R : Type 0} (reply_in : R → AnyReply) (state after : State) (client : ℕ) (step : Step)
+    (result : Result (Outcome R) StepFault) → HasRun state → Tries reply_in state client step result after
+    → HasRun after
+tried_run reply_in state after client step (Ok o) run h = run_taken state after client step run h.0
+tried_run reply_in state after client step (Err NotNow) run h = subst HasRun (sym h.0) run
+tried_run reply_in state after client step (Err NoMemory) run h = subst HasRun (sym h.0) run

@@ -44,7 +44,7 @@ start_sound kinds quota n = record {
     tickets = record {
       rising = λ c. rw (no_request (nat_lt c n)) (λ i j d l m. absurd (omega arith));
       below = λ c. rw (no_request (nat_lt c n)) (All-nil (λ t. t < 0));
-      apart = λ c d t h. let h' = rw (no_request (nat_lt c n)) at h in let l = h'.1 in absurd (omega arith);
+      apart = λ c d t h. let h' = rw (no_request (nat_lt c n)) at h in absurd (omega (arith, h'.1));
       each = λ t l. absurd (omega arith);
     };
     on_objects = λ c. rw (no_request (nat_lt c n)) (All-nil (IsAmong kinds));
@@ -53,11 +53,13 @@ start_sound kinds quota n = record {
   };
 }
 
-leads_sound : (kinds : List Kind) (quota : ℕ) (w : World) (ms : List (ℕ × Step)) (after : World)
-    → Leads kinds quota w ms after → Sound kinds quota w → Sound kinds quota after
-leads_sound kinds quota w [] after l k = subst (Sound kinds quota) (sym l) k
-leads_sound kinds quota w (m ∷ ms) after l k =
-    leads_sound kinds quota l.0 ms after l.2 (transition_keeps_soundness kinds quota m.1 w l.0 m.0 l.1 k)
+-- steps that lead from a sound world lead to one
+leads_sound : (kinds : List Kind) (quota : ℕ) (start : World) (steps : List (ℕ × Step)) (after : World)
+    → Leads kinds quota start steps after → Sound kinds quota start → Sound kinds quota after
+leads_sound kinds quota start [] after leads sound = subst (Sound kinds quota) (sym leads) sound
+leads_sound kinds quota start (step ∷ steps) after leads sound =
+    leads_sound kinds quota leads.0 steps after leads.2 (transition_keeps_soundness kinds quota step.1 start leads.0
+    step.0 leads.1 sound)
 
 -- the world after a run is sound
 pub run_sound : (kinds : List Kind) (n quota : ℕ) (w : World) → IsWorldOfRun kinds n quota w → Sound kinds quota w

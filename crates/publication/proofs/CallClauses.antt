@@ -85,46 +85,49 @@ may_serve h v content is replays can = does (kind_held v) v.log v.request.op con
 -- ---- a request put back, an object opened, a request got
 
 -- After `put_back` the request is back in its row: the slot was filled with the request, and the row returned.
-pub is_put_back : {S O R : Type 0} (z : DeskId) (n : PassState) {h v : Handling}
+pub is_put_back : {S O R : Type 0} (desk : DeskId) (state : PassState) {h v : Handling}
     {filled returned : Me (Slot S O R) DeskView} {i : ℕ} {s : Slot S O R} {tl : List (ℕ × Slot S O R)} → h ≡ v
     → filled ≡ (v.knows, (i, s) ∷ tl)
     → returned ≡ (after_put_back v.object v.log v.row v.request filled.0, rest filled.1)
-    → IsPutBack h (record { desk = z; knows = returned.0; object = v.object; log = v.log; state = n })
-is_put_back z n is e f = rw (is, f, e) assumption
+    → IsPutBack h (record { desk = desk; knows = returned.0; object = v.object; log = v.log; state = state })
+is_put_back desk state is e f = rw (is, f, e) assumption
 
 module _ {S O R : Type 0} (content : S → Content) (op_in : O → AnyOp) (reply_in : R → AnyReply) where
-  -- After a win the client has opened the object x, whose log goes on from what it had seen: the object was won, and
+  -- After a win the client has opened the object, whose log goes on from what it had seen: the object was won, and
   -- its slot emptied.
-  pub win_gives : (c : Known) (x : ℕ) (k core : Core S O R) (l : List AnyEntry)
-      (m won emptied : Me (Slot S O R) DeskView) (d : DeskId) (n : PassState)
-      → c.desk.kinds ≡ m.0.kinds → c.knows ≡ m.0 → won ≡ (after_win x l m.0, (x, slot.Core k) ∷ m.1)
-      → emptied ≡ (won.0, (x, slot.Nothing) ∷ rest won.1)
-      → core ≡ k → CoreFits content op_in reply_in (kind_at m.0.kinds x) (get_elem? m.0.lists x) k l
-      → StartsWith l (seen_of m.0 x)
-      → IsWon c x (record { desk = d; knows = emptied.0; object = x; log = log_of op_in reply_in core; state = n })
-  win_gives c x k core l m won emptied d n kinds is e f same fits begins = rw (f, e, same) record {
-    object = refl;
-    knows = λ i. after_win x (sym fits.0 i) (sym is i);
-    legal = rw (kinds, fits.0) (content k.object, fits.1);
-    begins = rw (is, fits.0) begins;
-  }
+  pub win_gives : (client : Known) (object : ℕ) (found core : Core S O R) (log : List AnyEntry)
+      (before won emptied : Me (Slot S O R) DeskView) (desk : DeskId) (state : PassState)
+      → client.desk.kinds ≡ before.0.kinds → client.knows ≡ before.0
+      → won ≡ (after_win object log before.0, (object, slot.Core found) ∷ before.1)
+      → emptied ≡ (won.0, (object, slot.Nothing) ∷ rest won.1) → core ≡ found
+      → CoreFits content op_in reply_in (kind_at before.0.kinds object) (get_elem? before.0.lists object) found log
+      → StartsWith log (seen_of before.0 object)
+      → IsWon client object
+      (record { desk = desk; knows = emptied.0; object = object; log = log_of op_in reply_in core; state = state })
+  win_gives client object found core log before won emptied desk state kinds is e f same fits begins =
+      rw (f, e, same) record {
+        object = refl;
+        knows = λ i. after_win object (sym fits.0 i) (sym is i);
+        legal = rw (kinds, fits.0) (content found.object, fits.1);
+        begins = rw (is, fits.0) begins;
+      }
 
 module _ {S O R : Type 0} (op_in : O → AnyOp) where
-  -- After a pick the client has got the request of the row r: it was picked, and its slot emptied.
-  pub pick_gives : (d : DeskId) (n : PassState) (r : ℕ) {p v : Holding} {q q' : Request O} {tl : List (ℕ × Slot S O R)}
-      {picked emptied : Me (Slot S O R) DeskView} → p ≡ v
-      → picked ≡ (after_pick v.object v.log r (request_in op_in q) v.knows, (16 + r, slot.Request q) ∷ tl)
-      → emptied ≡ (picked.0, (16 + r, slot.Nothing) ∷ rest picked.1) → q ≡ q' → q.object ≡ v.object
+  -- After a pick the client has got the request of the row: it was picked, and its slot emptied.
+  pub pick_gives : (desk : DeskId) (state : PassState) (row : ℕ) {p v : Holding} {q q' : Request O}
+      {tl : List (ℕ × Slot S O R)} {picked emptied : Me (Slot S O R) DeskView} → p ≡ v
+      → picked ≡ (after_pick v.object v.log row (request_in op_in q) v.knows, (16 + row, slot.Request q) ∷ tl)
+      → emptied ≡ (picked.0, (16 + row, slot.Nothing) ∷ rest picked.1) → q ≡ q' → q.object ≡ v.object
       → kind_of (op_in q.op) ≡ kind_at v.knows.kinds v.object
-      → All (λ b. b.row ≡ r → b.request ≡ request_in op_in q) v.knows.back
-      → ((p : AnyRequest) → r ≡ v.knows.number → v.knows.own ≡ own.Waiting p → request_in op_in q ≡ p)
-      → IsPicked p r (record {
-        desk = d;
+      → All (λ b. b.row ≡ row → b.request ≡ request_in op_in q) v.knows.back
+      → ((p : AnyRequest) → row ≡ v.knows.number → v.knows.own ≡ own.Waiting p → request_in op_in q ≡ p)
+      → IsPicked p row (record {
+        desk = desk;
         knows = emptied.0;
         object = v.object;
         log = v.log;
-        state = n;
-        row = r;
+        state = state;
+        row = row;
         request = request_in op_in q';
       })
-  pick_gives d n r is e f same on of_kind again is_own = rw (is, f, e, ← same) assumption
+  pick_gives desk state row is e f same on of_kind again is_own = rw (is, f, e, ← same) assumption

@@ -23,30 +23,34 @@ abbrev rosters : List PlaceSeen → List TableId
 rosters ps = map (λ (p : PlaceSeen). p.roster) ps
 
 -- one try more at the place i
-pub tried : (ps : List PlaceSeen) (i : ℕ) (p q : PlaceSeen) (e : Enlist) → i < length ps → p ≡ get_or ps i p
-    → q ≡ record p { tries = p.tries ++ e ∷ [] } → set ps i q ≡ trying i e ps
-tried [] i p q e low is more = absurd (omega arith)
-tried (x ∷ xs) zero p q e low is more =
-    ap (λ z. z ∷ xs) (more ∙ ap (λ (z : PlaceSeen). record z { tries = z.tries ++ e ∷ [] }) is)
-tried (x ∷ xs) (suc i) p q e low is more = ap (λ z. x ∷ z) (tried xs i p q e (omega arith) is more)
+pub tried : (places : List PlaceSeen) (i : ℕ) (old new : PlaceSeen) (outcome : Enlist) → i < length places
+    → old ≡ get_or places i old → new ≡ record old { tries = old.tries ++ outcome ∷ [] }
+    → set places i new ≡ trying i outcome places
+tried [] i old new outcome low is more = absurd (omega arith)
+tried (x ∷ xs) zero old new outcome low is more =
+    ap (λ z. z ∷ xs) (more ∙ ap (λ (z : PlaceSeen). record z { tries = z.tries ++ outcome ∷ [] }) is)
+tried (x ∷ xs) (suc i) old new outcome low is more = ap (λ z. x ∷ z) (tried xs i old new outcome (omega arith) is more)
 
 -- it changes neither rows nor rosters
 same_map : {A : Type 0} (f : PlaceSeen → A) → ((p : PlaceSeen) (ts : List Enlist) → f (record p { tries = ts }) ≡ f p)
-    → (i : ℕ) (e : Enlist) (ps : List PlaceSeen) → map f (trying i e ps) ≡ map f ps
-same_map f same zero e [] = refl
-same_map f same (suc i) e [] = refl
-same_map f same zero e (p ∷ ps) = ap (λ z. z ∷ map f ps) (same p (p.tries ++ e ∷ []))
-same_map f same (suc i) e (p ∷ ps) = ap (λ z. f p ∷ z) (same_map f same i e ps)
+    → (i : ℕ) (outcome : Enlist) (places : List PlaceSeen) → map f (trying i outcome places) ≡ map f places
+same_map f same zero outcome [] = refl
+same_map f same (suc i) outcome [] = refl
+same_map f same zero outcome (p ∷ places) = ap (λ z. z ∷ map f places) (same p (p.tries ++ outcome ∷ []))
+same_map f same (suc i) outcome (p ∷ places) = ap (λ z. f p ∷ z) (same_map f same i outcome places)
 
 -- a try changes no roster of a client's places
-pub same_rosters : (i : ℕ) (e : Enlist) (ps : List PlaceSeen) → rosters (trying i e ps) ≡ rosters ps
-same_rosters i e ps = same_map (λ p. p.roster) (λ p ts. refl) i e ps
+pub same_rosters : (i : ℕ) (outcome : Enlist) (places : List PlaceSeen)
+    → rosters (trying i outcome places) ≡ rosters places
+same_rosters i outcome places = same_map (λ p. p.roster) (λ p ts. refl) i outcome places
 
 -- a client's places stay its own after a try
-pub still_own : (c i : ℕ) (e : Enlist) (lists : List TableId) (ps : List PlaceSeen) → ArePlacesOf c lists ps
-    → ArePlacesOf c lists (trying i e ps)
-still_own c i e lists ps k = record
-    { rows = same_map (λ p. p.row) (λ p ts. refl) i e ps ∙ k.rows; lists_are = same_rosters i e ps ∙ k.lists_are }
+pub still_own : (client i : ℕ) (outcome : Enlist) (lists : List TableId) (places : List PlaceSeen)
+    → ArePlacesOf client lists places → ArePlacesOf client lists (trying i outcome places)
+still_own client i outcome lists places own = record {
+  rows = same_map (λ p. p.row) (λ p ts. refl) i outcome places ∙ own.rows;
+  lists_are = same_rosters i outcome places ∙ own.lists_are;
+}
 
 abbrev desk_of : TableId → ℕ → List Kind → List PlaceSeen → DeskId
 desk_of table quota kinds places = record { table = table; quota = quota; kinds = kinds; lists = rosters places }
@@ -56,28 +60,29 @@ pub same_desk : {d : DeskId} {t t' : TableId} {n n' : ℕ} {ks ks' : List Kind} 
     → n' ≡ n → ks' ≡ ks → ps' ≡ ps → desk_of t n ks ps ≡ d → desk_of t' n' ks' ps' ≡ d
 same_desk table quota kinds places is = (λ i. desk_of (table i) (quota i) (kinds i) (places i)) ∙ is
 
--- the same lists under another name
-pub own_still : (c : ℕ) (ls ls' : List TableId) (ps : List PlaceSeen) → ls' ≡ ls → ArePlacesOf c ls ps
-    → ArePlacesOf c ls' ps
-own_still c ls ls' ps e k = rw e k
+-- a client's places stay its own under another name of the lists
+pub own_still : (client : ℕ) (lists lists' : List TableId) (places : List PlaceSeen) → lists' ≡ lists
+    → ArePlacesOf client lists places → ArePlacesOf client lists' places
+own_still client lists lists' places e own = rw e own
 
--- the place in the list of x
-row_there : (n x c r : ℕ) → get_elem? (replicate n c) x ≡ some r → r ≡ c
-row_there zero x c r e = absurd (some-ne-none r (sym e))
-row_there (suc n) zero c r e = sym (some-injective c r e)
-row_there (suc n) (suc x) c r e = row_there n x c r e
+-- of equal rows, each that is found is that row
+row_there : (count object client row : ℕ) → get_elem? (replicate count client) object ≡ some row → row ≡ client
+row_there zero object client row e = absurd (some-ne-none row (sym e))
+row_there (suc count) zero client row e = sym (some-injective client row e)
+row_there (suc count) (suc object) client row e = row_there count object client row e
 
 -- a client has a place of its row in the list of each object
-pub own_place : (c x : ℕ) (lists : List TableId) (ps : List PlaceSeen) → x < 16 → ArePlacesOf c lists ps
-    → (p : PlaceSeen) × (get_elem? ps x ≡ some p)
-    × (p.row ≡ c) × (get_elem? (rosters ps) x ≡ some p.roster)
-own_place c x lists ps low k =
-    let long : length ps ≡ 16 = sym (length-map ps (λ (p : PlaceSeen). p.row)) ∙ ap length k.rows in
-    let b = there ps x (omega arith) in (
-      b.0,
-      b.1,
-      row_there 16 x c b.0.row (ap (λ z. get_elem? z x) (sym k.rows) ∙ at_map (λ (p : PlaceSeen). p.row) ps x b.0 b.1),
-      at_map (λ (p : PlaceSeen). p.roster) ps x b.0 b.1,
+pub own_place : (client object : ℕ) (lists : List TableId) (places : List PlaceSeen) → object < 16
+    → ArePlacesOf client lists places → (p : PlaceSeen) × (get_elem? places object ≡ some p)
+    × (p.row ≡ client) × (get_elem? (rosters places) object ≡ some p.roster)
+own_place client object lists places low own =
+    let long : length places ≡ 16 = sym (length-map places (λ (p : PlaceSeen). p.row)) ∙ ap length own.rows in
+    let at = there places object (omega arith) in (
+      at.0,
+      at.1,
+      row_there 16 object client at.0.row (ap (λ z. get_elem? z object) (sym own.rows)
+          ∙ at_map (λ (p : PlaceSeen). p.row) places object at.0 at.1),
+      at_map (λ (p : PlaceSeen). p.roster) places object at.0 at.1,
     )
 
 -- the rows and rosters of places at which nothing was tried
@@ -116,22 +121,29 @@ module _ {Z : Type 0} where
   pub room_left : (n : ℕ) (lists : List TableId) (owners : List (Vec PlaceSeen Z)) → length lists < 16
       → AreDealt 0 n lists owners → HaveRoom owners
   room_left n lists owners low all c d l =
-      let count = all.0 in let b = all.1 c d (omega arith) in let len = b.1 in let cap = b.2 in omega arith
+      let count = all.0 in
+      let b = all.1 c d (omega arith) in
+      omega (arith, b.1, b.2)
 
   -- one list more
   pub one_dealt : (id : TableId) (n : ℕ) (lists lists' : List TableId) (old new : List (Vec PlaceSeen Z))
       → lists' ≡ lists ++ id ∷ []
       → AreDealt 0 n lists old → AreGrown id old new → AreDealt 0 n lists' new
-  one_dealt id n lists lists' old new more all grown = let long = grown.0 in let count = all.0 in
+  one_dealt id n lists lists' old new more all grown =
+      let long = grown.0 in
+      let count = all.0 in
       let wide : length (lists ++ id ∷ []) ≡ length lists + 1 = length-append lists (id ∷ []) in
       subst (λ ls. AreDealt 0 n ls new) (sym more) (
         long ∙ count,
-        λ c d l. let g = grown.1 c d (omega arith) in let b = all.1 c d l in let e : c ≡ 0 + c = omega arith in (
-          g.0 ∙ ((λ i. b.0 i ++ record { roster = id; row = e i; tries = [] } ∷ [])
-              ∙ sym (map-append (λ z. record { roster = z; row = 0 + c; tries = [] }) lists (id ∷ []))),
-          (let more = g.2 in let had = b.1 in omega arith),
-          g.1 ∙ b.2,
-        ),
+        λ c d l.
+            let g = grown.1 c d (omega arith) in
+            let b = all.1 c d l in
+            let e : c ≡ 0 + c = omega arith in (
+              g.0 ∙ ((λ i. b.0 i ++ record { roster = id; row = e i; tries = [] } ∷ [])
+                  ∙ sym (map-append (λ z. record { roster = z; row = 0 + c; tries = [] }) lists (id ∷ []))),
+              omega (arith, g.2, b.1),
+              g.1 ∙ b.2,
+            ),
       )
 
   -- the first goes

@@ -20,35 +20,43 @@ module _ {S O R : Type 0} (op_in : O → AnyOp) (reply_in : R → AnyReply) (num
   abbrev TheClient : Me (Slot S O R) DeskView → Type 0
   TheClient = IsClient op_in reply_in number calls quota outstanding j
 
-  -- a client that was told h, and then saw l: d is its seat after both
-  pub met_ok : (x : ℕ) (l : List AnyEntry) (h : List (List AnyEntry)) (m d : Me (Slot S O R) DeskView) → TheClient m
-      → x < 16
-      → IsLegalLog (kind_at m.0.kinds x) l → IsAccount x (record m.0 { received = h }) l
-      → d ≡ (after_meet x l (record m.0 { received = h }), m.1) → TheClient d
-  met_ok x l h m d k low legal account e =
+  -- a client that was told what another has seen, and then has seen a longer log, is still a client
+  pub met_ok : (object : ℕ) (log : List AnyEntry) (received : List (List AnyEntry))
+      (before after : Me (Slot S O R) DeskView) → TheClient before → object < 16
+      → IsLegalLog (kind_at before.0.kinds object) log → IsAccount object (record before.0 { received = received }) log
+      → after ≡ (after_meet object log (record before.0 { received = received }), before.1) → TheClient after
+  met_ok object log received before after k low legal account e =
       rw e record {
-        agrees = assumption (agrees_seeing x l low legal account k.agrees);
+        agrees = assumption (agrees_seeing object log low legal account k.agrees);
         free = k.free;
         in_hand = k.in_hand;
       }
 
--- what the meeting says: a and b before, a' and b' after
-pub met : (x : ℕ) (one other : Known) (d e : DeskId) (s t : List PlaceSeen) (a b a' b' : DeskView) (l : List AnyEntry)
-    (h i : List (List AnyEntry))
-    → one.desk.kinds ≡ a.kinds → one.knows ≡ a → other.knows ≡ b → a' ≡ after_meet x l (record a { received = h })
-    → b' ≡ after_meet x l (record b { received = i })
-    → x < length a.seen → x < length b.seen → IsLegalLog (kind_at a.kinds x) l → StartsWith l (seen_of a x)
-    → StartsWith l (seen_of b x)
-    → HaveBothMet x one other (record { desk = d; knows = a'; places = s })
-    (record { desk = e; knows = b'; places = t })
-met x one other d e s t a b a' b' l h i kinds p q f g there there' legal first second = record {
-  log = l;
-  first = f ∙ λ k. after_meet x l (record (sym p k) { received = sym (ap (λ z. z.received) f) k });
-  second = g ∙ λ k. after_meet x l (record (sym q k) { received = sym (ap (λ z. z.received) g) k });
-  no_pass = (ap (λ z. z.won) f ∙ ap (λ z. z.won) (sym p), ap (λ z. z.won) g ∙ ap (λ z. z.won) (sym q));
-  seen_first = ap (λ z. seen_of z x) f ∙ get_or-set_same a.seen x l [] there;
-  seen_second = ap (λ z. seen_of z x) g ∙ get_or-set_same b.seen x l [] there';
+-- two clients have met on an object: of each, what it was before, what it was told, and what it is after the meeting
+pub met : (object : ℕ) (one other : Known) (one_desk other_desk : DeskId) (one_places other_places : List PlaceSeen)
+    (one_was other_was one_now other_now : DeskView) (log : List AnyEntry)
+    (one_told other_told : List (List AnyEntry))
+    → one.desk.kinds ≡ one_was.kinds → one.knows ≡ one_was → other.knows ≡ other_was
+    → one_now ≡ after_meet object log (record one_was { received = one_told })
+    → other_now ≡ after_meet object log (record other_was { received = other_told })
+    → object < length one_was.seen → object < length other_was.seen → IsLegalLog (kind_at one_was.kinds object) log
+    → StartsWith log (seen_of one_was object) → StartsWith log (seen_of other_was object)
+    → HaveBothMet object one other (record { desk = one_desk; knows = one_now; places = one_places })
+    (record { desk = other_desk; knows = other_now; places = other_places })
+met object one other one_desk other_desk one_places other_places one_was other_was one_now other_now log one_told
+other_told kinds one_same other_same one_met other_met there there' legal first second = record {
+  log = log;
+  first = one_met ∙ λ k. after_meet object log (record (sym one_same k)
+      { received = sym (ap (λ z. z.received) one_met) k });
+  second = other_met ∙ λ k. after_meet object log (record (sym other_same k)
+      { received = sym (ap (λ z. z.received) other_met) k });
+  no_pass = (
+    ap (λ z. z.won) one_met ∙ ap (λ z. z.won) (sym one_same),
+    ap (λ z. z.won) other_met ∙ ap (λ z. z.won) (sym other_same),
+  );
+  seen_first = ap (λ z. seen_of z object) one_met ∙ get_or-set_same one_was.seen object log [] there;
+  seen_second = ap (λ z. seen_of z object) other_met ∙ get_or-set_same other_was.seen object log [] there';
   legal = rw kinds legal;
-  begins_first = rw p first;
-  begins_second = rw q second;
+  begins_first = rw one_same first;
+  begins_second = rw other_same second;
 }

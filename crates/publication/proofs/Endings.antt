@@ -17,54 +17,60 @@ use Rattle.publication.specs.Calls.{IsStillThere}
 use Rattle.publication.specs.Closing.{HaveEnded, HasLearntEnds}
 
 -- one of two views, as the word was 1 or not
-pub either_view : (found d : ℕ) (v v' w : DeskView) → v ≡ v' → (found ≡ 1 → w ≡ after_end_seen d v)
-    → (found ≢ 1 → w ≡ after_end_unset d v)
-    → w ≡ (if eqb found 1 then after_end_seen d v' else after_end_unset d v')
-either_view found d v v' w same hit miss = rw (← same) (dite (ℕ_discrete found 1) (λ e. rw (eq-eqb found 1 e) (hit e))
+pub either_view : (found client : ℕ) (one view after : DeskView) → one ≡ view
+    → (found ≡ 1 → after ≡ after_end_seen client one) → (found ≢ 1 → after ≡ after_end_unset client one)
+    → after ≡ (if eqb found 1 then after_end_seen client view else after_end_unset client view)
+either_view found client one view after same hit miss =
+    rw (← same) (dite (ℕ_discrete found 1) (λ e. rw (eq-eqb found 1 e) (hit e))
     (λ n. rw (ne_eqb found 1 n) (miss n)))
 
 -- the client is the last one itself
-pub own_number : (n : ℕ) (b : Known) → n ≡ b.knows.number → HaveEnded n b → HaveEnded (n + 1) b
-own_number n b e before c l other = before c (let d : c ≢ n = λ f. other (f ∙ e) in omega arith) other
+pub own_number : (client : ℕ) (known : Known) → client ≡ known.knows.number → HaveEnded client known
+    → HaveEnded (client + 1) known
+own_number client known e before c l other = before c (let d : c ≢ client = λ f. other (f ∙ e) in omega arith) other
 
 -- one more has ended
-pub one_ended : (n : ℕ) (a b b' : Known) → b'.desk ≡ b.desk → b'.places ≡ b.places
-    → b'.knows ≡ after_end_seen n b.knows → HaveEnded n b → HasLearntEnds a b
-    → HaveEnded (n + 1) b' × HasLearntEnds a b'
-one_ended n a b b' e t f before is =
-    subst (λ z. HaveEnded (n + 1) z × HasLearntEnds a z)
+pub one_ended : (client : ℕ) (start now after : Known) → after.desk ≡ now.desk → after.places ≡ now.places
+    → after.knows ≡ after_end_seen client now.knows → HaveEnded client now → HasLearntEnds start now
+    → HaveEnded (client + 1) after × HasLearntEnds start after
+one_ended client start now after e t f before is =
+    subst (λ z. HaveEnded (client + 1) z × HasLearntEnds start z)
     (λ i. record { desk = sym e i; knows = sym f i; places = sym t i }) (
-      (λ c l other. dite (ℕ_discrete c n) (λ same. rw same (Contains-push b.knows.retired n))
-          (λ apart. Contains-append_left b.knows.retired (n ∷ []) c (before c (omega arith) other))),
-      ap (λ (z : Known). record z { knows = after_end_seen n z.knows }) is,
+      (λ c l other. dite (ℕ_discrete c client) (λ same. rw same (Contains-push now.knows.retired client))
+          (λ apart. Contains-append_left now.knows.retired (client ∷ []) c (before c (omega arith) other))),
+      ap (λ (z : Known). record z { knows = after_end_seen client z.knows }) is,
     )
 
 -- this one has not
-pub there_still : (d : DeskSeen) (n : ℕ) (a b b' : Known) → n < d.clients → n ≢ b.knows.number
-    → b'.knows ≡ after_end_unset n b.knows → HaveEnded n b
-    → HasLearntEnds a b → All (λ l. l.client ≢ n) b.knows.left → IsStillThere d a n b'
-there_still d n a b b' low other e before is untold = let same = ap (λ z. z.knows.number) is in record {
+pub there_still : (desk : DeskSeen) (client : ℕ) (start now after : Known) → client < desk.clients
+    → client ≢ now.knows.number → after.knows ≡ after_end_unset client now.knows → HaveEnded client now
+    → HasLearntEnds start now → All (λ l. l.client ≢ client) now.knows.left → IsStillThere desk start client after
+there_still desk client start now after low other e before is left = let same = ap (λ z. z.knows.number) is in record {
   client_low = low;
   other = λ f. other (f ∙ sym same);
-  untold = rw is at untold;
+  untold = rw is at left;
   least = λ c l apart. subst (λ z. Contains z c) (sym (ap (λ v. v.retired) e)) (before c l (λ f. apart (f ∙ same)));
-  looked = (b.knows, e, ap (λ z. z.knows) is);
+  looked = (now.knows, e, ap (λ z. z.knows) is);
 }
 
 module _ {S O R : Type 0} (op_in : O → AnyOp) (reply_in : R → AnyReply) where
   -- a client that has only looked at ends
-  watching : (number calls quota : ℕ) (outstanding : Bool) (j : Journal O R) (m m' : Me (Slot S O R) DeskView)
+  watching : (number calls quota : ℕ) (outstanding : Bool) (j : Journal O R) (before after : Me (Slot S O R) DeskView)
       (retired still_there : List ℕ)
-      → IsClient op_in reply_in number calls quota outstanding j m
-      → m' ≡ (record m.0 { retired = retired; still_there = still_there }, m.1)
-      → IsClient op_in reply_in number calls quota outstanding j m'
-  watching number calls quota outstanding j m m' retired still_there k e =
+      → IsClient op_in reply_in number calls quota outstanding j before
+      → after ≡ (record before.0 { retired = retired; still_there = still_there }, before.1)
+      → IsClient op_in reply_in number calls quota outstanding j after
+  watching number calls quota outstanding j before after retired still_there k e =
       rw e record { agrees = assumption k.agrees; free = k.free; in_hand = k.in_hand }
 
-  pub watching_ok : (number calls quota : ℕ) (outstanding : Bool) (j : Journal O R) (found d : ℕ)
-      (m m' : Me (Slot S O R) DeskView) → IsClient op_in reply_in number calls quota outstanding j m
-      → (found ≡ 1 → m' ≡ (after_end_seen d m.0, m.1)) → (found ≢ 1 → m' ≡ (after_end_unset d m.0, m.1))
-      → IsClient op_in reply_in number calls quota outstanding j m'
-  watching_ok number calls quota outstanding j found d m m' k hit miss = dite (ℕ_discrete found 1)
-      (λ e. watching number calls quota outstanding j m m' (after_end_seen d m.0).retired m.0.still_there k (hit e))
-      (λ n. watching number calls quota outstanding j m m' m.0.retired (after_end_unset d m.0).still_there k (miss n))
+  -- a client that has read whether another has ended is still a client
+  pub watching_ok : (number calls quota : ℕ) (outstanding : Bool) (j : Journal O R) (found client : ℕ)
+      (before after : Me (Slot S O R) DeskView) → IsClient op_in reply_in number calls quota outstanding j before
+      → (found ≡ 1 → after ≡ (after_end_seen client before.0, before.1))
+      → (found ≢ 1 → after ≡ (after_end_unset client before.0, before.1))
+      → IsClient op_in reply_in number calls quota outstanding j after
+  watching_ok number calls quota outstanding j found client before after k hit miss = dite (ℕ_discrete found 1)
+      (λ e. watching number calls quota outstanding j before after
+      (after_end_seen client before.0).retired before.0.still_there k (hit e))
+      (λ n. watching number calls quota outstanding j before after
+      before.0.retired (after_end_unset client before.0).still_there k (miss n))

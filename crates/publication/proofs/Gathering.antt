@@ -38,6 +38,7 @@ module _ {X : Type 0} where
       (λ same. rw (same, row_here rows rows' row n e long) here)
       (λ other. rw (row_there rows rows' row k e (omega arith)) (before k g (omega arith)))
 
+  -- rows that are as they were below a number still are so with one row more
   pub IsSameBelow-push : (from : ℕ) (first rows rows' : List (List X)) (row : List X) → rows' ≡ rows ++ row ∷ []
       → from ≤ length rows → IsSameBelow from first rows → IsSameBelow from first rows'
   IsSameBelow-push from first rows rows' row e long before k low = row_there rows rows' row k e (omega arith)

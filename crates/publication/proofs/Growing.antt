@@ -3,7 +3,7 @@
 use Rattle.std.proofs.Common.{◌≡◌, ℕ, zero, suc, ◌+◌, ◌<◌, ◌≤◌, List, [], ◌∷◌, ◌++◌, length, length-append}
 use Rattle.std.proofs.Common.{append-nil, refl, sym, ap, ◌∙◌, ⊎_elim, arith}
 use mathlib.Core.Logic.{dite}
-use mathlib.Core.Option.{some, some-injective}
+use mathlib.Core.Option.{some}
 use native.Mathlib.Decide.{ℕ_discrete}
 use lib.ListN.{get_elem?}
 use Rattle.atomic_table.specs.Seated.{TableId}
@@ -19,7 +19,9 @@ module _ {A : Type 0} where
   pub all_of : (l a b : List A) → l ≡ a ++ b → length l ≡ length a → l ≡ a
   all_of l a [] e n = e ∙ append-nil a
   all_of l a (x ∷ xs) e n =
-      let f = length-append a (x ∷ xs) in let g : length l ≡ length (a ++ x ∷ xs) = ap length e in absurd (omega arith)
+      let f = length-append a (x ∷ xs) in
+      let g : length l ≡ length (a ++ x ∷ xs) = ap length e in
+      absurd (omega arith)
 
   -- a place below the length has an element
   pub there : (l : List A) (i : ℕ) → i < length l → (a : A) × (get_elem? l i ≡ some a)
@@ -27,45 +29,35 @@ module _ {A : Type 0} where
   there (x ∷ xs) zero h = (x, refl)
   there (x ∷ xs) (suc i) h = there xs i (omega arith)
 
-  -- one more that the list P has at its place
-  pub one_more : (P : ℕ → A) (l m : List A) (a : A) → m ≡ l ++ a ∷ [] → P (length l) ≡ a
-      → ((i : ℕ) → i < length l → get_elem? l i ≡ some (P i)) → (i : ℕ) → i < length m → get_elem? m i ≡ some (P i)
-  one_more P l m a e last before i h =
-      let n : length m ≡ length l + 1 = ap length e ∙ length-append l (a ∷ []) in
-      ap (λ z. get_elem? z i) e ∙ dite (ℕ_discrete i (length l))
-      (λ same. at_last l a i (sym same) ∙ ap some (sym last ∙ ap P (sym same)))
-      (λ other. at_longer l (a ∷ []) i (P i) (before i (omega arith)))
-
-  -- one fewer
-  pub one_fewer : (P : ℕ → A) (l m : List A) (a : A) → m ≡ l ++ a ∷ []
-      → ((i : ℕ) → i < length m → get_elem? m i ≡ some (P i)) → (a ≡ P (length l))
-      × (length l + 1 ≡ length m) × ((i : ℕ) → i < length l → get_elem? l i ≡ some (P i))
-  one_fewer P l m a e all = let n : length m ≡ length l + 1 = ap length e ∙ length-append l (a ∷ []) in (
-    some-injective a (P (length l))
-        (sym (at_last l a (length l) refl) ∙ (ap (λ z. get_elem? z (length l)) (sym e) ∙ all (length l) (omega arith))),
-    sym n,
-    λ i h. let b = there l i h in
-        b.1 ∙ ap some (some-injective b.0 (P i)
-        (sym (at_longer l (a ∷ []) i b.0 b.1) ∙ (ap (λ z. get_elem? z i) (sym e) ∙ all i (omega arith)))),
-  )
+  -- a list that has at each place what `nth` says, and one element more, which `nth` says of the place after it
+  pub numbered_more : (nth : ℕ → A) (old new : List A) (last : A) → new ≡ old ++ last ∷ [] → nth (length old) ≡ last
+      → ((i : ℕ) → i < length old → get_elem? old i ≡ some (nth i)) → (i : ℕ) → i < length new
+      → get_elem? new i ≡ some (nth i)
+  numbered_more nth old new last e is_last before i h =
+      let n : length new ≡ length old + 1 = ap length e ∙ length-append old (last ∷ []) in
+      ap (λ z. get_elem? z i) e ∙ dite (ℕ_discrete i (length old))
+      (λ same. at_last old last i (sym same) ∙ ap some (sym is_last ∙ ap nth (sym same)))
+      (λ other. at_longer old (last ∷ []) i (nth i) (before i (omega arith)))
 
 module _ {S O R : Type 0} where
   -- one more object has its core in its slot
-  pub cores_more : (lists : List TableId) (os os' : List S) (ss ss' : List (Slot S O R)) (o : S) (k : Core S O R)
-      → os' ≡ os ++ o ∷ []
-      → ss' ≡ ss ++ slot.Core k ∷ [] → length ss ≡ length os → k.object ≡ o → k.log.items ≡ []
-      → get_elem? lists (length os) ≡ some k.list.roster → AreCores os lists ss → AreCores os' lists ss'
-  cores_more lists os os' ss ss' o k e f n on empty list before x p at = ⊎_elim
-      (λ (t : get_elem? os x ≡ some p). let b = before x p t in
-      (b.0, ap (λ z. get_elem? z x) f ∙ at_longer ss (slot.Core k ∷ []) x (slot.Core b.0) b.1, b.2, b.3, b.4))
-      (λ (t : (x ≡ length os) × (o ≡ p)). (
-        k,
-        ap (λ z. get_elem? z x) f ∙ at_last ss (slot.Core k) x (n ∙ sym t.0),
+  pub cores_more : (lists : List TableId) (objects objects' : List S) (slots slots' : List (Slot S O R)) (object : S)
+      (core : Core S O R) → objects' ≡ objects ++ object ∷ []
+      → slots' ≡ slots ++ slot.Core core ∷ [] → length slots ≡ length objects → core.object ≡ object
+      → core.log.items ≡ []
+      → get_elem? lists (length objects) ≡ some core.list.roster → AreCores objects lists slots
+      → AreCores objects' lists slots'
+  cores_more lists objects objects' slots slots' object core e f n on empty list before x p at = ⊎_elim
+      (λ (t : get_elem? objects x ≡ some p). let b = before x p t in
+      (b.0, ap (λ z. get_elem? z x) f ∙ at_longer slots (slot.Core core ∷ []) x (slot.Core b.0) b.1, b.2, b.3, b.4))
+      (λ (t : (x ≡ length objects) × (object ≡ p)). (
+        core,
+        ap (λ z. get_elem? z x) f ∙ at_last slots (slot.Core core) x (n ∙ sym t.0),
         on ∙ t.1,
         empty,
         ap (get_elem? lists) t.0 ∙ list,
       ))
-      (at_end os o p x (ap (λ z. get_elem? z x) (sym e) ∙ at))
+      (at_end objects object p x (ap (λ z. get_elem? z x) (sym e) ∙ at))
 
   -- the cores stay in their slots with more slots after them
   pub cores_longer : (lists : List TableId) (os : List S) (ss ss' more : List (Slot S O R)) → ss' ≡ ss ++ more

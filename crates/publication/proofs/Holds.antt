@@ -48,34 +48,35 @@ agrees_seeing {v = v} x l low legal account k = let wide = k.wide in assumption 
 
 module _ {S O R : Type 0} (op_in : O → AnyOp) (reply_in : R → AnyReply) where
   -- what an entry leaves of the room for entries
-  pub room_taken : (k k' : Core S O R) (more : List AnyEntry)
-      → log_of op_in reply_in k' ≡ log_of op_in reply_in k ++ more
-      → (vec_len k.log < vec_capacity k.log → vec_capacity k'.log ≡ vec_capacity k.log)
-      → 0 < vec_capacity k.log - vec_len k.log
-      → (vec_capacity k'.log - vec_len k'.log) + length more ≡ vec_capacity k.log - vec_len k.log
-  room_taken k k' more e same room =
-      let n : vec_len k.log ≡ length (log_of op_in reply_in k) =
-      k.log.ok.0 ∙ sym (length-map k.log.items (entry_in op_in reply_in)) in
-      let n' : vec_len k'.log ≡ length (log_of op_in reply_in k') =
-      k'.log.ok.0 ∙ sym (length-map k'.log.items (entry_in op_in reply_in)) in
-      let long : length (log_of op_in reply_in k') ≡ length (log_of op_in reply_in k) + length more =
-      ap length e ∙ length-append (log_of op_in reply_in k) more in
+  pub room_taken : (before after : Core S O R) (more : List AnyEntry)
+      → log_of op_in reply_in after ≡ log_of op_in reply_in before ++ more
+      → (vec_len before.log < vec_capacity before.log → vec_capacity after.log ≡ vec_capacity before.log)
+      → 0 < vec_capacity before.log - vec_len before.log
+      → (vec_capacity after.log - vec_len after.log) + length more ≡ vec_capacity before.log - vec_len before.log
+  room_taken before after more e same room =
+      let n : vec_len before.log ≡ length (log_of op_in reply_in before) =
+      before.log.ok.0 ∙ sym (length-map before.log.items (entry_in op_in reply_in)) in
+      let n' : vec_len after.log ≡ length (log_of op_in reply_in after) =
+      after.log.ok.0 ∙ sym (length-map after.log.items (entry_in op_in reply_in)) in
+      let long : length (log_of op_in reply_in after) ≡ length (log_of op_in reply_in before) + length more =
+      ap length e ∙ length-append (log_of op_in reply_in before) more in
       let capacity = same (omega arith) in
-      let within : vec_len k'.log ≤ vec_capacity k'.log = k'.log.ok.1 in
+      let within : vec_len after.log ≤ vec_capacity after.log = after.log.ok.1 in
       omega arith
 
 module _ {S O R : Type 0} (content : S → Content) (op_in : O → AnyOp) (reply_in : R → AnyReply) where
   -- the core after a request was served
-  pub core_grows : (kind : Kind) (list : maybe.Option TableId) (r : ℕ) (k k' : Core S O R) (q : Request O)
-      (a : Answer R) → k'.list ≡ k.list
-      → CoreFits content op_in reply_in kind list k (log_of op_in reply_in k)
-      → log_of op_in reply_in k' ≡ log_of op_in reply_in k ++ logged r (request_in op_in q) (answer_in reply_in a)
-      → Serves (content k.object) (op_in q.op) (answer_in reply_in a) (content k'.object)
-      → CoreFits content op_in reply_in kind list k' (log_of op_in reply_in k')
-  core_grows kind list r k k' q a same fits log did = (
+  pub core_grows : (kind : Kind) (list : maybe.Option TableId) (row : ℕ) (before after : Core S O R)
+      (request : Request O) (given : Answer R) → after.list ≡ before.list
+      → CoreFits content op_in reply_in kind list before (log_of op_in reply_in before)
+      → log_of op_in reply_in after ≡ log_of op_in reply_in before ++ logged row (request_in op_in request)
+      (answer_in reply_in given)
+      → Serves (content before.object) (op_in request.op) (answer_in reply_in given) (content after.object)
+      → CoreFits content op_in reply_in kind list after (log_of op_in reply_in after)
+  core_grows kind list row before after request given same fits log did = (
     refl,
-    rw log (replays_more (empty kind) (content k.object) (content k'.object) (log_of op_in reply_in k) r
-        (request_in op_in q) (answer_in reply_in a)
+    rw log (replays_more (empty kind) (content before.object) (content after.object) (log_of op_in reply_in before) row
+        (request_in op_in request) (answer_in reply_in given)
         fits.1 did),
     fits.2 ∙ ap (λ (l : WalkerSeen). some l.roster) (sym same),
   )

@@ -64,31 +64,42 @@ none_held (Some c) never = absurd (never c refl)
 
 module _ {S O R : Type 0} (content : S → Content) (op_in : O → AnyOp) (reply_in : R → AnyReply) (kinds : List Kind)
     (clients quota : ℕ) where
-  leavings : (id : ℕ) (v : DeskView) (words : List ℕ) (xs : List (Slot S O R)) → v.role ≡ role.Client
-      → v.held ≡ held.Free → IsAtRest v.own
-      → ((c : ℕ) → c < clients → c ≢ v.number → Contains v.retired c)
-      → Final (Seen (Kept content op_in reply_in kinds clients quota) id v) words xs
-      → Leavings op_in reply_in kinds clients quota v xs
-  leavings id v words xs cl free rest all f =
-      let s = f.0 in let k = f.1.0 in let at = f.1.1 in let home = f.4 in let w : World = k.world in
-      let ok = mine k id cl at in let few = k.few_clients in
-      let ended : (c : ℕ) → c < clients → c ≢ v.number → w.ended c ≡ true =
-      λ c l other. All-contains (λ d. w.ended d ≡ true) v.retired c ok.retired (all c l other) in
-      let not_mine : (x : ℕ) → w.holder x ≢ Some v.number = subst (HeldAgrees (length kinds) w v.number) free ok.held in
-      let free_all : (x : ℕ) → w.holder x ≡ None = λ x. none_held (w.holder x) (λ c e. dite (ℕ_discrete c v.number)
+  -- Where a client at rest holds nothing, and knows that all others have ended, each slot has its object, or what its
+  -- client left.
+  leavings : (id : ℕ) (view : DeskView) (words : List ℕ) (slots : List (Slot S O R)) → view.role ≡ role.Client
+      → view.held ≡ held.Free → IsAtRest view.own
+      → ((c : ℕ) → c < clients → c ≢ view.number → Contains view.retired c)
+      → Final (Seen (Kept content op_in reply_in kinds clients quota) id view) words slots
+      → Leavings op_in reply_in kinds clients quota view slots
+  leavings id view words slots client free rest all end =
+      let s = end.0 in
+      let k = end.1.0 in
+      let at = end.1.1 in
+      let home = end.4 in
+      let world : World = k.world in
+      let ok = mine k id client at in
+      let few = k.few_clients in
+      let ended : (c : ℕ) → c < clients → c ≢ view.number → world.ended c ≡ true =
+      λ c l other. All-contains (λ d. world.ended d ≡ true) view.retired c ok.retired (all c l other) in
+      let not_mine : (x : ℕ) → world.holder x ≢ Some view.number =
+      subst (HeldAgrees (length kinds) world view.number) free ok.held in
+      let free_all : (x : ℕ) → world.holder x ≡ None = λ x. none_held (world.holder x)
+      (λ c e. dite (ℕ_discrete c view.number)
       (λ same. not_mine x (e ∙ ap Some same))
-      (λ other. let b = k.holders x c e in let g = ended c b.0 other in let h = b.1 in absurd (cc))) in record {
-        world = w;
+      (λ other. let b = k.holders x c e in absurd (cc (ended c b.0 other, b.1)))) in
+      record {
+        world = world;
         sound = k.sound;
-        number_low = k.makers.numbers id v at cl;
+        number_low = k.makers.numbers id view at client;
         cores = λ x l. let b = k.tied.cores x l (free_all x) in (b.0, home x (slot.Core b.0) b.1, b.2.0);
         seen = ok.seen;
         journals = λ c l other. let b = (k.tied.journals c (omega arith)).at_last (ended c l other) in
             (b.0, home (48 + c) (slot.Journal b.0) b.1, b.2);
-        left = λ i d l. ((k.seats id v at).left i d l).1;
-        own = λ i. journal_of (ok.done i) (own_is v.own (w.stage v.number) ok.own i);
-        accounts = λ x. accounts kinds quota w x v (w.log x) rest ok.done ok.own k.sound (starts_same (w.log x))
-            (all_covered kinds quota w v.number x v.done v.own ok.done ok.own k.sound);
+        left = λ i d l. ((k.seats id view at).left i d l).1;
+        own = λ i. journal_of (ok.done i) (own_is view.own (world.stage view.number) ok.own i);
+        accounts = λ x. accounts kinds quota world x view (world.log x) rest ok.done ok.own k.sound
+            (starts_same (world.log x))
+            (all_covered kinds quota world view.number x view.done view.own ok.done ok.own k.sound);
         come = k.come;
       }
 
@@ -109,7 +120,9 @@ module _ {S O R : Type 0} (op_in : O → AnyOp) (reply_in : R → AnyReply) (d :
   same_logs : AreLogs (length d.id.kinds) xs r.logs → (x : ℕ)
       → map (entry_in op_in reply_in) (get_or r.logs x []) ≡ left.world.log x
   same_logs logs x = ⊎_elim
-      (λ (l : x < length d.id.kinds). let b = left.cores x l in let a = logs.1 x l in
+      (λ (l : x < length d.id.kinds).
+      let b = left.cores x l in
+      let a = logs.1 x l in
       let same = same_core b.0 a.0 (sym b.1 ∙ a.1) in
       ap (map (entry_in op_in reply_in)) (sym a.2) ∙ (ap (log_of op_in reply_in) (sym same) ∙ b.2))
       (λ (far : length d.id.kinds ≤ x). let count = logs.0 in
@@ -125,7 +138,9 @@ module _ {S O R : Type 0} (op_in : O → AnyOp) (reply_in : R → AnyReply) (d :
       (λ same. subst (λ z. map (event_in op_in reply_in) (get_or r.journals z []) ≡ journal_in left.world z)
       (sym same) (own ∙ left.own))
       (λ other. ⊎_elim
-      (λ (l : c < d.clients). let b = left.journals c l other in let a = others c l other in
+      (λ (l : c < d.clients).
+      let b = left.journals c l other in
+      let a = others c l other in
       let same = same_journal b.0 a.0 (sym b.1 ∙ a.1) in
       ap (map (event_in op_in reply_in)) (sym a.2)
       ∙ (ap (λ (j : Journal O R). map (event_in op_in reply_in) j.events.items) (sym same) ∙ b.2))
@@ -154,23 +169,23 @@ module _ {S O R : Type 0} (op_in : O → AnyOp) (reply_in : R → AnyReply) (d :
 
 module _ {O R : Type 0} (op_in : O → AnyOp) (reply_in : R → AnyReply) where
   -- what the last client has learnt of end words does not matter
-  pub closed_same : (d : DeskSeen) (a b : Known) (r : Recorded O R) → HasLearntEnds a b
-      → IsClosedRecord op_in reply_in d b r
-      → IsClosedRecord op_in reply_in d a r
-  closed_same d a b r is k = let same = subst (λ z. IsClosedRecord op_in reply_in d z r) is k in assumption
+  pub closed_same : (desk : DeskSeen) (start now : Known) (recorded : Recorded O R) → HasLearntEnds start now
+      → IsClosedRecord op_in reply_in desk now recorded → IsClosedRecord op_in reply_in desk start recorded
+  closed_same desk start now recorded is k =
+      let same = subst (λ z. IsClosedRecord op_in reply_in desk z recorded) is k in assumption
 
 module _ {S O R : Type 0} (content : S → Content) (op_in : O → AnyOp) (reply_in : R → AnyReply) where
   -- the same of a desk and its last client, as they are seen
-  pub left_by : (plan : Plan) (d : DeskSeen) (last : Known) (id : ℕ) (v : DeskView) (words : List ℕ)
-      (xs : List (Slot S O R))
-      → plan.kinds.items ≡ d.id.kinds → plan.clients ≡ d.clients → plan.quota ≡ d.id.quota → v ≡ last.knows
-      → v.role ≡ role.Client → v.held ≡ held.Free → IsAtRest v.own
-      → HaveEnded d.clients last
-      → Final (Seen (Kept content op_in reply_in plan.kinds.items plan.clients plan.quota) id v) words xs
-      → Leavings op_in reply_in d.id.kinds d.clients d.id.quota last.knows xs
-  left_by plan d last id v words xs kinds clients quota same cl free rest all f =
-      subst (λ (t : List Kind × ℕ × ℕ × DeskView). Leavings op_in reply_in t.0 t.1 t.2 t.3 xs)
+  pub left_by : (plan : Plan) (desk : DeskSeen) (last : Known) (id : ℕ) (view : DeskView) (words : List ℕ)
+      (slots : List (Slot S O R))
+      → plan.kinds.items ≡ desk.id.kinds → plan.clients ≡ desk.clients → plan.quota ≡ desk.id.quota → view ≡ last.knows
+      → view.role ≡ role.Client → view.held ≡ held.Free → IsAtRest view.own
+      → HaveEnded desk.clients last
+      → Final (Seen (Kept content op_in reply_in plan.kinds.items plan.clients plan.quota) id view) words slots
+      → Leavings op_in reply_in desk.id.kinds desk.clients desk.id.quota last.knows slots
+  left_by plan desk last id view words slots kinds clients quota same client free rest all end =
+      subst (λ (t : List Kind × ℕ × ℕ × DeskView). Leavings op_in reply_in t.0 t.1 t.2 t.3 slots)
       (λ i. (kinds i, clients i, quota i, same i))
-      (leavings content op_in reply_in plan.kinds.items plan.clients plan.quota id v words xs cl free rest
+      (leavings content op_in reply_in plan.kinds.items plan.clients plan.quota id view words slots client free rest
       (subst (λ (t : ℕ × DeskView). (c : ℕ) → c < t.0 → c ≢ t.1.number → Contains t.1.retired c)
-      (λ i. (sym clients i, sym same i)) all) f)
+      (λ i. (sym clients i, sym same i)) all) end)

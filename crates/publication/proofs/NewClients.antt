@@ -26,18 +26,22 @@ use Rattle.publication.proofs.Growing.{there}
 use Rattle.publication.specs.Making.{IsLaid, AreEmpty, kinds_with, HasRoom, IsSmall}
 
 module _ {A : Type 0} where
-  holds_there : (P : A → Type 0) (l : List A) (i : ℕ) (a : A) → get_elem? l i ≡ some a
-      → ((k : ℕ) (d : A) → k < length l → P (get_or l k d)) → P a
-  holds_there P [] i a e all = absurd (some-ne-none a (sym e))
-  holds_there P (x ∷ xs) zero a e all = subst P (some-injective x a e) (all 0 a (omega arith))
-  holds_there P (x ∷ xs) (suc i) a e all = holds_there P xs i a e (λ k d h. all (suc k) d (omega arith))
+  -- what holds at each place of a list holds of an element that was found
+  holds_there : (P : A → Type 0) (list : List A) (i : ℕ) (found : A) → get_elem? list i ≡ some found
+      → ((k : ℕ) (d : A) → k < length list → P (get_or list k d)) → P found
+  holds_there P [] i found e all = absurd (some-ne-none found (sym e))
+  holds_there P (x ∷ xs) zero found e all = subst P (some-injective x found e) (all 0 found (omega arith))
+  holds_there P (x ∷ xs) (suc i) found e all = holds_there P xs i found e (λ k d h. all (suc k) d (omega arith))
 
-  kind_there : (f : A → Kind) (l : List A) (i : ℕ) (a : A) → get_elem? l i ≡ some a → kind_at (map f l) i ≡ f a
-  kind_there f [] i a e = absurd (some-ne-none a (sym e))
-  kind_there f (x ∷ xs) zero a e = ap f (some-injective x a e)
-  kind_there f (x ∷ xs) (suc i) a e = kind_there f xs i a e
+  -- the kind of an element that was found is at its place
+  kind_there : (kind_of : A → Kind) (list : List A) (i : ℕ) (found : A) → get_elem? list i ≡ some found
+      → kind_at (map kind_of list) i ≡ kind_of found
+  kind_there kind_of [] i found e = absurd (some-ne-none found (sym e))
+  kind_there kind_of (x ∷ xs) zero found e = ap kind_of (some-injective x found e)
+  kind_there kind_of (x ∷ xs) (suc i) found e = kind_there kind_of xs i found e
 
 module _ {S O R : Type 0} (content : S → Content) (op_in : O → AnyOp) (reply_in : R → AnyReply) where
+  -- the words and slots with which a desk begins keep the rule, as its maker knows it
   pub opens_on : (plan : Plan) (objects : List S) (slots : List (Slot S O R)) → IsSmall plan
       → plan.kinds.items ≡ kinds_with content objects
       → AreEmpty content objects → IsLaid objects plan.lists.items slots
@@ -48,7 +52,9 @@ module _ {S O R : Type 0} (content : S → Content) (op_in : O → AnyOp) (reply
       ap length are ∙ length-map objects (λ o. kind_with (content o)) in let few = small.0 in
       opening_keeps_rule content op_in reply_in plan.kinds.items plan.clients plan.quota plan.lists.items
       (replicate 81 0) slots small.0 small.1 small.2 refl (get_or-replicate_same 0 81) laid.long
-      (λ x l. let o = there objects x (omega arith) in let k = laid.cores x o.0 o.1 in
+      (λ x l.
+      let o = there objects x (omega arith) in
+      let k = laid.cores x o.0 o.1 in
       let kind : kind_at plan.kinds.items x ≡ kind_with (content o.0) =
       ap (λ z. kind_at z x) are ∙ kind_there (λ o. kind_with (content o)) objects x o.0 o.1 in
       let is : content o.0 ≡ empty (kind_with (content o.0)) =

@@ -75,25 +75,25 @@ module _ {O R : Type 0} {op_in : O → AnyOp} {reply_in : R → AnyReply} {numbe
   -- there is room for the return of the outstanding call
   pub room_to_return : {q : AnyRequest} → Agrees op_in reply_in number calls quota true j v
       → v.own ≡ own.Waiting q → vec_len j.events < vec_capacity j.events
-  room_to_return k is =
-      let n = rw is at (length-events k) in let count = rw is at k.calls_is in
-      let room = k.room in let within = k.within in omega arith
+  room_to_return k is = omega (arith, rw is at (length-events k), rw is at k.calls_is, k.room, k.within)
 
   -- there is room for one call more
   pub room_to_call : Agrees op_in reply_in number calls quota false j v → calls < quota
       → vec_len j.events < vec_capacity j.events
   room_to_call k few =
       let is = own_idle v.own k.at_rest (sym k.outstanding_is) in
-      let n = rw is at (length-events k) in let count = rw is at k.calls_is in let room = k.room in omega arith
+      omega (arith, rw is at (length-events k), rw is at k.calls_is, k.room)
 
 -- a journal after one event more
-journal_grows : {O R : Type 0} (op_in : O → AnyOp) (reply_in : R → AnyReply) (j j' : Journal O R) (e : JournalEvent O R)
-    (l : List AnyEvent)
-    → map (event_in op_in reply_in) j.events.items ≡ l → j'.events.items ≡ j.events.items ++ e ∷ []
-    → map (event_in op_in reply_in) j'.events.items ≡ l ++ event_in op_in reply_in e ∷ []
-journal_grows op_in reply_in j j' e l is more =
+journal_grows : {O R : Type 0} (op_in : O → AnyOp) (reply_in : R → AnyReply) (before after : Journal O R)
+    (event : JournalEvent O R) (events : List AnyEvent)
+    → map (event_in op_in reply_in) before.events.items ≡ events
+    → after.events.items ≡ before.events.items ++ event ∷ []
+    → map (event_in op_in reply_in) after.events.items ≡ events ++ event_in op_in reply_in event ∷ []
+journal_grows op_in reply_in before after event events is more =
     ap (map (event_in op_in reply_in)) more
-    ∙ (map-append (event_in op_in reply_in) j.events.items (e ∷ []) ∙ ap (λ z. z ++ event_in op_in reply_in e ∷ []) is)
+    ∙ (map-append (event_in op_in reply_in) before.events.items (event ∷ [])
+    ∙ ap (λ z. z ++ event_in op_in reply_in event ∷ []) is)
 
 -- ---- a whole post
 
@@ -121,14 +121,20 @@ module _ {S O R : Type 0} {op_in : O → AnyOp} {reply_in : R → AnyReply} {num
       → vec_capacity j'.events ≡ vec_capacity j.events
       → IsClient op_in reply_in number (calls + 1) quota true j' d
   client_after_post {j' = j'} q k e low few more same =
-      let h = k.agrees in let w : AnyRequest = request_in op_in q in let is =
-      own_idle m.0.own h.at_rest (sym h.outstanding_is) in let n = h.calls_is in
+      let h = k.agrees in
+      let w : AnyRequest = request_in op_in q in
+      let is = own_idle m.0.own h.at_rest (sym h.outstanding_is) in
+      let n = h.calls_is in
       let count : calls_made m.0.done (own_request m.0.own) ≡ length m.0.done + 0 =
-      ap (λ z. calls_made m.0.done (own_request z)) is in let room = h.room in
+      ap (λ z. calls_made m.0.done (own_request z)) is in
+      let room = h.room in
       let calls_is : calls + 1 ≡ calls_made m.0.done (Some w) = omega arith in
-      let within : calls + 1 ≤ quota = omega arith in let wide : quota + quota ≤ vec_capacity j'.events = omega arith in
-      let accounts : (x : ℕ) → IsAccount x (with_own (own.Waiting w) m.0) (seen_of m.0 x) = λ x. let a = h.accounts x in
-      (a.0, a.1, inl (subst (λ o. MayHold x m.0.number o a.0) is a.2)) in rw e record {
+      let within : calls + 1 ≤ quota = omega arith in
+      let wide : quota + quota ≤ vec_capacity j'.events = omega arith in
+      let accounts : (x : ℕ) → IsAccount x (with_own (own.Waiting w) m.0) (seen_of m.0 x) = λ x.
+      let a = h.accounts x in
+      (a.0, a.1, inl (subst (λ o. MayHold x m.0.number o a.0) is a.2)) in
+      rw e record {
         agrees = assumption (
           h,
           low,
@@ -189,14 +195,18 @@ module _ {S O R : Type 0} {op_in : O → AnyOp} {reply_in : R → AnyReply} {num
       → j'.events.items ≡ j.events.items ++ Returned t e ∷ [] → vec_capacity j'.events ≡ vec_capacity j.events
       → IsClient op_in reply_in number calls quota false j' d
   client_after_poll t {j'} {q} e l k is low legal counted f more same =
-      let h = k.agrees in let n = h.calls_is in let w : AnyAnswer =
-      answer_in reply_in e in let room = h.room in let wide = h.wide in
+      let h = k.agrees in
+      let n = h.calls_is in
+      let w : AnyAnswer = answer_in reply_in e in
+      let room = h.room in
+      let wide = h.wide in
       let ds : List AnyDone = m.0.done ++ record { request = q; answer = w; returned = t } ∷ [] in
       -- one call more is over
       let long : length ds ≡ length m.0.done + 1 =
       length-append m.0.done (record { request = q; answer = w; returned = t } ∷ []) in
       let count : calls_made m.0.done (own_request m.0.own) ≡ length m.0.done + 1 =
-      ap (λ z. calls_made m.0.done (own_request z)) is in rw f record {
+      ap (λ z. calls_made m.0.done (own_request z)) is in
+      rw f record {
         agrees = record {
           client_is = h.client_is;
           number_is = h.number_is;
@@ -255,9 +265,11 @@ module _ {S O R : Type 0} {op_in : O → AnyOp} {reply_in : R → AnyReply} {num
         (16 + number, slot.Nothing) ∷ (48 + number, slot.Nothing) ∷ [],
       ) → IsPollAnswer v (answer_in reply_in e) d.0
   polled {t} {q} e l {u = u} k is waits low legal begins counted took later f =
-      let w : AnyAnswer = answer_in reply_in e in let wide = k.agrees.wide in
+      let w : AnyAnswer = answer_in reply_in e in
+      let wide = k.agrees.wide in
       let now : seen_of u q.object ≡ l =
-      ap (λ z. seen_of z q.object) took ∙ get_or-set_same m.0.seen q.object l [] (omega arith) in rw (is, f) record {
+      ap (λ z. seen_of z q.object) took ∙ get_or-set_same m.0.seen q.object l [] (omega arith) in
+      rw (is, f) record {
         request = q;
         log = l;
         ticket = t;

@@ -14,19 +14,19 @@ module _ {S O R : Type 0} where
   head_or d (x ∷ xs) = x.1
 
   -- the value that comes out of the slot taken last
-  pub came_out : (i : ℕ) (x r : Slot S O R) (cs tl : List (ℕ × Slot S O R)) → cs ≡ (i, x) ∷ tl
-      → cs ≡ (i, r) ∷ rest cs → r ≡ x
-  came_out i x r cs tl a b = ap (head_or x) (sym b ∙ a)
+  pub came_out : (i : ℕ) (inside out : Slot S O R) (hand others : List (ℕ × Slot S O R)) → hand ≡ (i, inside) ∷ others
+      → hand ≡ (i, out) ∷ rest hand → out ≡ inside
+  came_out i inside out hand others a b = ap (head_or inside) (sym b ∙ a)
 
   -- the first slot in a client's hands can be exchanged
-  pub can_exchange : (i : ℕ) (x : Slot S O R) (cs tl : List (ℕ × Slot S O R)) → cs ≡ (i, x) ∷ tl
-      → (old : Slot S O R) × (cs ≡ (i, old) ∷ rest cs)
-  can_exchange i x cs tl e = (x, e ∙ ap (λ z. (i, x) ∷ rest z) (sym e))
+  pub can_exchange : (i : ℕ) (inside : Slot S O R) (hand others : List (ℕ × Slot S O R)) → hand ≡ (i, inside) ∷ others
+      → (old : Slot S O R) × (hand ≡ (i, old) ∷ rest hand)
+  can_exchange i inside hand others e = (inside, e ∙ ap (λ z. (i, inside) ∷ rest z) (sym e))
 
   -- another value in the slot taken last
-  pub in_slot : (v : DeskView) (i : ℕ) (x y : Slot S O R) (tl : List (ℕ × Slot S O R)) → x ≡ y
-      → ◌≡◌ {A = Me (Slot S O R) DeskView} (v, (i, x) ∷ tl) (v, (i, y) ∷ tl)
-  in_slot v i x y tl e = ap (λ z. (v, (i, z) ∷ tl)) e
+  pub in_slot : (view : DeskView) (i : ℕ) (one other : Slot S O R) (others : List (ℕ × Slot S O R)) → one ≡ other
+      → ◌≡◌ {A = Me (Slot S O R) DeskView} (view, (i, one) ∷ others) (view, (i, other) ∷ others)
+  in_slot view i one other others e = ap (λ z. (view, (i, z) ∷ others)) e
 
   pub same_core : (k k' : Core S O R) → slot.Core k ≡ slot.Core k' → k ≡ k'
   same_core k k' e = cc

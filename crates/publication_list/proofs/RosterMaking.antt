@@ -26,13 +26,13 @@ abbrev Hands : Type 0
 Hands = Me ℕ ListView
 
 -- an element of a list with one more is one of the list, or the last
-pub at_end : {A : Type 0} (l : List A) (a b : A) (j : ℕ) → get_elem? (l ++ a ∷ []) j ≡ some b
-    → (get_elem? l j ≡ some b) ⊎ ((j ≡ length l) × (a ≡ b))
-at_end [] a b zero e = inr (refl, some-injective a b e)
-at_end [] a b (suc j) e = absurd (some-ne-none b (sym e))
-at_end (x ∷ xs) a b zero e = inl e
-at_end (x ∷ xs) a b (suc j) e =
-    elim (at_end xs a b j e) [ inl t ↦ inl t | inr t ↦ inr (ap suc t.0, t.1) ]
+pub at_end : {A : Type 0} (front : List A) (last found : A) (j : ℕ) → get_elem? (front ++ last ∷ []) j ≡ some found
+    → (get_elem? front j ≡ some found) ⊎ ((j ≡ length front) × (last ≡ found))
+at_end [] last found zero e = inr (refl, some-injective last found e)
+at_end [] last found (suc j) e = absurd (some-ne-none found (sym e))
+at_end (x ∷ xs) last found zero e = inl e
+at_end (x ∷ xs) last found (suc j) e =
+    elim (at_end xs last found j e) [ inl t ↦ inl t | inr t ↦ inr (ap suc t.0, t.1) ]
 
 abbrev first_walker : ListView
 first_walker = view.Walker 0 [] None []
@@ -57,9 +57,9 @@ out_later : (w : PublicationList) (o : Option ℕ) → TakenOutAgrees w o
 out_later w o ok = grind arith
 
 -- what is known stays true where a place more was made
-later : (w : PublicationList) (j : ℕ) (u : ListView) → j ≢ 0 → ListViewAgrees w j u
-    → ListViewAgrees (record w { made = w.made + 1 }) j u
-later w j u other ok = grind arith
+later : (list : PublicationList) (j : ℕ) (seen : ListView) → j ≢ 0 → ListViewAgrees list j seen
+    → ListViewAgrees (record list { made = list.made + 1 }) j seen
+later list j seen other ok = grind arith
 
 pub split_keeps_rule : (id made : ℕ) (left : List ℕ) (out : Option ℕ) (walks : List (List ℕ)) → made < 32
     → Splits Holds id (view.Walker made left out walks) (view.Walker (made + 1) left out walks)

@@ -10,9 +10,9 @@ use Rattle.publication_list.specs.PublicationList.{IsDistinct, word_at}
 
 module _ {A : Type 0} where
   -- what holds of the new value at i, and of the old ones elsewhere, holds of the function with that value
-  pub updated_all : (P : ℕ → A → Type 0) (f : ℕ → A) (i : ℕ) (v : A) → P i v → ((j : ℕ) → j ≢ i → P j (f j)) → (j : ℕ)
-      → P j (update ℕ_discrete f i v j)
-  updated_all P f i v here others = (forall_update_iff ℕ_discrete f P).1 (here, others)
+  pub updated_all : (P : ℕ → A → Type 0) (f : ℕ → A) (i : ℕ) (value : A) → P i value → ((j : ℕ) → j ≢ i → P j (f j))
+      → (j : ℕ) → P j (update ℕ_discrete f i value j)
+  updated_all P f i value here others = (forall_update_iff ℕ_discrete f P).1 (here, others)
 
 -- the word that leads to a place in the list
 pub word_at_in : (l : List ℕ) (k : ℕ) → k < length l → word_at l k ≡ 1 + get_or l k 0
@@ -108,10 +108,10 @@ few_below zero [] d low = omega arith
 few_below zero (x ∷ xs) d low = let h = low 0 (omega arith) in absurd (omega arith)
 few_below (suc n) l d low = elim (found n l) [
   | inl t ↦ let long = length-remove l t.0 t.1 in
-      let rest = few_below n (remove l t.0) (distinct_remove l t.0 t.1 d) (λ k h. let a = was_at l t.0 k t.1 h in
-      let lt = low a.0 a.1 in
-      let ne = gone l t.0 k t.1 d h in
-      let e = a.2 in
-      let other : get_or (remove l t.0) k 0 ≢ n = λ f. ne (f ∙ sym t.2) in omega arith) in omega arith
-  | inr t ↦ let rest = few_below n l d (λ k h. let lt = low k h in let ne = t k h in omega arith) in omega arith
+      let rest = few_below n (remove l t.0) (distinct_remove l t.0 t.1 d) (λ k h.
+      let a = was_at l t.0 k t.1 h in
+      let other : get_or (remove l t.0) k 0 ≢ n = λ f. gone l t.0 k t.1 d h (f ∙ sym t.2) in
+      omega (arith, low a.0 a.1, a.2)) in
+      omega arith
+  | inr t ↦ omega (arith, few_below n l d (λ k h. omega (arith, low k h, t k h)))
 ]

@@ -40,176 +40,191 @@ out_of (view.Walker made left out walks) = out
 out_of v = None
 
 -- the view that the walker has
-known : (s : St) (k : Kept s) (id made : ℕ) (left : List ℕ) (out : Option ℕ) (walks : List (List ℕ))
-    → get_elem? s.views id ≡ some (view.Walker made left out walks)
-    → (id ≡ 0) × (made ≡ k.list.made) × ((newcomers : List ℕ) × (k.list.rows ≡ newcomers ++ left))
-    × TakenOutAgrees k.list out
-known s k id made left out walks at = k.seats id (view.Walker made left out walks) at
+known : (state : St) (kept : Kept state) (id made : ℕ) (left : List ℕ) (out : Option ℕ) (walks : List (List ℕ))
+    → get_elem? state.views id ≡ some (view.Walker made left out walks)
+    → (id ≡ 0) × (made ≡ kept.list.made) × ((newcomers : List ℕ) × (kept.list.rows ≡ newcomers ++ left))
+    × TakenOutAgrees kept.list out
+known state kept id made left out walks at = kept.seats id (view.Walker made left out walks) at
 
 -- ---- the walker meets the list
 
 -- the list as it is now begins with newcomers, and goes on with what the walker has met
-pub meet_keeps_rule : (slots id made : ℕ) (left : List ℕ) (out : Option ℕ) (walks : List (List ℕ)) (cs : List (ℕ × ℕ))
-    → Allows Holds slots id (view.Walker made left out walks, cs) 0 (λ f. f)
-    (play.meets (step slots 0 0 0 maybe.none) (view.Walker made left out walks, cs))
-meet_keeps_rule slots id made left out walks cs s k deep at small =
-    let w : PublicationList = k.list in
-    let ok = known s k id made left out walks at in
-    let pre : List ℕ = ok.2.0 in (
-      view.Walker made w.rows out (walks ++ w.rows ∷ []),
+pub meet_keeps_rule : (slots id made : ℕ) (left : List ℕ) (out : Option ℕ) (walks : List (List ℕ)) (held : List (ℕ × ℕ))
+    → Allows Holds slots id (view.Walker made left out walks, held) 0 (λ f. f)
+    (play.meets (step slots 0 0 0 maybe.none) (view.Walker made left out walks, held))
+meet_keeps_rule slots id made left out walks held state kept deep at small =
+    let list : PublicationList = kept.list in
+    let ok = known state kept id made left out walks at in
+    let front : List ℕ = ok.2.0 in (
+      view.Walker made list.rows out (walks ++ list.rows ∷ []),
       keeps,
       tt,
-      same_words_keep_rule s k 0 id (view.Walker made w.rows out (walks ++ w.rows ∷ [])) cs
+      same_words_keep_rule state kept 0 id (view.Walker made list.rows out (walks ++ list.rows ∷ [])) held
           (ok.0, ok.1, ([], refl), ok.3),
-      λ made' left' out' walks' is _. let m : made ≡ made' = ap made_of is in let m' : made ≡ w.made = ok.1 in (
-        w.rows,
-        ap (λ (z : ListView). (view.Walker (made_of z) w.rows (out_of z) (walks_of z ++ w.rows ∷ []), cs)) is,
-        k.tied.head,
-        (pre, ok.2.1 ∙ ap (λ (z : ListView). pre ++ list_left z) is, k.sound.distinct),
-        (λ i l. let low = k.sound.low i l in omega arith),
-        (let few = few_below w.made w.rows k.sound.distinct k.sound.low in omega arith),
-      ),
+      λ made' left' out' walks' is _.
+          let m : made ≡ made' = ap made_of is in
+          let m' : made ≡ list.made = ok.1 in (
+            list.rows,
+            ap (λ (z : ListView). (view.Walker (made_of z) list.rows (out_of z) (walks_of z ++ list.rows ∷ []), held))
+                is,
+            kept.tied.head,
+            (front, ok.2.1 ∙ ap (λ (z : ListView). front ++ list_left z) is, kept.sound.distinct),
+            (λ i l. let low = kept.sound.low i l in omega arith),
+            (let few = few_below list.made list.rows kept.sound.distinct kept.sound.low in omega arith),
+          ),
     )
 
 -- ---- the walker goes on to the next row
 
 -- where a place of what the walker has met is in the list
-placed : (rows pre left : List ℕ) (i : ℕ) → rows ≡ pre ++ left → get_or rows (length pre + i) 0 ≡ get_or left i 0
-placed rows pre left i e = ap (λ z. get_or z (length pre + i) 0) e ∙ get_or-append-add pre left i 0
+placed : (rows front left : List ℕ) (i : ℕ) → rows ≡ front ++ left → get_or rows (length front + i) 0 ≡ get_or left i 0
+placed rows front left i e = ap (λ z. get_or z (length front + i) 0) e ∙ get_or-append-add front left i 0
 
-placed_low : (rows pre left : List ℕ) (i : ℕ) → rows ≡ pre ++ left → i < length left → length pre + i < length rows
-placed_low rows pre left i e low =
-    let long : length rows ≡ length (pre ++ left) = ap length e in
-    let both = length-append pre left in omega arith
+placed_low : (rows front left : List ℕ) (i : ℕ) → rows ≡ front ++ left → i < length left
+    → length front + i < length rows
+placed_low rows front left i e low =
+    let long : length rows ≡ length (front ++ left) = ap length e in
+    let both = length-append front left in omega arith
 
 -- the next word of a row that the walker has met leads to the place after it
-next_of : (w : PublicationList) (words pre left : List ℕ) (i : ℕ) → w.rows ≡ pre ++ left → i < length left
-    → Tied w words → get_or words (1 + get_or left i 0) 0 ≡ word_at left (suc i)
-next_of w words pre left i e low k =
-    ap (λ z. get_or words (1 + z) 0) (sym (placed w.rows pre left i e))
-    ∙ (k.nexts (length pre + i) (placed_low w.rows pre left i e low)
-    ∙ (ap (λ z. word_at z (suc (length pre + i))) e
-    ∙ word_at_append pre left (suc i) (suc (length pre + i)) (omega arith)))
+next_of : (list : PublicationList) (words front left : List ℕ) (i : ℕ) → list.rows ≡ front ++ left → i < length left
+    → Tied list words → get_or words (1 + get_or left i 0) 0 ≡ word_at left (suc i)
+next_of list words front left i e low tied =
+    ap (λ z. get_or words (1 + z) 0) (sym (placed list.rows front left i e))
+    ∙ (tied.nexts (length front + i) (placed_low list.rows front left i e low)
+    ∙ (ap (λ z. word_at z (suc (length front + i))) e
+    ∙ word_at_append front left (suc i) (suc (length front + i)) (omega arith)))
 
+-- the walker reads the next word of a row that it has met
 pub follow_keeps_rule : (slots id i made : ℕ) (left : List ℕ) (out : Option ℕ) (walks : List (List ℕ))
-    (cs : List (ℕ × ℕ))
-    → Allows Holds slots id (view.Walker made left out walks, cs) i (λ f. f)
-    (play.follows (step slots i 0 0 maybe.none) (view.Walker made left out walks, cs))
-follow_keeps_rule slots id i made left out walks cs s k deep at small =
-    let w : PublicationList = k.list in
-    let ok = known s k id made left out walks at in
-    let pre : List ℕ = ok.2.0 in (
+    (held : List (ℕ × ℕ))
+    → Allows Holds slots id (view.Walker made left out walks, held) i (λ f. f)
+    (play.follows (step slots i 0 0 maybe.none) (view.Walker made left out walks, held))
+follow_keeps_rule slots id i made left out walks held state kept deep at small =
+    let list : PublicationList = kept.list in
+    let ok = known state kept id made left out walks at in
+    let front : List ℕ = ok.2.0 in (
       view.Walker made left out walks,
       keeps,
       tt,
-      same_words_keep_rule s k i id (view.Walker made left out walks) cs ok,
-      λ made' left' out' walks' p is low word. let same : left ≡ left' = ap list_left is in (
+      same_words_keep_rule state kept i id (view.Walker made left out walks) held ok,
+      λ made' left' out' walks' place is low word. let same : left ≡ left' = ap list_left is in (
         refl,
-        ap (λ z. get_or s.words z 0) word ∙ next_of w s.words pre left' p (ok.2.1 ∙ ap (λ z. pre ++ z) same) low k.tied,
+        ap (λ z. get_or state.words z 0) word ∙ next_of list state.words front left' place
+            (ok.2.1 ∙ ap (λ z. front ++ z) same) low kept.tied,
       ),
     )
 
 -- ---- a row is taken out, and put to sleep
 
 -- a row that was listed may be taken out, for all that its owner knows
-taken_out : (t : Stage) → t ≡ listed → (o : RowKnowledge) → OwnRowAgrees o t → OwnRowAgrees o unlinked
-taken_out t is o ok = grind arith
+taken_out : (stage : Stage) → stage ≡ listed → (knows : RowKnowledge) → OwnRowAgrees knows stage
+    → OwnRowAgrees knows unlinked
+taken_out stage is knows ok = grind arith
 
-put_to_sleep : (t : Stage) → t ≡ unlinked → (o : RowKnowledge) → OwnRowAgrees o t → OwnRowAgrees o asleep
-put_to_sleep t is o ok = grind arith
+put_to_sleep : (stage : Stage) → stage ≡ unlinked → (knows : RowKnowledge) → OwnRowAgrees knows stage
+    → OwnRowAgrees knows asleep
+put_to_sleep stage is knows ok = grind arith
 
-pub unlink_keeps_rule : (slots id i n p made : ℕ) (left : List ℕ) (walks : List (List ℕ)) (cs : List (ℕ × ℕ))
-    → suc p < length left → i ≡ 1 + get_or left p 0 → n ≡ word_at left (suc (suc p))
-    → Allows Holds slots id (view.Walker made left None walks, cs) i (λ _. n)
-    (λ _. play.unlinks (step slots i n 0 maybe.none) (view.Walker made left None walks, cs) n)
-unlink_keeps_rule slots id i n p made left walks cs low word next s k deep at small =
-    let w : PublicationList = k.list in
-    let ok = known s k id made left None walks at in
-    let pre : List ℕ = ok.2.0 in
+-- the walker takes out a row that is not the first: the row before gets the next word of the row taken out
+pub unlink_keeps_rule : (slots id i next place made : ℕ) (left : List ℕ) (walks : List (List ℕ)) (held : List (ℕ × ℕ))
+    → suc place < length left → i ≡ 1 + get_or left place 0 → next ≡ word_at left (suc (suc place))
+    → Allows Holds slots id (view.Walker made left None walks, held) i (λ _. next)
+    (λ _. play.unlinks (step slots i next 0 maybe.none) (view.Walker made left None walks, held) next)
+unlink_keeps_rule slots id i next place made left walks held low word leads state kept deep at small =
+    let list : PublicationList = kept.list in
+    let ok = known state kept id made left None walks at in
+    let front : List ℕ = ok.2.0 in
     let e = ok.2.1 in
-    let P : ℕ = length pre + p in
+    let P : ℕ = length front + place in
     let Q : ℕ = suc P in
-    let at_p : get_or w.rows P 0 ≡ get_or left p 0 = placed w.rows pre left p e in
-    let Q_is : Q ≡ length pre + suc p = omega arith in
-    let at_q : get_or w.rows Q 0 ≡ get_or left (suc p) 0 =
-    ap (λ z. get_or w.rows z 0) Q_is ∙ placed w.rows pre left (suc p) e in
-    let inside : Q < length w.rows =
-    subst (λ z. z < length w.rows) (sym Q_is) (placed_low w.rows pre left (suc p) e low) in
-    let leads : n ≡ word_at w.rows (suc Q) =
-    next ∙ sym (ap (λ z. word_at z (suc Q)) e ∙ word_at_append pre left (suc (suc p)) (suc Q) (omega arith)) in
-    let was = k.sound.listed Q inside in
-    let v' : ListView = view.Walker made (remove left (suc p)) (Some (get_or left (suc p) 0)) walks in
-    let r : ℕ = get_or w.rows Q 0 in
-    let w' : PublicationList = with_stage w r unlinked (remove w.rows Q) in
-    let r_low = k.sound.low Q inside in (
-      v',
+    let at_p : get_or list.rows P 0 ≡ get_or left place 0 = placed list.rows front left place e in
+    let Q_is : Q ≡ length front + suc place = omega arith in
+    let at_q : get_or list.rows Q 0 ≡ get_or left (suc place) 0 =
+    ap (λ z. get_or list.rows z 0) Q_is ∙ placed list.rows front left (suc place) e in
+    let inside : Q < length list.rows =
+    subst (λ z. z < length list.rows) (sym Q_is) (placed_low list.rows front left (suc place) e low) in
+    let leads_on : next ≡ word_at list.rows (suc Q) =
+    leads ∙ sym (ap (λ z. word_at z (suc Q)) e ∙ word_at_append front left (suc (suc place)) (suc Q) (omega arith)) in
+    let was = kept.sound.listed Q inside in
+    let view_after : ListView = view.Walker made (remove left (suc place)) (Some (get_or left (suc place) 0)) walks in
+    let row : ℕ = get_or list.rows Q 0 in
+    let after : PublicationList = with_stage list row unlinked (remove list.rows Q) in
+    let r_low = kept.sound.low Q inside in (
+      view_after,
       keeps,
       tt,
-      kept_after s k id v' record {
-        list = w';
+      kept_after state kept id view_after record {
+        list = after;
         same = refl;
-        sound = unlink_keeps_sound w Q inside k.sound;
-        tied = subst (λ z. Tied w' (set s.words z n)) (ap (λ z. 1 + z) at_p ∙ sym word)
-            (unlink_keeps_tied w P n s.words inside leads k.sound k.tied);
-        unmade = unmade_stay_asleep w r unlinked r_low k.unmade;
-        others = λ j u other. walker_step_keeps_others w r unlinked (remove w.rows Q) (taken_out (w.stage r) was) j u
+        sound = unlink_keeps_sound list Q inside kept.sound;
+        tied = subst (λ z. Tied after (set state.words z next)) (ap (λ z. 1 + z) at_p ∙ sym word)
+            (unlink_keeps_tied list P next state.words inside leads_on kept.sound kept.tied);
+        unmade = unmade_stay_asleep list row unlinked r_low kept.unmade;
+        others = λ j u other. walker_step_keeps_others list row unlinked (remove list.rows Q)
+            (taken_out (list.stage row) was) j u
             (λ f. other (f ∙ sym ok.0));
         own = (
           ok.0,
           ok.1,
-          (pre, ap (λ z. remove z Q) e ∙ remove_append pre left (suc p) Q Q_is),
-          subst (λ z. (z < w.made) × (w'.stage z ≡ unlinked) × ((q : ℕ) → w'.stage q ≡ unlinked → q ≡ z)) at_q (
-            r_low,
-            update_self ℕ_discrete r unlinked w.stage,
-            updated_all (λ q z. z ≡ unlinked → q ≡ r) w.stage r unlinked (λ _. refl) (λ q _ e. absurd (ok.3 q e)),
-          ),
+          (front, ap (λ z. remove z Q) e ∙ remove_append front left (suc place) Q Q_is),
+          subst (λ z. (z < list.made) × (after.stage z ≡ unlinked) × ((q : ℕ) → after.stage q ≡ unlinked → q ≡ z))
+              at_q (
+                r_low,
+                update_self ℕ_discrete row unlinked list.stage,
+                updated_all (λ q z. z ≡ unlinked → q ≡ row) list.stage row unlinked (λ _. refl)
+                    (λ q _ e. absurd (ok.3 q e)),
+              ),
         );
       },
       λ made' left' out' walks' q is q_low q_word. let same : left ≡ left' = ap list_left is in
           let q_low' : suc q < length left = subst (λ z. suc q < length z) (sym same) q_low in
           let q_row : get_or left' q 0 ≡ get_or left q 0 = ap (λ z. get_or z q 0) (sym same) in
-          let q_is : q ≡ p = distinct_right pre left (subst IsDistinct e k.sound.distinct) q p (omega arith)
+          let q_is : q ≡ place = distinct_right front left (subst IsDistinct e kept.sound.distinct) q place
+          (omega arith)
           (omega arith) (omega arith) in
           ap (λ (z : ListView). (
-            view.Walker (made_of z) (remove (list_left z) (suc p))
-                (Some (get_or (list_left z) (suc p) 0)) (walks_of z),
-            cs,
+            view.Walker (made_of z) (remove (list_left z) (suc place))
+                (Some (get_or (list_left z) (suc place) 0)) (walks_of z),
+            held,
           )) is
-          ∙ ap (λ (z : ℕ). (view.Walker made' (remove left' (suc z)) (Some (get_or left' (suc z) 0)) walks', cs))
+          ∙ ap (λ (z : ℕ). (view.Walker made' (remove left' (suc z)) (Some (get_or left' (suc z) 0)) walks', held))
           (sym q_is),
     )
 
-pub sleep_keeps_rule : (slots id r made : ℕ) (left : List ℕ) (walks : List (List ℕ)) (cs : List (ℕ × ℕ))
-    → Allows Holds slots id (view.Walker made left (Some r) walks, cs) (33 + r) (λ _. 0)
-    (λ _. play.sleeps (step slots (33 + r) 0 0 maybe.none) (view.Walker made left (Some r) walks, cs) 0)
-sleep_keeps_rule slots id r made left walks cs s k deep at small =
-    let w : PublicationList = k.list in
-    let ok = known s k id made left (Some r) walks at in
-    let low : r < w.made = ok.3.0 in
-    let was : w.stage r ≡ unlinked = ok.3.1 in
-    let few = k.sound.few in
-    let not_listed : w.stage r ≢ listed = λ e. absurd cc in
-    let v' : ListView = view.Walker made left None walks in (
-      v',
+-- the walker clears the mark of the row that it has taken out, and the row is asleep
+pub sleep_keeps_rule : (slots id row made : ℕ) (left : List ℕ) (walks : List (List ℕ)) (held : List (ℕ × ℕ))
+    → Allows Holds slots id (view.Walker made left (Some row) walks, held) (33 + row) (λ _. 0)
+    (λ _. play.sleeps (step slots (33 + row) 0 0 maybe.none) (view.Walker made left (Some row) walks, held) 0)
+sleep_keeps_rule slots id row made left walks held state kept deep at small =
+    let list : PublicationList = kept.list in
+    let ok = known state kept id made left (Some row) walks at in
+    let low : row < list.made = ok.3.0 in
+    let was : list.stage row ≡ unlinked = ok.3.1 in
+    let few = kept.sound.few in
+    let not_listed : list.stage row ≢ listed = λ e. absurd cc in
+    let view_after : ListView = view.Walker made left None walks in (
+      view_after,
       keeps,
       tt,
-      kept_after s k id v' record {
-        list = with_stage w r asleep w.rows;
+      kept_after state kept id view_after record {
+        list = with_stage list row asleep list.rows;
         same = refl;
-        sound = stage_keeps_sound w r asleep not_listed (λ e. absurd (cc)) k.sound;
-        tied = mark_keeps_tied w r 0 asleep s.words (omega arith) refl (λ m e. absurd (cc)) k.sound k.tied;
-        unmade = unmade_stay_asleep w r asleep low k.unmade;
-        others = λ j u other. walker_step_keeps_others w r asleep w.rows (put_to_sleep (w.stage r) was) j u
+        sound = stage_keeps_sound list row asleep not_listed (λ e. absurd (cc)) kept.sound;
+        tied = mark_keeps_tied list row 0 asleep state.words (omega arith) refl (λ m e. absurd (cc)) kept.sound
+            kept.tied;
+        unmade = unmade_stay_asleep list row asleep low kept.unmade;
+        others = λ j u other. walker_step_keeps_others list row asleep list.rows (put_to_sleep (list.stage row) was) j u
             (λ f. other (f ∙ sym ok.0));
         own = (
           ok.0,
           ok.1,
           ok.2,
-          updated_all (λ q z. z ≢ unlinked) w.stage r asleep (λ e. absurd (cc)) (λ q other e. other (ok.3.2 q e)),
+          updated_all (λ q z. z ≢ unlinked) list.stage row asleep (λ e. absurd (cc)) (λ q other e. other (ok.3.2 q e)),
         );
       },
       λ made' left' r' walks' is _.
-          ap (λ (z : ListView). (view.Walker (made_of z) (list_left z) None (walks_of z), cs)) is,
+          ap (λ (z : ListView). (view.Walker (made_of z) (list_left z) None (walks_of z), held)) is,
     )
 
 -- ---- the same, of what a walker has in its hands
@@ -226,12 +241,13 @@ module _ (slots id : ℕ) (left : List ℕ) (walks : List (List ℕ)) (m : Hands
       (follow_keeps_rule slots id i (made_of m.0) left None walks [])
 
 -- the walk begins at the head
-pub walk_begins : (found : ℕ) (left : List ℕ) (walks : List (List ℕ)) (m m' : Hands) → HasMetRows left walks m
-    → play.meets (step 0 0 0 0 maybe.none) m found m' → Meeting left walks (made_of m.0) [] found m'
-walk_begins found left walks m m' p t =
-    let a = t (made_of m.0) left None walks (ap (λ z. z.0) p) refl in
-    let is : m' ≡ (view.Walker (made_of m.0) a.0 None (walks ++ a.0 ∷ []), []) =
-    a.1 ∙ ap (λ z. (view.Walker (made_of m.0) a.0 None (walks ++ a.0 ∷ []), z.1)) p in
+pub walk_begins : (found : ℕ) (left : List ℕ) (walks : List (List ℕ)) (hands after : Hands)
+    → HasMetRows left walks hands
+    → play.meets (step 0 0 0 0 maybe.none) hands found after → Meeting left walks (made_of hands.0) [] found after
+walk_begins found left walks hands after p t =
+    let a = t (made_of hands.0) left None walks (ap (λ z. z.0) p) refl in
+    let is : after ≡ (view.Walker (made_of hands.0) a.0 None (walks ++ a.0 ∷ []), []) =
+    a.1 ∙ ap (λ z. (view.Walker (made_of hands.0) a.0 None (walks ++ a.0 ∷ []), z.1)) p in
     let within : 0 ≤ length a.0 = omega arith in rw is (assumption (a.2, a.3, a.4, a.5))
 
 module _ (left : List ℕ) (walks : List (List ℕ)) (made : ℕ) (rows : List ℕ) (at : ℕ) (m : Hands)
@@ -245,8 +261,7 @@ module _ (left : List ℕ) (walks : List (List ℕ)) (made : ℕ) (rows : List �
   pub walk_met_all : at ≡ 0 → rows ≡ list_left m.0
   walk_met_all e = dite (dec_le (length (list_left m.0)) (length rows))
       (λ past. k.so_far ∙ take_all (length rows) (list_left m.0) past)
-      (λ n. let low = lt_of_not-le n in let w = word_at_in (list_left m.0) (length rows) low in let a = k.at_is in
-      absurd (omega arith))
+      (λ n. absurd (omega (arith, word_at_in (list_left m.0) (length rows) (lt_of_not-le n), k.at_is)))
 
   -- one row more is met
   module _ (rows' : List ℕ) (i found : ℕ) (m' : Hands) (ne : at ≢ 0) (same : i ≡ at)
@@ -280,8 +295,7 @@ module _ (left : List ℕ) (walks : List (List ℕ)) (made : ℕ) (rows : List �
     walk_gets_shorter =
         let low = (walk_goes_on ne).0 in
         let kept : length (list_left m'.0) ≡ length (list_left m.0) = ap (λ z. length (list_left z.0)) told.0 in
-        let long = longer in
-        omega arith
+        omega (arith, longer)
 
 -- a place that is not the first is after another
 one_before : (at : ℕ) → 1 ≤ at → (p : ℕ) × (at ≡ suc p)
@@ -325,9 +339,9 @@ module _ (r made : ℕ) (left : List ℕ) (walks : List (List ℕ)) (m : Hands)
   sleep_leaves m' t = t made left r walks (ap (λ z. z.0) is) refl ∙ ap (λ z. (view.Walker made left None walks, z.1)) is
 
 -- what stays where a row was taken out
-pub less_one : (n : ℕ) (l : List ℕ) (i : ℕ) → i < length l → length l ≤ n
-    → ((k : ℕ) → k < length l → get_or l k 0 < n) → (length (remove l i) ≤ n)
-    × ((k : ℕ) → k < length (remove l i) → get_or (remove l i) k 0 < n)
-less_one n l i inside few low =
-    let long = length-remove l i inside in
-    (omega arith, λ k h. let a = was_at l i k inside h in subst (λ z. z < n) (sym a.2) (low a.0 a.1))
+pub less_one : (n : ℕ) (rows : List ℕ) (i : ℕ) → i < length rows → length rows ≤ n
+    → ((k : ℕ) → k < length rows → get_or rows k 0 < n) → (length (remove rows i) ≤ n)
+    × ((k : ℕ) → k < length (remove rows i) → get_or (remove rows i) k 0 < n)
+less_one n rows i inside few low =
+    let long = length-remove rows i inside in
+    (omega arith, λ k h. let a = was_at rows i k inside h in subst (λ z. z < n) (sym a.2) (low a.0 a.1))

@@ -14,6 +14,7 @@ use Rattle.reason_report.specs.Operations.{event_at}
 
 -- ---- the first element that passes a test
 
+-- the first element that passes a test is found
 find_here : {X : Type 0} (p : X → Bool) → (xs : List X) (k : ℕ) (d : X) → k < length xs → p (get_or xs k d) ≡ true
     → ((j : ℕ) → j < k → p (get_or xs j d) ≡ false)
     → find p xs ≡ Some (get_or xs k d)

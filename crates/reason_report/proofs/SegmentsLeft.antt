@@ -18,13 +18,14 @@ pub operations_left : (commented : Bool) (es : List Event) (ops : List Invocatio
     ++ operations_text commented es (drop (i + 1) ops)
 operations_left commented es ops i d lt = ap (operations_text commented es) (drop_more ops i d lt)
 
--- one more segment is added to what was sent
-pub one_more : (old new segment rest left all : List ℕ) → new ≡ old ++ segment → left ≡ segment ++ rest
+-- a segment is pushed: what was sent and what is left are the same text as before
+pub segment_pushed : (old new segment rest left all : List ℕ) → new ≡ old ++ segment → left ≡ segment ++ rest
     → old ++ left ≡ all
     → new ++ rest ≡ all
-one_more old new segment rest left all is parts done =
+segment_pushed old new segment rest left all is parts done =
     ap (λ x. x ++ rest) is ∙ (append_assoc old segment rest ∙ (ap (λ x. old ++ x) (sym parts) ∙ done))
 
+-- of two texts that were pushed one after the other, both are at the end
 pub two_pushed : (old first second new last : List ℕ) → new ≡ old ++ first → last ≡ new ++ second
     → last ≡ old ++ (first ++ second)
 two_pushed old first second new last p q = q ∙ (ap (λ x. x ++ second) p ∙ append_assoc old first second)

@@ -109,8 +109,10 @@ response p x r = record { number = r.at; event = Res p x r.reply }
 abbrev own_call : ℕ → Call → ProcessCall
 own_call x e = record { process = e.number; object = x; call = e }
 
-response_other : (p x n : ℕ) (v : Event) → process_of v ≢ p → response_in p x n v ≡ None
-response_other p x n v ne = grind (arith, nat_tests)
+-- an event of another process is no response of this one
+response_other : (process object number : ℕ) (event : Event) → process_of event ≢ process
+    → response_in process object number event ≡ None
+response_other process object number event ne = grind (arith, nat_tests)
 
 response_free : (p x : ℕ) (h : List Numbered) → IsFree p h → response_of p x h ≡ None
 response_free p x [] f = refl
@@ -164,10 +166,13 @@ record IsOf (x : ℕ) (calls : List Call) (m : Numbered) : Type 0 where
   process : process_of m.event ≡ call.number
   either : (m.number ≡ call.number) ⊎ ((r : Return) × (call.returned ≡ Some r) × (m.number ≡ r.at))
 
-in_return : (p x : ℕ) (o : Option Return) (y : Numbered) (later : List Numbered) → In y (with_return p x o later)
-    → ((r : Return) × (o ≡ Some r) × (y ≡ record { number = r.at; event = Res p x r.reply })) ⊎ In y later
-in_return p x None y later i = inr i
-in_return p x (Some r) y later i = grind (arith, in_placed)
+-- an event of a call that is placed in a history is its response, or was in the history
+in_return : (process object : ℕ) (returned : Option Return) (found : Numbered) (later : List Numbered)
+    → In found (with_return process object returned later)
+    → ((r : Return) × (returned ≡ Some r) × (found ≡ record { number = r.at; event = Res process object r.reply }))
+    ⊎ In found later
+in_return process object None found later i = inr i
+in_return process object (Some r) found later i = grind (arith, in_placed)
 
 in_alone : (x : ℕ) (calls : List Call) (m : Numbered) → In m (alone x calls) → IsOf x calls m
 in_alone x [] m i = absurd i
@@ -275,17 +280,22 @@ alone_history x calls h = record {
 -- ---- calls of a history
 
 -- the response of a call is an event
-response_event : (p x : ℕ) (h : List Numbered) (r : Return) → response_of p x h ≡ Some r
-    → (m : Numbered) × In m h × (m.number ≡ r.at) × (m.event ≡ Res p x r.reply)
-response_event p x [] r e = absurd (cc e)
-response_event p x (m ∷ h) r e = go (response_in p x m.number m.event) refl e (response_event p x h r)
+response_event : (process object : ℕ) (history : List Numbered) (returned : Return)
+    → response_of process object history ≡ Some returned
+    → (m : Numbered) × In m history × (m.number ≡ returned.at) × (m.event ≡ Res process object returned.reply)
+response_event process object [] returned e = absurd (cc e)
+response_event process object (m ∷ history) returned e =
+    go (response_in process object m.number m.event) refl e (response_event process object history returned)
   where
-    here : (v : Event) → response_in p x m.number v ≡ Some r → (m.number ≡ r.at) × (v ≡ Res p x r.reply)
+    here : (v : Event) → response_in process object m.number v ≡ Some returned
+        → (m.number ≡ returned.at) × (v ≡ Res process object returned.reply)
     here v e = grind (arith, nat_tests)
 
-    go : (o : Option Return) → response_in p x m.number m.event ≡ o → option_or o (response_of p x h) ≡ Some r
-        → (response_of p x h ≡ Some r → (k : Numbered) × In k h × (k.number ≡ r.at) × (k.event ≡ Res p x r.reply))
-        → (k : Numbered) × In k (m ∷ h) × (k.number ≡ r.at) × (k.event ≡ Res p x r.reply)
+    go : (o : Option Return) → response_in process object m.number m.event ≡ o
+        → option_or o (response_of process object history) ≡ Some returned
+        → (response_of process object history ≡ Some returned
+        → (k : Numbered) × In k history × (k.number ≡ returned.at) × (k.event ≡ Res process object returned.reply))
+        → (k : Numbered) × In k (m ∷ history) × (k.number ≡ returned.at) × (k.event ≡ Res process object returned.reply)
     go None q e f = let k = f e in (k.0, inr k.1, k.2, k.3)
     go (Some s) q e f = let k = here m.event (q ∙ e) in (m, inl refl, k.0, k.1)
 
@@ -403,8 +413,10 @@ timed_apart calls part t h = rw t.named (record {
       omega (arith, w.number, u.2);
 })
   where
-    kept : (x y a b : Call) → Apart x y → IsTimed a x → IsTimed b y → Apart a b
-    kept x y a b d v w = (
+    -- calls stay apart under the times of other calls
+    kept : (first second one other : Call) → Apart first second → IsTimed one first → IsTimed other second
+        → Apart one other
+    kept first second one other d v w = (
       omega (arith, d.0, v.number, w.number),
       λ r q.
           let u = v.returned r q in

@@ -10,12 +10,16 @@ use Rattle.edn_reader.specs.View.{view, views}
 use Rattle.edn_reader.specs.declared.form.Form.{Form}
 use Rattle.refutation.specs.Denotes.{integers_with}
 
-pub one_more : (fs : List Form) (i : ℕ) (f : Form) (keys new : List ℤ) (z : ℤ) (o : Option (List ℤ)) → i < length fs
-    → f ≡ get_or fs i f → Some z ≡ integer_in (view f) → new ≡ insert_key int_cmp keys z
-    → integers_with keys (items_of (views (drop i fs))) ≡ o → integers_with new (items_of (views (drop (i + 1) fs))) ≡ o
-one_more fs i f keys new z o lt is own same h =
+-- the integer of one form is added to the keys, and the forms after it are left
+pub integer_added : (forms : List Form) (i : ℕ) (form : Form) (keys new : List ℤ) (integer : ℤ)
+    (result : Option (List ℤ)) → i < length forms
+    → form ≡ get_or forms i form → Some integer ≡ integer_in (view form) → new ≡ insert_key int_cmp keys integer
+    → integers_with keys (items_of (views (drop i forms))) ≡ result
+    → integers_with new (items_of (views (drop (i + 1) forms))) ≡ result
+integer_added forms i form keys new integer result lt is own same h =
     let first = ap (λ (xs : List Form). integers_with keys (items_of (views xs)))
-    (drop_more fs i f lt ∙ ap (λ (y : Form). y ∷ drop (i + 1) fs) (sym is)) in
-    ap (λ (ks : List ℤ). integers_with ks (items_of (views (drop (i + 1) fs)))) same
-    ∙ (ap (option_and_then (λ z. integers_with (insert_key int_cmp keys z) (items_of (views (drop (i + 1) fs))))) own
+    (drop_more forms i form lt ∙ ap (λ (y : Form). y ∷ drop (i + 1) forms) (sym is)) in
+    ap (λ (ks : List ℤ). integers_with ks (items_of (views (drop (i + 1) forms)))) same
+    ∙ (ap (option_and_then (λ integer. integers_with (insert_key int_cmp keys integer)
+    (items_of (views (drop (i + 1) forms))))) own
     ∙ (sym first ∙ h))

@@ -22,6 +22,7 @@ use Rattle.refutation.specs.declared.refuting.ReasonAnswer.TheVariants.{NoPart, 
 use Rattle.refutation.specs.Refutations.{shows_impossible, IfPart, IfShownImpossible, IfNotShown, IsWhyNotShown}
 use Rattle.refutation.specs.Refutations.{IsNamedPart, PartHasNoValidOrder, IsShownBy, IsReasonAnswerOn, IsReasonAnswer}
 
+-- a history with an object of which no order is valid is not linearizable
 pub none_among : (es : List Event) (objects : List ObjectCalls) → All (λ o. o.kind ≡ kind_of_object es o.object) objects
     → All (λ o. calls_of o.ops ≡ calls_on o.object (denoted es)) objects
     → ((kinds : ℕ → Kind) (h : List Numbered) → IsHistory h → IsLinearizable kinds (events h) → (x : ℕ)
@@ -40,23 +41,27 @@ none_among es objects kinds calls orders h some lin =
 abbrev pub AreRefutations : Type 0 → List ReasonAnswer → Type 0
 AreRefutations Not answers = (r : ReasonAnswer) → In r answers → shows_impossible r ≡ true → Not
 
-pub one_more : (Not : Type 0) (answers more : List ReasonAnswer) (r : ReasonAnswer) → more ≡ answers ++ r ∷ []
-    → (shows_impossible r ≡ true → Not) → AreRefutations Not answers → AreRefutations Not more
-one_more Not answers more r e one all x i p = elim (in_append x answers (r ∷ []) (rw e at i)) [
+-- an answer that refutes the history, if it is impossible, is added to such answers
+pub answer_added : (Not : Type 0) (answers more : List ReasonAnswer) (answer : ReasonAnswer)
+    → more ≡ answers ++ answer ∷ []
+    → (shows_impossible answer ≡ true → Not) → AreRefutations Not answers → AreRefutations Not more
+answer_added Not answers more answer e one all x i p = elim (in_append x answers (answer ∷ []) (rw e at i)) [
   | inl j ↦ all x j p
   | inr j ↦ elim j [ inl q ↦ one (ap shows_impossible (sym q) ∙ p) | inr k ↦ absurd k ]
 ]
 
-zip_push : {X Y : Type 0} (R : X → Y → Type 0) (xs : List X) (ys : List Y) (x : X) (y : Y) → AllZip R xs ys → R x y
-    → AllZip R (xs ++ x ∷ []) (ys ++ y ∷ [])
-zip_push R [] [] x y h r = (r, tt)
-zip_push R (z ∷ xs) (w ∷ ys) x y h r = (h.0, zip_push R xs ys x y h.1 r)
-zip_push R xs ys x y h r = absurd h
+-- a relation that holds of two lists, place by place, and of one more element of each
+zip_push : {X Y : Type 0} (Fits : X → Y → Type 0) (xs : List X) (ys : List Y) (x : X) (y : Y) → AllZip Fits xs ys
+    → Fits x y → AllZip Fits (xs ++ x ∷ []) (ys ++ y ∷ [])
+zip_push Fits [] [] x y h r = (r, tt)
+zip_push Fits (z ∷ xs) (w ∷ ys) x y h r = (h.0, zip_push Fits xs ys x y h.1 r)
+zip_push Fits xs ys x y h r = absurd h
 
-pub zip_more : {X Y : Type 0} (R : X → Y → Type 0) (xs : List X) (ys : List Y) (i : ℕ) (x : X) (y : Y) → i < length xs
-    → x ≡ get_or xs i x
-    → AllZip R (take i xs) ys → R x y → AllZip R (take (i + 1) xs) (ys ++ y ∷ [])
-zip_more R xs ys i x y lt is h r = rw (take_more xs i x lt, ← is) (zip_push R (take i xs) ys x y h r)
+-- a relation that holds of the first elements of two lists, place by place, and of the next ones
+pub zip_more : {X Y : Type 0} (Fits : X → Y → Type 0) (xs : List X) (ys : List Y) (i : ℕ) (x : X) (y : Y)
+    → i < length xs → x ≡ get_or xs i x
+    → AllZip Fits (take i xs) ys → Fits x y → AllZip Fits (take (i + 1) xs) (ys ++ y ∷ [])
+zip_more Fits xs ys i x y lt is h r = rw (take_more xs i x lt, ← is) (zip_push Fits (take i xs) ys x y h r)
 
 pub refutes : (Not : Type 0) (answers : List ReasonAnswer) → AreRefutations Not answers
     → Any (λ r. shows_impossible r ≡ true) answers → Not
@@ -150,5 +155,5 @@ pub refuted_among : (objects : List ObjectCalls) (reason : Reason) (r : ReasonAn
     × IsReasonAnswerOn o.kind (calls_of o.ops) reason r)
     → shows_impossible r ≡ true → Any (λ o. HasNoValidOrder o.kind (calls_of o.ops)) objects
 refuted_among objects reason r on so =
-    let a = on (λ q. let not = ap shows_impossible q in absurd (cc (not, so))) in
+    let a = on (λ q. absurd (cc (ap shows_impossible q, so))) in
     (a.1.0, a.0, a.1.1, a.1.2, a.3.impossible so)

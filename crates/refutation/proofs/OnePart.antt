@@ -39,6 +39,7 @@ same_operations ops os a b e =
     sym (operations ops (λ o i. all_at (λ (o : Invocation). o.«end» ≢ Failed) ops a o i)) ∙ ap (map operation_of) e
     ∙ operations os (λ o i. all_at (λ (o : Invocation). o.«end» ≢ Failed) os b o i)
 
+-- parts of one object, kind and calls, in which no operation failed, are equal
 pub same_part : (p q : ObjectCalls) → p.object ≡ q.object → p.kind ≡ q.kind → NoneFailed p.ops → NoneFailed q.ops
     → calls_of p.ops ≡ calls_of q.ops → p ≡ q
 same_part p q object kind a b e =

@@ -29,7 +29,7 @@ use Rattle.refutation.specs.declared.reason.Basis.TheVariants.{Search, Counting,
 use Rattle.refutation.specs.declared.reason.Reason.{Reason}
 use Rattle.refutation.specs.Denotes as spec
 use Rattle.refutation.specs.Denotes.{max_number, integers_with, numbers_with, values_in, numbers_in, cut_in, cuts_with}
-use Rattle.refutation.specs.Denotes.{basis_in, reason_in, reason_with, CutSeen, seen_values, seen_cut, reason_seen}
+use Rattle.refutation.specs.Denotes.{basis_in, reason_in, CutSeen, seen_values, seen_cut, reason_seen}
 use Rattle.refutation.specs.Lines.{Pairs, integer_datum, number_datum, values_datum, numbers_pairs, cut_datum}
 use Rattle.refutation.specs.Lines.{from_pairs, count_pairs, search_pairs, basis_pairs, datum_of, reason_line}
 use Rattle.refutation.specs.Lines.{reason_lines, AreReasonsInRange, SpellsReasons}

@@ -12,6 +12,7 @@ use Rattle.search.specs.Outcomes as order
 use Rattle.search.specs.declared.certificate_search.CertificateOutcome.TheVariants.{TooLarge}
 use Rattle.search.specs.Answers.{IsSearchAnswer, IsSoundAnswer, search_for, outcome_for}
 
+-- what a search found is a sound answer: of each outcome, what it promises
 sound_from : (object : ℕ) (kind : Kind) (calls : List Call) (limit : ℕ) (o : OrderOutcome) (steps : ℕ)
     → order.IfFound o (IsValidOrder kind calls)
     → (o ≡ outcome.Impossible → HasNoValidOrder kind calls) → steps ≤ limit → (o ≡ outcome.OutOfSteps → steps ≡ limit)

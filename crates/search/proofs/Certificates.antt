@@ -13,8 +13,7 @@ use Rattle.certificate.specs.declared.Certificate.{Certificate}
 use Rattle.checker.proofs.Collected.{Certifies, AreOnAll}
 use Rattle.search.specs.declared.certificate_search.Search.{Search}
 use Rattle.search.specs.declared.certificate_search.CertificateOutcome.{CertificateOutcome}
-use Rattle.search.specs.declared.certificate_search.CertificateOutcome.TheVariants.{Impossible, OutOfSteps, TooLarge}
-use Rattle.search.specs.declared.certificate_search.CertificateOutcome.TheVariants.{NoMemory}
+use Rattle.search.specs.declared.certificate_search.CertificateOutcome.TheVariants.{Impossible}
 use Rattle.search.specs.declared.certificate_search.CertificateOutcome.TheVariants as found
 use Rattle.search.specs.Answers.{certificate_found, IfFound, IsCertificateOf, IsSearchAnswer}
 

@@ -28,15 +28,16 @@ record SamePlaces (n : ℕ) (p q : List ℕ) : Type 0 where
   pub forth : (k : ℕ) → k < n → In k p → In k q
   pub back : (k : ℕ) → k < n → In k q → In k p
 
-continues_same : (n : ℕ) (call : ℕ → Call) (p q : List ℕ) (c : Content) (rest : List ℕ) → SamePlaces n p q
-    → Continues n call p c rest → Continues n call q c rest
-continues_same n call p q c [] s h = λ j r l e. h j r (l.0, λ i. l.1 (s.forth j l.0 i)) e
-continues_same n call p q c (k ∷ rest) s h = (
+-- what goes on after some places goes on after the same places in another order
+continues_same : (n : ℕ) (call : ℕ → Call) (one other : List ℕ) (c : Content) (rest : List ℕ) → SamePlaces n one other
+    → Continues n call one c rest → Continues n call other c rest
+continues_same n call one other c [] s h = λ j r l e. h j r (l.0, λ i. l.1 (s.forth j l.0 i)) e
+continues_same n call one other c (k ∷ rest) s h = (
   (h.0.0, λ i. h.0.1 (s.back k h.0.0 i)),
   λ j l ne b. h.1 j (l.0, λ i. l.1 (s.forth j l.0 i)) ne b,
   h.2,
   h.3,
-  continues_same n call (k ∷ p) (k ∷ q) h.2 rest
+  continues_same n call (k ∷ one) (k ∷ other) h.2 rest
       (record {
         forth = λ j l i. elim i [ inl e ↦ inl e | inr m ↦ inr (s.forth j l m) ];
         back = λ j l i. elim i [ inl e ↦ inl e | inr m ↦ inr (s.back j l m) ];

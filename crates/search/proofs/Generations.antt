@@ -1,7 +1,7 @@
 -- The pairs that are remembered stay dead, whichever are forgotten (`remembered_dead`): each generation is a list of
 -- dead pairs. So a pair that is met again is dead (`hit_any`).
 use Rattle.std.proofs.Common.{◌≡◌, ℕ, ◌<◌, ◌≤◌, ◌⊎◌, inl, inr, List, [], ◌∷◌, Option, Some, None, IfSome, length}
-use Rattle.std.proofs.Common.{sym, subst, arith}
+use Rattle.std.proofs.Common.{arith}
 use Rattle.std.proofs.lemmas.List.Elements.{All-push}
 use Rattle.model.specs.declared.AnyReply.{AnyReply}
 use Rattle.model.specs.Objects.{Content, next}
@@ -31,6 +31,7 @@ kept_dead t before kept all is_kept = elim is_kept [
   }
 ]
 
+-- a pair that is dead is remembered among such
 remembered_dead : (t : Trials) (before : Dead) (pair : Pair) (after : Dead) → AreAllDead t before
     → IsDeadPair (length t.items.items) (call_at t.items.items) pair.high pair.not_done.items
     (content_kept pair.content)

@@ -17,25 +17,28 @@ use Rattle.search.specs.declared.step.Undo.TheVariants.{SetKey}
 use Rattle.search.specs.Undoing.{undone, IsStep}
 use Rattle.search.specs.Kinds.Map.{map_key, value_of_reply}
 
-looked : (m : Table) (q k : ℤ) (x : Option ℤ) (r : Ordering) → r ≡ int_cmp q k
-    → cond (is_eq r) (get m k) (cond (is_eq r) x (get m q)) ≡ get m q
-looked m q k x Equal e = ap (get m) (sym (int_cmp-IsAntisymmetric q k (sym e)))
-looked m q k x r e = refl
+-- a key that is given back what it had reads as before, and so does each other key
+looked : (before : Table) (other key : ℤ) (now : Option ℤ) (rank : Ordering) → rank ≡ int_cmp other key
+    → cond (is_eq rank) (get before key) (cond (is_eq rank) now (get before other)) ≡ get before other
+looked before other key now Equal e = ap (get before) (sym (int_cmp-IsAntisymmetric other key (sym e)))
+looked before other key now rank e = refl
 
--- changed: the table after a change at k to x
-back : (m changed : Table) (k : ℤ) (x o : Option ℤ) → ((q : ℤ)
-    → get changed q ≡ cond (eq_by_cmp int_cmp q k) x (get m q))
-    → o ≡ get m k → undone (SetKey k o) (table changed) ≡ table m
-back m changed k x None at e =
+-- after a change of one key, this key is given back what it had
+back : (before changed : Table) (key : ℤ) (now had : Option ℤ) → ((q : ℤ)
+    → get changed q ≡ cond (eq_by_cmp int_cmp q key) now (get before q))
+    → had ≡ get before key → undone (SetKey key had) (table changed) ≡ table before
+back before changed key now None at e =
     ap table (same_map int_cmp_total int_cmp-IsAntisymmetric _ _ (λ q.
-    rw (get-remove int_cmp_total changed k q, at q, e) (looked m q k x (int_cmp q k) refl)))
-back m changed k x (Some v) at e =
+    rw (get-remove int_cmp_total changed key q, at q, e) (looked before q key now (int_cmp q key) refl)))
+back before changed key now (Some v) at e =
     ap table (same_map int_cmp_total int_cmp-IsAntisymmetric _ _ (λ q.
-    rw (get-insert int_cmp_total changed k v q, at q, e) (looked m q k x (int_cmp q k) refl)))
+    rw (get-insert int_cmp_total changed key v q, at q, e) (looked before q key now (int_cmp q key) refl)))
 
-unchanged : (m : Table) (k q : ℤ) (r : Ordering) → r ≡ int_cmp q k → get m q ≡ cond (is_eq r) (get m k) (get m q)
-unchanged m k q Equal e = ap (get m) (int_cmp-IsAntisymmetric q k (sym e))
-unchanged m k q r e = refl
+-- a key that is given what it has changes nothing
+unchanged : (before : Table) (key other : ℤ) (rank : Ordering) → rank ≡ int_cmp other key
+    → get before other ≡ cond (is_eq rank) (get before key) (get before other)
+unchanged before key other Equal e = ap (get before) (int_cmp-IsAntisymmetric other key (sym e))
+unchanged before key other rank e = refl
 
 back_if : (so : Bool) (m : Table) (k v : ℤ) → undone (SetKey k (get m k)) (table (inserted_if so m k v)) ≡ table m
 back_if true m k v = back m (insert m k v) k (Some v) (get m k) (get-insert int_cmp_total m k v) refl
@@ -59,7 +62,8 @@ abbrev pub answer : Content → AnyReply → Option (Content × AnyReply)
 answer c r = Some (c, r)
 
 -- equal answers have equal contents and replies
-pub same_answer : (c d : Content) (r t : AnyReply) → answer c r ≡ answer d t → (c ≡ d) × (r ≡ t)
+pub same_answer : (one other : Content) (reply reply' : AnyReply) → answer one reply ≡ answer other reply'
+    → (one ≡ other) × (reply ≡ reply')
 unfolding left replied
 same_answer c d r t e = (ap left e, ap replied e)
 
@@ -87,47 +91,53 @@ key_back : (m n : Table) (op : MapOp) (r : AnyReply) → Leaves m op n r → set
 unfolding left
 key_back m n op r e = ap (λ x. sets_back m op (left x)) (sym e) ∙ back_after m op
 
--- the key k had o
-key_step : (m n : Table) (k : ℤ) (o : Option ℤ) (op : MapOp) (r : AnyReply) → map_key op ≡ k → o ≡ get m k
-    → Leaves m op n r
-    → IsStep (table m) (map_op op) (table n) record { reply = r; undo = SetKey k o }
-key_step m n k o op r at had e = record {
+-- the step of an operation on a key, and what the key had undoes it
+key_step : (before after : Table) (key : ℤ) (was : Option ℤ) (op : MapOp) (reply : AnyReply) → map_key op ≡ key
+    → was ≡ get before key → Leaves before op after reply
+    → IsStep (table before) (map_op op) (table after) record { reply = reply; undo = SetKey key was }
+key_step before after key was op reply at had e = record {
   does = e;
-  back = rw had (ap (λ j. undone (SetKey j (get m j)) (table n)) (sym at) ∙ key_back m n op r e);
+  back = rw had (ap (λ j. undone (SetKey j (get before j)) (table after)) (sym at) ∙ key_back before after op reply e);
 }
 
--- the same, where the object was read first
-pub read_step : (m p n : Table) (k : ℤ) (o : Option ℤ) (op : MapOp) (t r : AnyReply) → map_key op ≡ k
-    → Leaves m (Get k) p t → o ≡ value_of_reply t → Leaves p op n r
-    → IsStep (table m) (map_op op) (table n) record { reply = r; undo = SetKey k o }
-read_step m p n k o op t r at read told e =
-    let both = same_answer (table p) (table m) t (Value (get m k)) (sym read) in
-    let same : p ≡ m = cc (both.0) in
-    key_step m n k o op r at (told ∙ ap value_of_reply both.1) (ap (λ x. next (table x) (map_op op)) (sym same) ∙ e)
+-- a step on a key that was read first
+pub read_step : (before between after : Table) (key : ℤ) (was : Option ℤ) (op : MapOp) (found reply : AnyReply)
+    → map_key op ≡ key
+    → Leaves before (Get key) between found → was ≡ value_of_reply found → Leaves between op after reply
+    → IsStep (table before) (map_op op) (table after) record { reply = reply; undo = SetKey key was }
+read_step before between after key was op found reply at read told e =
+    let both = same_answer (table between) (table before) found (Value (get before key)) (sym read) in
+    let same : between ≡ before = cc (both.0) in
+    key_step before after key was op reply at (told ∙ ap value_of_reply both.1)
+    (ap (λ x. next (table x) (map_op op)) (sym same) ∙ e)
 
--- the same, where the reply is what the key had
-told_step : (m n p : Table) (k : ℤ) (o : Option ℤ) (any : AnyOp) (op : MapOp) (r : AnyReply) → any ≡ map_op op
-    → map_key op ≡ k → Leaves m op p (Value (get m k)) → Leaves m op n r → o ≡ value_of_reply r
-    → IsStep (table m) any (table n) record { reply = Value o; undo = SetKey k o }
-told_step m n p k o any op r is at gives e told =
-    let value = (same_answer (table n) (table p) r (Value (get m k)) (sym e ∙ gives)).1 in
-    let had : o ≡ get m k = told ∙ ap value_of_reply value in
-    let step = key_step m n k o op r at had e in record {
-      does = ap (next (table m)) is ∙ e ∙ ap (answer (table n)) (value ∙ ap Value (sym had));
+-- a step whose reply is what the key had
+told_step : (before after given : Table) (key : ℤ) (was : Option ℤ) (called : AnyOp) (op : MapOp) (reply : AnyReply)
+    → called ≡ map_op op
+    → map_key op ≡ key → Leaves before op given (Value (get before key)) → Leaves before op after reply
+    → was ≡ value_of_reply reply
+    → IsStep (table before) called (table after) record { reply = Value was; undo = SetKey key was }
+told_step before after given key was called op reply is at gives e told =
+    let value = (same_answer (table after) (table given) reply (Value (get before key)) (sym e ∙ gives)).1 in
+    let had : was ≡ get before key = told ∙ ap value_of_reply value in
+    let step = key_step before after key was op reply at had e in record {
+      does = ap (next (table before)) is ∙ e ∙ ap (answer (table after)) (value ∙ ap Value (sym had));
       back = step.back;
     }
 
 -- the step of a put, and what undoes it
-pub put_step : (m n : Table) (k v : ℤ) (o : Option ℤ) (any : AnyOp) (r : AnyReply) → any ≡ map_op (Put k v)
-    → Leaves m (Put k v) n r → o ≡ value_of_reply r
-    → IsStep (table m) any (table n) record { reply = Value o; undo = SetKey k o }
-put_step m n k v o any r is e told = told_step m n (insert m k v) k o any (Put k v) r is refl refl e told
+pub put_step : (before after : Table) (key value : ℤ) (was : Option ℤ) (called : AnyOp) (reply : AnyReply)
+    → called ≡ map_op (Put key value) → Leaves before (Put key value) after reply → was ≡ value_of_reply reply
+    → IsStep (table before) called (table after) record { reply = Value was; undo = SetKey key was }
+put_step before after key value was called reply is e told =
+    told_step before after (insert before key value) key was called (Put key value) reply is refl refl e told
 
 -- the step of a removal of a key, and what undoes it
-pub del_step : (m n : Table) (k : ℤ) (o : Option ℤ) (any : AnyOp) (r : AnyReply) → any ≡ map_op (Del k)
-    → Leaves m (Del k) n r → o ≡ value_of_reply r
-    → IsStep (table m) any (table n) record { reply = Value o; undo = SetKey k o }
-del_step m n k o any r is e told = told_step m n (remove m k) k o any (Del k) r is refl refl e told
+pub del_step : (before after : Table) (key : ℤ) (was : Option ℤ) (called : AnyOp) (reply : AnyReply)
+    → called ≡ map_op (Del key) → Leaves before (Del key) after reply → was ≡ value_of_reply reply
+    → IsStep (table before) called (table after) record { reply = Value was; undo = SetKey key was }
+del_step before after key was called reply is e told =
+    told_step before after (remove before key) key was called (Del key) reply is refl refl e told
 
 -- what holds of a step holds of one that equals it
 pub same_step : (before after : Content) (op : AnyOp) (step other : Step) → step ≡ other
@@ -135,8 +145,8 @@ pub same_step : (before after : Content) (op : AnyOp) (step other : Step) → st
 same_step before after op step other is s = rw is s
 
 -- a step with the same reply, named otherwise
-pub reply_step : (m n : Table) (op : AnyOp) (undo : Undo) (r t : AnyReply) → t ≡ r
-    → IsStep (table m) op (table n) record { reply = r; undo = undo }
-    → IsStep (table m) op (table n) record { reply = t; undo = undo }
-reply_step m n op undo r t is step =
-    record { does = step.does ∙ ap (answer (table n)) (sym is); back = step.back }
+pub reply_step : (before after : Table) (op : AnyOp) (undo : Undo) (reply other : AnyReply) → other ≡ reply
+    → IsStep (table before) op (table after) record { reply = reply; undo = undo }
+    → IsStep (table before) op (table after) record { reply = other; undo = undo }
+reply_step before after op undo reply other is step =
+    record { does = step.does ∙ ap (answer (table after)) (sym is); back = step.back }

@@ -18,9 +18,10 @@ slot_within n done zero h = omega arith
 slot_within n done (suc k) h = let l = h.0 in omega arith
 
 -- of two slots with the same stop after a gap, neither is less
-same_slot_le : (n : ℕ) (done : List ℕ) (s t q : ℕ) → IsSlot n done t → t ≤ q → IsFilledGap done s q → s < t → ⊥
-same_slot_le n done s zero q h le gap l = omega arith
-same_slot_le n done s (suc k) q h le gap l = h.1 (gap k (omega arith) (omega arith))
+same_slot_le : (n : ℕ) (done : List ℕ) (one other stop : ℕ) → IsSlot n done other → other ≤ stop
+    → IsFilledGap done one stop → one < other → ⊥
+same_slot_le n done one zero stop h le gap l = omega arith
+same_slot_le n done one (suc k) stop h le gap l = h.1 (gap k (omega arith) (omega arith))
 
 same_slot : {n : ℕ} {done : List ℕ} {s t q : ℕ} → IsSlotBefore n done s q → IsSlotBefore n done t q → s ≡ t
 same_slot {n} {done} {s} {t} {q} a b = elim (cases_order s t) [
@@ -189,6 +190,7 @@ module _ {n : ℕ} {done nx pv : List ℕ} (h : Linked n done nx pv) where
 
   -- ---- the places that the list of links gives
 
+  -- the first place to which the links lead is left
   listed_here : (s u : ℕ) (us : List ℕ) (high : ℕ) → s ≤ n → IsSlot n done s → LeadsThrough nx s (u ∷ us) high
       → IsLeft n done u
   listed_here s u us high le sl w =
@@ -201,6 +203,7 @@ module _ {n : ℕ} {done nx pv : List ℕ} (h : Linked n done nx pv) where
       inside [] w = w.0
       inside (v ∷ vs) w = w.0
 
+  -- each place to which the links lead is left
   listed_left : (s : ℕ) (us : List ℕ) (high : ℕ) → s ≤ n → IsSlot n done s → LeadsThrough nx s us high → (k : ℕ)
       → In k us
       → IsLeft n done k
@@ -209,6 +212,7 @@ module _ {n : ℕ} {done nx pv : List ℕ} (h : Linked n done nx pv) where
       let here = listed_here s u us high le sl w in
       elim i [ inl e ↦ rw e here | inr m ↦ listed_left (suc u) us high here.0 here w.2 k m ]
 
+  -- each place below the bound to which no link leads is done
   listed_cover : (s : ℕ) (us : List ℕ) (high : ℕ) → s ≤ n → IsSlot n done s → LeadsThrough nx s us high
       → (k : ℕ) → s ≤ k → k < n → k < high → (In k us → ⊥) → In k done
   listed_cover s [] high le sl w k sk kn kh out =

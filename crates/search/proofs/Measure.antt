@@ -2,9 +2,10 @@
 use Rattle.std.proofs.Common.{◌≡◌, ℕ, ◌<◌, ◌≤◌, ◌+◌, ◌-◌, ◌*◌, arith}
 use Rattle.std.proofs.Math.Nat.{mul-le-mul_left}
 
-one_step : (k n levels levels2 x x2 : ℕ) → levels2 ≤ levels + 1 → x2 ≤ n + 1
-    → k * (2 * (n + 2)) + levels2 * (n + 2) + x2 < (k + 1) * (2 * (n + 2)) + levels * (n + 2) + x
-one_step k n levels levels2 x x2 l m = let p = mul-le-mul_left (n + 2) l in omega (arith, p)
+-- the measure falls where one step fewer is left, whatever the levels, of which there is one more at most
+one_step : (steps n levels levels2 at at2 : ℕ) → levels2 ≤ levels + 1 → at2 ≤ n + 1
+    → steps * (2 * (n + 2)) + levels2 * (n + 2) + at2 < (steps + 1) * (2 * (n + 2)) + levels * (n + 2) + at
+one_step steps n levels levels2 at at2 l m = let p = mul-le-mul_left (n + 2) l in omega (arith, p)
 
 -- with one step more, and one level more at most
 pub step_smaller : (limit steps n levels levels2 at at2 : ℕ) → steps < limit → levels2 ≤ levels + 1

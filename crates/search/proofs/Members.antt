@@ -17,24 +17,30 @@ use Rattle.search.proofs.Keys.{answer, same_answer}
 abbrev Alike : Elements → Elements → ℤ → Type 0
 Alike s t v = (q : ℤ) → is_eq (int_cmp q v) ≡ false → contains t q ≡ contains s q
 
-added : (s t : Elements) (v q : ℤ) (r : Ordering) → r ≡ int_cmp q v → Alike s t v → true ≡ contains s v
-    → (is_eq r || contains t q) ≡ contains s q
-added s t v q Equal e alike at = at ∙ ap (contains s) (sym (int_cmp-IsAntisymmetric q v (sym e)))
-added s t v q r e alike at = alike q (ap is_eq (sym e))
+-- an element that is put back is there again, and each other element is as before
+added : (before after : Elements) (element other : ℤ) (rank : Ordering) → rank ≡ int_cmp other element
+    → Alike before after element → true ≡ contains before element
+    → (is_eq rank || contains after other) ≡ contains before other
+added before after element other Equal e alike at =
+    at ∙ ap (contains before) (sym (int_cmp-IsAntisymmetric other element (sym e)))
+added before after element other rank e alike at = alike other (ap is_eq (sym e))
 
-removed : (s t : Elements) (v q : ℤ) (r : Ordering) → r ≡ int_cmp q v → Alike s t v → false ≡ contains s v
-    → (not (is_eq r) && contains t q) ≡ contains s q
-removed s t v q Equal e alike at = at ∙ ap (contains s) (sym (int_cmp-IsAntisymmetric q v (sym e)))
-removed s t v q r e alike at = alike q (ap is_eq (sym e))
+-- an element that is taken out again is gone, and each other element is as before
+removed : (before after : Elements) (element other : ℤ) (rank : Ordering) → rank ≡ int_cmp other element
+    → Alike before after element → false ≡ contains before element
+    → (not (is_eq rank) && contains after other) ≡ contains before other
+removed before after element other Equal e alike at =
+    at ∙ ap (contains before) (sym (int_cmp-IsAntisymmetric other element (sym e)))
+removed before after element other rank e alike at = alike other (ap is_eq (sym e))
 
-back : (s t : Elements) (v : ℤ) (was : Bool) → Alike s t v → was ≡ contains s v
-    → undone (SetElement v was) (elements t) ≡ elements s
-back s t v true alike at =
+back : (before after : Elements) (element : ℤ) (was : Bool) → Alike before after element → was ≡ contains before element
+    → undone (SetElement element was) (elements after) ≡ elements before
+back before after element true alike at =
     ap elements (same_set int_cmp_total int_cmp-IsAntisymmetric _ _ (λ q.
-    contains-insert int_cmp_total t v q ∙ added s t v q (int_cmp q v) refl alike at))
-back s t v false alike at =
+    contains-insert int_cmp_total after element q ∙ added before after element q (int_cmp q element) refl alike at))
+back before after element false alike at =
     ap elements (same_set int_cmp_total int_cmp-IsAntisymmetric _ _ (λ q.
-    contains-remove int_cmp_total t v q ∙ removed s t v q (int_cmp q v) refl alike at))
+    contains-remove int_cmp_total after element q ∙ removed before after element q (int_cmp q element) refl alike at))
 
 alike_added : (s : Elements) (v : ℤ) → Alike s (insert s v) v
 alike_added s v q ne = contains-insert int_cmp_total s v q ∙ ap (λ b. b || contains s q) ne

@@ -40,6 +40,7 @@ pub record AreListed (calls : List Call) (n : ℕ) (call : ℕ → Call) : Type 
 abbrev same_number : Invocation → Invocation → Bool
 same_number a b = a.number == b.number
 
+-- the calls at two places have different numbers
 numbers_differ : (ops items : List Invocation) → AllPairs (λ a b. a.number < b.number) ops
     → IsPermutation (filter happens ops) items → (j k : ℕ)
     → j < k → k < length items → (call_at items j).number ≢ (call_at items k).number
@@ -101,7 +102,9 @@ ordered n call done c (k ∷ rest) h = onto (ordered n call (k ∷ done) h.2 res
   where
     onto : Ordered n call (k ∷ done) h.2 rest → Ordered n call done c (k ∷ rest)
     onto m =
-        let kept : (j : ℕ) → In j rest → IsLeft n done j = λ j i. let l = m.left j i in (l.0, λ d. l.1 (inr d)) in
+        let kept : (j : ℕ) → In j rest → IsLeft n done j = λ j i.
+        let l = m.left j i in
+        (l.0, λ d. l.1 (inr d)) in
         record {
           left = λ j i. elim i [ inl e ↦ rw e h.0 | inr d ↦ kept j d ];
           apart = (λ j i e. (m.left j i).1 (inl (sym e)), m.apart);
@@ -113,6 +116,7 @@ ordered n call done c (k ∷ rest) h = onto (ordered n call (k ∷ done) h.2 res
           ];
         }
 
+-- places that go on from the start are a valid order, by the numbers of their calls
 pub valid_from : (kind : Kind) (calls : List Call) (n : ℕ) (call : ℕ → Call) (rest : List ℕ) (order : List ℤ)
     → AreListed calls n call
     → Continues n call [] (empty kind) rest → order ≡ map (λ k. pos (call k).number) rest

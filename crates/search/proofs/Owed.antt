@@ -75,6 +75,7 @@ owes_left n call done k l e = go (call k).returned (list_any (λ j. j == k) done
     go (Some r) true q p h = absurd (cc h)
     go (Some r) false q p h = ((l, λ i. let t = in_any k done i in absurd (cc (t, p))), (r, q))
 
+-- a place that is left, and whose call returned, is owed
 left_owes : (n : ℕ) (call : ℕ → Call) (done : List ℕ) (k : ℕ) (r : Return) → IsLeft n done k
     → (call k).returned ≡ Some r → owes call done k ≡ true
 left_owes n call done k r l e = go (call k).returned (list_any (λ j. j == k) done) e refl

@@ -158,7 +158,7 @@ module _ {n : ℕ} {call : ℕ → Call} where
         rw (e, f) (
           record {
             left = left;
-            candidate = λ j jl ne b. let g = w.is_window.is_least.below j b.0 jl b.1 in let h = b.2 in omega arith;
+            candidate = λ j jl ne b. omega (arith, w.is_window.is_least.below j b.0 jl b.1, b.2);
             placed = record { reply = gives; does = does; agrees = agrees };
             tried = w.tried;
             is_window = w.is_window;

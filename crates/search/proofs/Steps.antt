@@ -120,9 +120,7 @@ module _ {kind : Kind} {items : List Invocation} {floors return_floors : List �
       → ((length items ≤ at) ⊎ (least < get_or return_floors at 0)) → IsLeast (length items) (call_at items) done least
   least_last m o = least_of_all m (λ j r a b q. elim o [
     | inl e ↦ absurd (omega arith)
-    | inr e ↦
-        let f = t.return_floors_right.below _ j a b (inr (rw q refl)) in let g = t.ends j r b q in
-        omega arith
+    | inr e ↦ omega (arith, t.return_floors_right.below _ j a b (inr (rw q refl)), t.ends j r b q)
   ])
 
   module _ {start : Content} {ls : List Level} {bs : List Content} {here : Position} {to : Turn}

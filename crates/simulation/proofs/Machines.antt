@@ -27,24 +27,27 @@ use Rattle.seq_objects.specs.Kinds as mixing
 use Rattle.simulation.specs.Plays.{header_kinds, IsPlayed, Takes}
 use Rattle.simulation.specs.Simulations.{IsGoingOn}
 
-pub kinds_more : (ks : Kinds) (i : ℕ) (old new : List AnyObject) (o : AnyObject)
-    → map (λ o. kind_with (content_of o)) old ≡ mixing.kinds_of ks i
-    → content_of o ≡ empty (kind_in ks i) → new ≡ old ++ o ∷ []
-    → map (λ o. kind_with (content_of o)) new ≡ mixing.kinds_of ks (i + 1)
-kinds_more ks i old new o so_far is more =
+-- one object more, of the kind that the header has next
+pub kinds_more : (kinds : Kinds) (i : ℕ) (old new : List AnyObject) (object : AnyObject)
+    → map (λ o. kind_with (content_of o)) old ≡ mixing.kinds_of kinds i
+    → content_of object ≡ empty (kind_in kinds i) → new ≡ old ++ object ∷ []
+    → map (λ o. kind_with (content_of o)) new ≡ mixing.kinds_of kinds (i + 1)
+kinds_more kinds i old new object so_far is more =
     ap (map (λ (x : AnyObject). kind_with (content_of x))) more
-    ∙ (map-append (λ (x : AnyObject). kind_with (content_of x)) old (o ∷ [])
-    ∙ (ap (λ xs. xs ++ kind_with (content_of o) ∷ []) so_far
-    ∙ (ap (λ k. mixing.kinds_of ks i ++ k ∷ []) (ap kind_with is ∙ kind_of_empty (kind_in ks i))
-    ∙ sym (map-range_with_len_more (kind_in ks) 0 i i (omega arith)))))
+    ∙ (map-append (λ (x : AnyObject). kind_with (content_of x)) old (object ∷ [])
+    ∙ (ap (λ xs. xs ++ kind_with (content_of object) ∷ []) so_far
+    ∙ (ap (λ k. mixing.kinds_of kinds i ++ k ∷ []) (ap kind_with is ∙ kind_of_empty (kind_in kinds i))
+    ∙ sym (map-range_with_len_more (kind_in kinds) 0 i i (omega arith)))))
 
-pub empty_more : (old new : List AnyObject) (o : AnyObject) (k : Kind)
+-- one empty object more
+pub empty_more : (old new : List AnyObject) (object : AnyObject) (kind : Kind)
     → All (λ o. content_of o ≡ empty (kind_with (content_of o))) old
-    → content_of o ≡ empty k → new ≡ old ++ o ∷ [] → All (λ o. content_of o ≡ empty (kind_with (content_of o))) new
-empty_more old new o k so_far is more =
+    → content_of object ≡ empty kind → new ≡ old ++ object ∷ []
+    → All (λ o. content_of o ≡ empty (kind_with (content_of o))) new
+empty_more old new object kind so_far is more =
     subst (All (λ (x : AnyObject). content_of x ≡ empty (kind_with (content_of x)))) (sym more)
-    (All-push (λ (x : AnyObject). content_of x ≡ empty (kind_with (content_of x))) old o so_far
-    (is ∙ ap empty (sym (ap kind_with is ∙ kind_of_empty k))))
+    (All-push (λ (x : AnyObject). content_of x ≡ empty (kind_with (content_of x))) old object so_far
+    (is ∙ ap empty (sym (ap kind_with is ∙ kind_of_empty kind))))
 
 -- as many objects as there are kinds
 pub count_is : (h : Header) (os : List AnyObject) → map (λ o. kind_with (content_of o)) os ≡ header_kinds h
@@ -75,6 +78,7 @@ module _ (h : Header) (steps : List (ℕ × AnyStep)) (refused : ℕ) (start now
       (world_of now))
       quota ran))
 
+  -- a client that is there, where each client before it has ended, is the one that is going on
   pub is_going_on : world_of start ≡ start_world h.clients
       → TakesPossible start.kinds start.quota (world_of start) (steps_in (λ op. op) steps) refused (world_of now)
       → HasRun now
@@ -90,6 +94,7 @@ module _ (h : Header) (steps : List (ℕ × AnyStep)) (refused : ℕ) (start now
     earlier = earlier;
   }
 
+  -- the record of a machine that took all steps, and whose clients have ended, is that of the schedule
   pub is_played : (r : Recorded AnyOp AnyReply) → world_of start ≡ start_world h.clients
       → TakesPossible start.kinds start.quota (world_of start) (steps_in (λ op. op) steps) refused (world_of now)
       → HasRun now → ((c : ℕ) → c < clients_of now → HasEnded now c)

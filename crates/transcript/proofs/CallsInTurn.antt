@@ -43,26 +43,29 @@ module _ (journals : ℕ → List AnyEvent) (es : List Event) (are : AreEventsOf
       (subst (Runs c idle) (are.each c) (own_runs c idle es (runs_from_start es c proper)))
 
   -- two invocations on one object, the one before the other
-  kinds_before : (earlier later : List Event) (e f : Event) (o p : AnyOp) → es ≡ earlier ++ f ∷ later → In e earlier
-      → e.object ≡ f.object
-      → e.action ≡ Invoke o → f.action ≡ Invoke p → kind_of o ≡ kind_of p
-  kinds_before earlier later e f o p is i on invokes also =
-      let h : Follows earlier f.process f.object (Invoke p) =
-      subst (Follows earlier f.process f.object) also (proper.each earlier later f is) in
-      h.1 e o (contains_from_in earlier e i) on invokes
+  kinds_before : (earlier later : List Event) (first second : Event) (one other : AnyOp)
+      → es ≡ earlier ++ second ∷ later → In first earlier → first.object ≡ second.object
+      → first.action ≡ Invoke one → second.action ≡ Invoke other → kind_of one ≡ kind_of other
+  kinds_before earlier later first second one other is i on invokes also =
+      let h : Follows earlier second.process second.object (Invoke other) =
+      subst (Follows earlier second.process second.object) also (proper.each earlier later second is) in
+      h.1 first one (contains_from_in earlier first i) on invokes
 
-  pub one_kind : (e f : Event) (o p : AnyOp) → In e es → In f es → e.object ≡ f.object → e.action ≡ Invoke o
-      → f.action ≡ Invoke p → kind_of o ≡ kind_of p
-  one_kind e f o p i j on invokes also =
-      let r = in_split f es j in
-      elim (in_append e r.0 (f ∷ r.1) (subst (In e) r.2 i)) [
-        | inl before ↦ kinds_before r.0 r.1 e f o p r.2 before on invokes also
+  -- operations that are invoked on one object are of one kind
+  pub one_kind : (first second : Event) (one other : AnyOp) → In first es → In second es → first.object ≡ second.object
+      → first.action ≡ Invoke one → second.action ≡ Invoke other → kind_of one ≡ kind_of other
+  one_kind first second one other i j on invokes also =
+      let r = in_split second es j in
+      elim (in_append first r.0 (second ∷ r.1) (subst (In first) r.2 i)) [
+        | inl before ↦ kinds_before r.0 r.1 first second one other r.2 before on invokes also
         | inr rest ↦ elim rest [
-          | inl same ↦ (let act : Invoke o ≡ Invoke p = sym invokes ∙ ap (λ (x : Event). x.action) same ∙ also in
-              let op : o ≡ p = cc (act) in ap kind_of op)
+          | inl same ↦ (let act : Invoke one ≡ Invoke other = sym invokes ∙ ap (λ (x : Event). x.action) same ∙ also in
+              let op : one ≡ other = cc (act) in ap kind_of op)
           | inr after ↦
-              let s = in_split e r.1 after in
-              let whole = r.2 ∙ (ap (λ xs. r.0 ++ f ∷ xs) s.2 ∙ sym (append_assoc r.0 (f ∷ s.0) (e ∷ s.1))) in
-              sym (kinds_before (r.0 ++ f ∷ s.0) s.1 f e p o whole (in_middle f r.0 s.0) (sym on) also invokes)
+              let s = in_split first r.1 after in
+              let whole = r.2
+              ∙ (ap (λ xs. r.0 ++ second ∷ xs) s.2 ∙ sym (append_assoc r.0 (second ∷ s.0) (first ∷ s.1))) in
+              sym (kinds_before (r.0 ++ second ∷ s.0) s.1 second first other one whole (in_middle second r.0 s.0)
+              (sym on) also invokes)
         ]
       ]

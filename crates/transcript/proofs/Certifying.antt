@@ -68,16 +68,17 @@ are_certificates journals logs es are names up named cs same orders = record {
 }
 
 -- one certificate more
-pub objects_more : {X : Type 0} (f : X → ℕ) (vs : List X) (i : ℕ) (v : X) (cs new : List Certificate)
-    (c : Certificate) → i < length vs → v ≡ get_or vs i v
-    → map (λ c. c.object) cs ≡ map f (take i vs) → c.object ≡ f v → new ≡ cs ++ c ∷ []
-    → map (λ c. c.object) new ≡ map f (take (i + 1) vs)
-objects_more f vs i v cs new c low is so_far object more =
+pub objects_more : {X : Type 0} (name_in : X → ℕ) (values : List X) (i : ℕ) (value : X) (cs new : List Certificate)
+    (c : Certificate) → i < length values → value ≡ get_or values i value
+    → map (λ c. c.object) cs ≡ map name_in (take i values) → c.object ≡ name_in value → new ≡ cs ++ c ∷ []
+    → map (λ c. c.object) new ≡ map name_in (take (i + 1) values)
+objects_more name_in values i value cs new c low is so_far object more =
     ap (map (λ (d : Certificate). d.object)) more
     ∙ (map-append (λ (d : Certificate). d.object) cs (c ∷ [])
     ∙ (ap (λ ns. ns ++ c.object ∷ []) so_far
-    ∙ (ap (λ n. map f (take i vs) ++ n ∷ []) (object ∙ ap f is)
-    ∙ (sym (map-append f (take i vs) (get_or vs i v ∷ [])) ∙ ap (map f) (sym (take_more vs i v low))))))
+    ∙ (ap (λ n. map name_in (take i values) ++ n ∷ []) (object ∙ ap name_in is)
+    ∙ (sym (map-append name_in (take i values) (get_or values i value ∷ [])) ∙ ap (map name_in)
+    (sym (take_more values i value low))))))
 
 -- the name of an object that was split off
 pub name_of_item : {X : Type 0} (f : X → ℕ) (vs : List X) (i : ℕ) (v : X) → i < length vs → v ≡ get_or vs i v

@@ -25,8 +25,10 @@ next_part : (p : ℕ) (es : List Event) → next_event p (filter (λ e. e.proces
 next_part p [] = refl
 next_part p (e ∷ es) = let rest = next_part p es in grind arith
 
-of_process : (n p x : ℕ) (a : Action) (b : Bool) (m : Numbered) → In m (denoted_by n p x a b) → process_of m.event ≡ p
-of_process n p x a b m i = grind arith
+-- what an event of a process denotes is of this process
+of_process : (number process object : ℕ) (action : Action) (failed : Bool) (m : Numbered)
+    → In m (denoted_by number process object action failed) → process_of m.event ≡ process
+of_process number process object action failed m i = grind arith
 
 -- what an event denotes, with those after it
 abbrev first_in : Event → List Event → List Numbered

@@ -55,20 +55,23 @@ first_may p s (g ∷ es) f fs h e = let later = first_may p s es f fs in grind a
 of_event : (c x : ℕ) (e : AnyEvent) → (event_of_journal c x e).process ≡ c
 of_event c x e = grind arith
 
-of_line : (c : ℕ) (e : AnyEvent) (q : Option Call) (l : Line) → In l (line_with c e q) → l.event.process ≡ c
-of_line c e None l i = absurd i
-of_line c e (Some q) l i = elim i [
-  | inl s ↦ ap (λ (k : Line). k.event.process) s ∙ of_event c q.object e
+-- the line that an event of a client makes is of this client
+of_line : (client : ℕ) (event : AnyEvent) (call : Option Call) (line : Line) → In line (line_with client event call)
+    → line.event.process ≡ client
+of_line client event None line i = absurd i
+of_line client event (Some call) line i = elim i [
+  | inl s ↦ ap (λ (k : Line). k.event.process) s ∙ of_event client call.object event
   | inr j ↦ absurd j
 ]
 
-pub of_client : (c : ℕ) (last : Option Call) (js : List AnyEvent) (l : Line) → In l (journal_lines_from c last js)
-    → l.event.process ≡ c
-of_client c last [] l i = absurd i
-of_client c last (e ∷ js) l i =
-    elim (in_append l (line_with c e (call_after last e)) (journal_lines_from c (call_after last e) js) i) [
-      | inl j ↦ of_line c e (call_after last e) l j
-      | inr j ↦ of_client c (call_after last e) js l j
+pub of_client : (client : ℕ) (last : Option Call) (js : List AnyEvent) (line : Line)
+    → In line (journal_lines_from client last js) → line.event.process ≡ client
+of_client client last [] line i = absurd i
+of_client client last (e ∷ js) line i =
+    let call = call_after last e in
+    elim (in_append line (line_with client e call) (journal_lines_from client call js) i) [
+      | inl j ↦ of_line client e call line j
+      | inr j ↦ of_client client call js line j
     ]
 
 -- ---- the lines of all journals
@@ -84,15 +87,19 @@ not_below n (j ∷ js) l i = elim (in_append l (journal_lines n j) (lines_in (n 
 lines_at : (n : ℕ) (js : List (List AnyEvent)) (k : ℕ)
     → filter (λ l. l.event.process == n + k) (lines_in n js) ≡ journal_lines (n + k) (get_or js k [])
 lines_at n [] k = refl
-lines_at n (j ∷ js) zero = let here : n + 0 ≡ n = omega arith in let P : Line → Bool = λ l. l.event.process == n + 0 in
+lines_at n (j ∷ js) zero =
+    let here : n + 0 ≡ n = omega arith in
+    let P : Line → Bool = λ l. l.event.process == n + 0 in
     let own = filter_all P (journal_lines n j)
     (λ l i. eq-eqb l.event.process (n + 0) (of_client n None j l i ∙ sym here)) in
     let others = filter_none P (lines_in (n + 1) js)
     (λ l i. ne_eqb l.event.process (n + 0) (λ e. let h = not_below (n + 1) js l i in absurd (omega arith))) in
     rw (filter-append P (journal_lines n j) (lines_in (n + 1) js), own, others)
     (append-nil (journal_lines n j) ∙ ap (λ m. journal_lines m j) (sym here))
-lines_at n (j ∷ js) (suc k) = let there : n + suc k ≡ (n + 1) + k = omega arith in
-    let P : Line → Bool = λ l. l.event.process == n + suc k in let own = filter_none P (journal_lines n j)
+lines_at n (j ∷ js) (suc k) =
+    let there : n + suc k ≡ (n + 1) + k = omega arith in
+    let P : Line → Bool = λ l. l.event.process == n + suc k in
+    let own = filter_none P (journal_lines n j)
     (λ l i. ne_eqb l.event.process (n + suc k) (λ e. let h = of_client n None j l i in absurd (omega arith))) in
     rw (filter-append P (journal_lines n j) (lines_in (n + 1) js), own, there) (lines_at (n + 1) js k)
 
@@ -113,8 +120,8 @@ apart n (j ∷ js) up same =
     (λ k. let there : n + suc k ≡ (n + 1) + k = omega arith in
     subst (λ (m : ℕ). Pairs (λ a b. number_in a < number_in b) (journal_lines m (get_or js k []))) there (up (suc k)))
     (λ a b i k. same a b (behind a i) (behind b k)))
-    (λ a b i k e. let p = of_client n None j a i in let q = not_below (n + 1) js b k in
-    let s = same a b (before a i) (behind b k) e in omega arith)
+    (λ a b i k e. omega
+    (arith, of_client n None j a i, not_below (n + 1) js b k, same a b (before a i) (behind b k) e))
   where
     before : (a : Line) → In a (journal_lines n j) → In a (lines_in n (j ∷ js))
     before a i = in_left a (journal_lines n j) (lines_in (n + 1) js) i
@@ -140,8 +147,7 @@ sorted_rises {X = X} n xs ys distinct p up i j d low high =
       eq-eqb (get_or (map n ys) i (n d)) (get_or (map n ys) j (n d))
           (get_or-map n ys i d (n d) (omega arith) ∙ e ∙ sym (get_or-map n ys j d (n d) high)),
     )) in
-    let le = up i j d (omega arith) high in
-    omega arith
+    omega (arith, up i j d (omega arith) high)
   where
     flips : (a b : ℕ) → eqb a b ≡ eqb b a
     flips a b = grind (arith, nat_tests)

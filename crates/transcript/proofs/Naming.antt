@@ -1,6 +1,6 @@
 -- The objects that journals name are those that their events name: each invocation of a journal is an event
--- (`event_of`), and each event is of the journal of its process (`own_event`).
-use Rattle.std.proofs.Common.{◌≡◌, ℕ, ◌==◌, inl, inr, List, [], ◌∷◌, Contains, refl, sym, subst}
+-- (`invocation_event`), and each event is of the journal of its process (`own_event`).
+use Rattle.std.proofs.Common.{ℕ, ◌==◌, List, [], ◌∷◌, Contains, refl, sym, subst, arith}
 use Rattle.std.proofs.lemmas.Bool.{eq-eqb}
 use Rattle.model.specs.declared.AnyOp.{AnyOp}
 use Rattle.model.specs.Lists.{In}
@@ -13,19 +13,16 @@ use Rattle.events.specs.Events.{IsNamed}
 use Rattle.recorder.specs.Histories.{events_of_journal, events_of, AreEventsOf, IsNamedIn}
 use Rattle.recorder.proofs.Journals.{invocation_of}
 
--- the event of an invocation
-event_of : (c x : ℕ) (js : List AnyEvent) (t y : ℕ) (op : AnyOp) → In (Invoked t y op) js
-    → In (record { number = t; process = c; object = y; action = Invoke op }) (events_of_journal c x js)
-event_of c x [] t y op i = absurd i
-event_of c x (Invoked u z o ∷ js) t y op i = elim i [
-  | inl e ↦
-      let number : t ≡ u = cc (e) in
-      let object : y ≡ z = cc (e) in
-      let same : op ≡ o = cc (e) in
-      inl (λ k. record { number = number k; process = c; object = object k; action = Invoke (same k) })
-  | inr j ↦ inr (event_of c z js t y op j)
-]
-event_of c x (Returned u a ∷ js) t y op i = elim i [ inl e ↦ absurd (cc (e)) | inr j ↦ inr (event_of c x js t y op j) ]
+-- an invocation of a journal is among its events
+pub invocation_event : (client before ticket named : ℕ) (op : AnyOp) (js : List AnyEvent)
+    → In (Invoked ticket named op) js
+    → In (record { number = ticket; process = client; object = named; action = Invoke op })
+    (events_of_journal client before js)
+invocation_event client before ticket named op [] i = absurd i
+invocation_event client before ticket named op (Invoked u z o ∷ js) i =
+    let later = invocation_event client z ticket named op js in grind (arith, later)
+invocation_event client before ticket named op (Returned u a ∷ js) i =
+    let later = invocation_event client before ticket named op js in grind (arith, later)
 
 module _ (journals : ℕ → List AnyEvent) (es : List Event) (are : AreEventsOf journals es) where
   pub own_event : (e : Event) → In e es → In e (events_of e.process (journals e.process))
@@ -52,7 +49,7 @@ module _ (journals : ℕ → List AnyEvent) (es : List Event) (are : AreEventsOf
   named_by x n =
       let e : Event = record { number = n.ticket; process = n.client; object = x; action = Invoke n.op } in
       let there : In e (events_of n.client (journals n.client)) =
-      event_of n.client 0 (journals n.client) n.ticket x n.op
+      invocation_event n.client 0 n.ticket x n.op (journals n.client)
       (in_from_contains (journals n.client) (Invoked n.ticket x n.op) n.stands) in
       record {
         event = e;

@@ -34,10 +34,10 @@ use Rattle.history.specs.Denotes.{action_of, event_of_map, event_of, events_of_f
 use Rattle.history.proofs.MapLimit.{IsSmall, faultless_within}
 use Rattle.history.proofs.OneMore.{fault_of}
 use Rattle.history.proofs.Laws.{kind_of_op}
-use Rattle.desk_model.specs.declared.JournalEvent.TheVariants.{Invoked, Returned}
+use Rattle.desk_model.specs.declared.JournalEvent.TheVariants.{Invoked}
 use Rattle.desk_model.specs.World.{AnyEntry, AnyEvent, ticket_of}
 use Rattle.desk_model.specs.Sound.{ShareOut}
-use Rattle.recorder.specs.Histories.{AreEventsOf, IsRecord, events_of, max_tickets, events_of_journal as journal_events}
+use Rattle.recorder.specs.Histories.{AreEventsOf, IsRecord, events_of, max_tickets}
 use Rattle.recorder.proofs.Same.{same_by_parts}
 use Rattle.recorder.proofs.Journals.{InTurn, none, last, call, numbers_of}
 use Rattle.transcript.specs.declared.line.Call.{Call}
@@ -46,6 +46,7 @@ use Rattle.transcript.specs.Lines.{map_value, value_form, form_of, history_text,
 use Rattle.transcript.specs.Lines.{AreLinesOf, events_in}
 use Rattle.transcript.specs.Reading.{DenotesEvents}
 use Rattle.transcript.proofs.Gathered.{same_events}
+use Rattle.transcript.proofs.Naming.{invocation_event}
 use Rattle.transcript.proofs.CallsInTurn.{turns_in, one_kind}
 use Rattle.transcript.proofs.ClientLines.{MayFollow, Follows, last_line, line_follows}
 use Rattle.transcript.proofs.Forms.{type_map, map_of, client_is, action_is}
@@ -65,10 +66,10 @@ counted n count (e ∷ es) up within each =
     let first = each n (omega arith) (omega arith) in
     let is : e.number ≡ n = elim first.1 [
       | inl s ↦ ap (λ (x : Event). x.number) (sym s) ∙ first.2
-      | inr i ↦ let l = up.0 first.0 i in let q = first.2 in let h = here.0 in absurd (omega arith)
+      | inr i ↦ absurd (omega (arith, up.0 first.0 i, first.2, here.0))
     ] in (
       is,
-      counted (n + 1) count es up.1 (λ f i. let l = up.0 f i in let w = within f (inr i) in (omega arith, w.1))
+      counted (n + 1) count es up.1 (λ f i. let w = within f (inr i) in (omega (arith, up.0 f i, w.0), w.1))
           (λ t low high.
           let f = each t (omega arith) high in (
             f.0,
@@ -84,8 +85,8 @@ count_few : (n m : ℕ) (es : List Event) → CountFrom n es → ((e : Event) �
     → n + length es ≤ m
 count_few n m [] c low le = omega arith
 count_few n m (e ∷ es) c low le =
-    let l = low e (inl refl) in let q = c.0 in
-    let r = count_few (n + 1) m es c.1 (λ f i. low f (inr i)) (omega arith) in omega arith
+    let at : n < m = omega (arith, low e (inl refl), c.0) in
+    omega (arith, count_few (n + 1) m es c.1 (λ f i. low f (inr i)) (omega arith))
 
 -- ---- the forms of lines
 
@@ -214,29 +215,20 @@ module _ (before : List Line) (l : Line) (fine : IsFine before l) where
 -- ---- the call of a line
 
 -- the invocation of a line's call is in the journal
-line_call : (c : ℕ) (q : Option Call) (js : List AnyEvent) → InTurn js → (l : Line) → In l (journal_lines_from c q js)
-    → (t : ℕ) × In (Invoked t l.event.object l.op) js
-line_call c q js none l i = absurd i
-line_call c q js (last t x op) l i = elim i [
+line_call : (client : ℕ) (before : Option Call) (js : List AnyEvent) → InTurn js → (line : Line)
+    → In line (journal_lines_from client before js) → (t : ℕ) × In (Invoked t line.event.object line.op) js
+line_call client before js none line i = absurd i
+line_call client before js (last t x op) line i = elim i [
   | inl s ↦ (t, inl (ap (λ (k : Line). Invoked t k.event.object k.op) s))
   | inr j ↦ absurd j
 ]
-line_call c q js (call t x op u a rest fits more) l i = elim i [
+line_call client before js (call t x op u a rest fits more) line i = elim i [
   | inl s ↦ (t, inl (ap (λ (k : Line). Invoked t k.event.object k.op) s))
   | inr j ↦ elim j [
     | inl s ↦ (t, inl (ap (λ (k : Line). Invoked t k.event.object k.op) s))
-    | inr k ↦ let h = line_call c (Some (record { object = x; op = op })) rest more l k in (h.0, inr (inr h.1))
+    | inr k ↦ let h = line_call client (Some (record { object = x; op = op })) rest more line k in (h.0, inr (inr h.1))
   ]
 ]
-
--- an invocation of a journal is among its events
-invocation_event : (c x t y : ℕ) (op : AnyOp) (js : List AnyEvent) → In (Invoked t y op) js
-    → In (record { number = t; process = c; object = y; action = Invoke op }) (journal_events c x js)
-invocation_event c x t y op [] i = absurd i
-invocation_event c x t y op (Invoked u z o ∷ js) i =
-    let later = invocation_event c z t y op js in grind (arith, later)
-invocation_event c x t y op (Returned u a ∷ js) i =
-    let later = invocation_event c x t y op js in grind (arith, later)
 
 -- ---- what the lines spell
 
@@ -316,8 +308,7 @@ module _ (objects : ℕ) (journals : ℕ → List AnyEvent) (logs : ℕ → List
   few_lines : length ls ≤ 640000
   few_lines =
       let l = count_few 0 max_tickets (events_in ls) numbered number_few (omega arith) in
-      let long = length-map ls (λ (k : Line). k.event) in
-      omega arith
+      omega (arith, length-map ls (λ (k : Line). k.event))
 
   turn : (c : ℕ) → InTurn (journals c)
   turn = turns_in journals record_is.events record_is.are_events record_is.proper
@@ -388,8 +379,8 @@ module _ (objects : ℕ) (journals : ℕ → List AnyEvent) (logs : ℕ → List
       absurd (omega (arith, own, low, l)))
 
   faultless : HasNoHistoryFault (map form_of ls)
-  faultless = let few = few_lines in let long = length-map ls form_of in faultless_within
-      (map form_of ls) at_any_length (omega arith) small
+  faultless =
+      faultless_within (map form_of ls) at_any_length (omega (arith, few_lines, length-map ls form_of)) small
 
   says_action : (l : Line) → In l ls → action_of (map_of l).type (map_of l) ≡ Some l.event.action
   says_action l i = let r = in_split l ls i in action_is l (last_line l.event.process r.0) (follows_at r.0 r.1 l r.2)

@@ -23,10 +23,14 @@ value_is (Triple a b c) = simp (append_assoc, append-nil) (ap (λ l. codes "[" +
     (rest_of_triple (signed_decimal b) (signed_decimal c)))
 value_is v = refl
 
-flat : (o k p l t m f q v r x c n : List ℕ)
-    → (o ++ (((k ++ p) ++ ((l ++ t) ++ ((m ++ f) ++ ((q ++ v) ++ ((r ++ x) ++ []))))) ++ c)) ++ n
-    ≡ ((o ++ k) ++ (p ++ (l ++ t))) ++ ((m ++ (f ++ (q ++ v))) ++ (r ++ (x ++ (c ++ n))))
-flat o k p l t m f q v r x c n = simp (append_assoc, append-nil)
+-- a line's text is that of its segments: the same texts, grouped in pairs of a key and its value
+flat : (start process_key process type_key type f_key f value_key value object_key object end feed : List ℕ)
+    → (start ++ (((process_key ++ process) ++ ((type_key ++ type) ++ ((f_key ++ f) ++ ((value_key ++ value)
+    ++ ((object_key ++ object) ++ []))))) ++ end)) ++ feed
+    ≡ ((start ++ process_key) ++ (process ++ (type_key ++ type)))
+    ++ ((f_key ++ (f ++ (value_key ++ value))) ++ (object_key ++ (object ++ (end ++ feed))))
+flat start process_key process type_key type f_key f value_key value object_key object end feed =
+    simp (append_assoc, append-nil)
 
 line_is : (l : Line) → text_of (form_of l) ++ 10 ∷ [] ≡ line_text l
 line_is l =

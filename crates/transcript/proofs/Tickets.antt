@@ -43,6 +43,7 @@ module _ {O R : Type 0} (op_in : O → AnyOp) (reply_in : R → AnyReply) where
       → get_or (map (map (event_in op_in reply_in)) r.journals) c [] ≡ journals_in op_in reply_in r c
   journal_is r c = ListN.get_or-map (map (event_in op_in reply_in)) r.journals c []
 
+  -- each event of a journal in memory has a ticket below the limit, if the journals are those of a record
   pub low_in : {Z : Type 0} (r : Recorded O R) → IsRecordOf op_in reply_in r → (vs : List (Vec (JournalEvent O R) Z))
       → items_of_each vs ≡ r.journals
       → (c : ℕ) (v : Vec (JournalEvent O R) Z) → c < length vs → v ≡ get_or vs c v

@@ -5,7 +5,7 @@ use Rattle.std.specs.Prelude.{codes, pos}
 use Rattle.std.specs.Fmt.{signed_decimal}
 use Rattle.std.specs.Io.KnownBytes.{Appends}
 use Rattle.edn.specs.Sent.{WritesPrefix}
-use Rattle.edn.proofs.Fronts.{front_of_first, three_2, three_3, fails, sends_third}
+use Rattle.edn.proofs.Fronts.{front_of_first, front_to_second, front_to_third, fails, sends_third}
 use Rattle.certificate.specs.Lines.{numbers_text}
 use Rattle.certificate.proofs.writer.write_line.Goals as goal
 
@@ -20,7 +20,7 @@ returns-in_err-write_integer-clause-sent g c =
     let h : WritesPrefix (g.S.Sink.sent c.write_bytes.new.sink) (g.S.Sink.sent c.write_integer.new.sink)
     (signed_decimal (pos x)) = search rules in
     fails _ _ _ _ _ (search rules)
-    (three_2 _ _ _ (codes "{:object ") (signed_decimal (pos x)) _ c.in_ok-write_bytes.ensures.sent.0.0 h)
+    (front_to_second _ _ _ (codes "{:object ") (signed_decimal (pos x)) _ c.in_ok-write_bytes.ensures.sent.0.0 h)
     c.in_err-write_integer.ensures.sent.1.1
 
 pub returns-in_err-write_bytes-2-clause-sent : goal.returns-in_err-write_bytes-2-clause-sent
@@ -30,7 +30,7 @@ returns-in_err-write_bytes-2-clause-sent g c =
     let n : Appends (g.S.Sink.sent c.write_bytes.new.sink) (g.S.Sink.sent c.write_integer.new.sink)
     (signed_decimal (pos x)) = search rules in
     fails _ _ _ _ _ (search rules)
-    (three_3 _ _ _ _ (codes "{:object ") (signed_decimal (pos x)) _ c.in_ok-write_bytes.ensures.sent.0.0 n
+    (front_to_third _ _ _ _ (codes "{:object ") (signed_decimal (pos x)) _ c.in_ok-write_bytes.ensures.sent.0.0 n
     (front_of_first _ _ (codes ", :order [") _ h.1.0)) h.1.1
 
 pub returns-in_err-write_numbers-clause-sent : goal.returns-in_err-write_numbers-clause-sent
@@ -41,9 +41,10 @@ returns-in_err-write_numbers-clause-sent g c =
     (signed_decimal (pos x)) = search rules in
     let h : WritesPrefix (g.S.Sink.sent c.write_bytes-2.new.sink) (g.S.Sink.sent c.write_numbers.new.sink)
     (numbers_text true zs) = search rules in
-    let order = three_2 _ _ _ (codes ", :order [") (numbers_text true zs) _ c.in_ok-write_bytes-2.ensures.sent.0.0 h in
+    let order = front_to_second _ _ _ (codes ", :order [") (numbers_text true zs) _
+    c.in_ok-write_bytes-2.ensures.sent.0.0 h in
     fails _ _ _ _ _ (search rules)
-    (three_3 _ _ _ _ (codes "{:object ") (signed_decimal (pos x)) _ c.in_ok-write_bytes.ensures.sent.0.0 n order)
+    (front_to_third _ _ _ _ (codes "{:object ") (signed_decimal (pos x)) _ c.in_ok-write_bytes.ensures.sent.0.0 n order)
     c.in_err-write_numbers.ensures.sent.1.1
 
 pub returns-clause-sent : goal.returns-clause-sent

@@ -6,7 +6,8 @@ use Rattle.clients.proofs.meeting.meet_and_retire.Goals as goal
 
 pub returns-clause-kept : goal.returns-clause-kept
 returns-clause-kept c =
-    let own = c.meet_on_all-own.result.0.knows in let other = c.meet_on_all-own.result.1.knows in
+    let own = c.meet_on_all-own.result.0.knows in
+    let other = c.meet_on_all-own.result.1.knows in
     let knows : c.tell.new.client.knows ≡ after_notice (end_notice other ∷ []) own = ap (λ k. k.knows) c.tell.ensures
     ∙ ap (λ r. after_notice r.left own) c.retire.ensures in
     subst (Keeps c.args.own.knows) (sym knows)
@@ -15,7 +16,8 @@ returns-clause-kept c =
 
 pub returns-clause-met : goal.returns-clause-met
 returns-clause-met c w n desk worked =
-    let own = c.meet_on_all-own.result.0.knows in let other = c.meet_on_all-own.result.1.knows in
+    let own = c.meet_on_all-own.result.0.knows in
+    let other = c.meet_on_all-own.result.1.knows in
     let knows : c.tell.new.client.knows ≡ after_notice (end_notice other ∷ []) own = ap (λ k. k.knows) c.tell.ensures
     ∙ ap (λ r. after_notice r.left own) c.retire.ensures in
     subst (λ z. HasMetClient w z n) (sym knows)

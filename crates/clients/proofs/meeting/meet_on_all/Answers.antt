@@ -4,7 +4,10 @@ use Rattle.clients.proofs.meeting.meet_on_all.Goals as goal
 
 pub loop-object-preserved : goal.loop-object-preserved
 loop-object-preserved c =
-    let l = c.loop-object in let m = c.meet.ensures.met in let own = c.meet.result.0 in let other = c.meet.result.1 in
+    let l = c.loop-object in
+    let m = c.meet.ensures.met in
+    let own = c.meet.result.0 in
+    let other = c.meet.result.1 in
     record {
       desks = (c.meet.ensures.desk.0 ∙ l.invariant.desks.0, c.meet.ensures.desk.1 ∙ l.invariant.desks.1);
       own = keeps_on c.args.own.knows l.own.knows own.knows l.invariant.own

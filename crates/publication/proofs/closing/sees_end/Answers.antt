@@ -11,7 +11,10 @@ use Rattle.publication.proofs.closing.sees_end.Goals as goal
 
 pub load-requires : goal.load-requires
 load-requires g c =
-    let d = c.desk.invariant.0 in let wide = d.0 in let few = d.6 in let low = c.requires.client in
+    let desk = c.desk.invariant.0 in
+    let wide = desk.0 in
+    let few = desk.6 in
+    let low = c.requires.client in
     let count = ap (λ s. s.clients) c.desk.view_is in (
       ap (λ k. k.desk.table) c.last.view_is
           ∙ (ap (λ s. s.table) c.requires.desk ∙ sym (ap (λ s. s.id.table) c.desk.view_is)),

@@ -14,8 +14,12 @@ take_journals-requires-clause-present g c lfts within =
 
 pub take_journals-requires-2-clause-slots : goal.take_journals-requires-2-clause-slots
 take_journals-requires-2-clause-slots g c lfts within =
-    let t = c.drop_slots.ensures.0 in let low = c.requires.slots.1 in
-    ((t.0, (λ k l h. t.1 k (omega arith) h), λ k h. t.2 k (omega arith)), omega arith, c.requires.slots.2)
+    let dropped = c.drop_slots.ensures.0 in
+    let low = c.requires.slots.1 in (
+      (dropped.0, (λ k l h. dropped.1 k (omega arith) h), λ k h. dropped.2 k (omega arith)),
+      omega arith,
+      c.requires.slots.2,
+    )
 
 pub take_journals-requires-2-clause-present : goal.take_journals-requires-2-clause-present
 take_journals-requires-2-clause-present g c lfts within =

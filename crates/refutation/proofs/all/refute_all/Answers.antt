@@ -7,7 +7,7 @@ use Rattle.events.specs.Events.{kind_of_object, denoted}
 use Rattle.events.specs.Operations.{ObjectCalls}
 use Rattle.refutation.specs.declared.refuting.ReasonAnswer.{ReasonAnswer}
 use Rattle.refutation.specs.Refutations.{IsReasonAnswer}
-use Rattle.refutation.proofs.Objects.{none_among, one_more, refutes, answer_is, refuted_among, zip_more}
+use Rattle.refutation.proofs.Objects.{none_among, answer_added, refutes, answer_is, refuted_among, zip_more}
 use Rattle.refutation.proofs.all.refute_all.Goals as goal
 
 pub loop-reason-init : goal.loop-reason-init
@@ -33,7 +33,7 @@ loop-reason-preserved c =
           (zip_more (IsReasonAnswer es) c.args.reasons.now c.loop-reason.answers.items c.loop-reason.reason-index
           reason r
           c.loop-reason-test.true c.reason-item.is c.loop-reason.invariant.each answer);
-      refutations = one_more (IsLinearizable (kind_of_object es) (events (denoted es)) → ⊥) _ _ _
+      refutations = answer_added (IsLinearizable (kind_of_object es) (events (denoted es)) → ⊥) _ _ _
           c.in_ok-push.ensures.items
           (λ p. none_among es objects c.in_ok-objects.ensures.kinds c.in_ok-objects.ensures.calls
           c.linearizable_has_orders.ensures

@@ -1,6 +1,6 @@
-use Rattle.std.proofs.Common.{ℕ, ap, sym, subst, ◌∙◌}
+use Rattle.std.proofs.Common.{ℕ, ap, ◌∙◌}
 use Rattle.events.specs.Operations.{calls_of}
-use Rattle.search.specs.Answers.{IsSearchAnswer, search_for}
+use Rattle.search.specs.Answers.{search_for}
 use Rattle.search.proofs.Answering.{answer_from}
 use Rattle.search.proofs.object.search_by.Goals as goal
 

@@ -1,7 +1,6 @@
 -- `find_order_of_any_size`: the outcome is true of the history's calls. Where none returned the empty order is
 -- valid (`nothing_valid`). Else the search says it, which never answers that they are too many.
-use Rattle.std.proofs.Common.{List, length, count_by, ap, sym, ◌∙◌, subst, arith}
-use Rattle.model.specs.Orders.{IsValidOrder}
+use Rattle.std.proofs.Common.{List, length, count_by, ap, sym, ◌∙◌, arith}
 use Rattle.events.specs.declared.operations.Invocation.{Invocation}
 use Rattle.events.specs.Operations.{calls_of}
 use Rattle.search.proofs.Calls.{returns, some_returned, none_returned}

@@ -29,5 +29,5 @@ loop-at-preserved g c =
           (world_of c.turn.new.self) c.loop-at.invariant.ran one);
       like = like_both _ _ _ like c.in-Ok.ensures.like;
       run = c.in-Ok.ensures.run;
-      few = let a = c.loop-at.invariant.few in let b = c.in-Ok.ensures.few in omega arith;
+      few = omega (arith, c.loop-at.invariant.few, c.in-Ok.ensures.few);
     }

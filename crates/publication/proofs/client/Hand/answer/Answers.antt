@@ -17,42 +17,56 @@ serve-answer-requires-after_bounds g c =
 
 pub store-requires : goal.store-requires
 store-requires g c =
-    let h = c.self.invariant.0 in let low = h.row_low in let wide = c.desk.invariant.0.0 in
-    let e = c.serve-answer.ensures in
-    let r = answer_ready _ _ _ _ _ _ _ _ c.serve-answer.new.core h c.exchange.ensures.3 e.log e.content in (
+    let hand = c.self.invariant.0 in
+    let low = hand.row_low in
+    let wide = c.desk.invariant.0.0 in
+    let served = c.serve-answer.ensures in
+    let ready =
+    answer_ready _ _ _ _ _ _ _ _ c.serve-answer.new.core hand c.exchange.ensures.3 served.log served.content in (
       search rules,
       omega arith,
-      answer_keeps_rule _ _ _ _ _ _ _ _ _ _ _ _ _ _ _ r.0 r.1 r.2 h.on r.3,
+      answer_keeps_rule _ _ _ _ _ _ _ _ _ _ _ _ _ _ _ ready.0 ready.1 ready.2 hand.on ready.3,
     )
 
 pub invariant_of-result : goal.invariant_of-result
-invariant_of-result g c = let h = c.self.invariant.0 in let e = c.serve-answer.ensures in
-    let r = answer_ready _ _ _ _ _ _ _ _ c.serve-answer.new.core h c.exchange.ensures.3 e.log e.content in
-    let t = c.store.ensures.2 _ _ _ _ _ _ _ r.1 r.2 in (
-      answered_ok _ _ _ _ _ _ _ _ c.serve-answer.new.core h e.state.1 e.content e.log c.exchange.ensures.3 t,
-      own_still _ _ _ _ (ap (λ m. m.0.lists) t ∙ ap (λ m. m.0.lists) c.exchange.ensures.3) c.self.invariant.1,
+invariant_of-result g c =
+    let hand = c.self.invariant.0 in
+    let served = c.serve-answer.ensures in
+    let ready =
+    answer_ready _ _ _ _ _ _ _ _ c.serve-answer.new.core hand c.exchange.ensures.3 served.log served.content in
+    let stored = c.store.ensures.2 _ _ _ _ _ _ _ ready.1 ready.2 in (
+      answered_ok _ _ _ _ _ _ _ _ c.serve-answer.new.core hand served.state.1 served.content served.log
+          c.exchange.ensures.3 stored,
+      own_still _ _ _ _ (ap (λ m. m.0.lists) stored ∙ ap (λ m. m.0.lists) c.exchange.ensures.3) c.self.invariant.1,
     )
 
 pub returns-clause-answered : goal.returns-clause-answered
-returns-clause-answered g c = let h = c.self.invariant.0 in let e = c.serve-answer.ensures in
-    let r = answer_ready _ _ _ _ _ _ _ _ c.serve-answer.new.core h c.exchange.ensures.3 e.log e.content in
+returns-clause-answered g c =
+    let hand = c.self.invariant.0 in
+    let served = c.serve-answer.ensures in
+    let ready =
+    answer_ready _ _ _ _ _ _ _ _ c.serve-answer.new.core hand c.exchange.ensures.3 served.log served.content in
     let fits = core_grows g.S.SeqObject.content g.S.SeqObject.op_in g.S.SeqObject.reply_in _ _ _ c.self.inside.core
     c.serve-answer.new.core
-    c.self.inside.request c.serve-answer.result e.state.1 h.fits e.log e.content in
+    c.self.inside.request c.serve-answer.result served.state.1 hand.fits served.log served.content in
     answer_gives _ _ _ (sym c.self.view_is) c.exchange.ensures.3
-    (c.store.ensures.2 _ _ _ _ _ _ _ r.1 r.2) e.log (_, fits.1)
+    (c.store.ensures.2 _ _ _ _ _ _ _ ready.1 ready.2) served.log (_, fits.1)
 
 pub returns-clause-desk : goal.returns-clause-desk
-returns-clause-desk g c = let h = c.self.invariant.0 in let e = c.serve-answer.ensures in
-    let r = answer_ready _ _ _ _ _ _ _ _ c.serve-answer.new.core h c.exchange.ensures.3 e.log e.content in
+returns-clause-desk g c =
+    let hand = c.self.invariant.0 in
+    let served = c.serve-answer.ensures in
+    let ready =
+    answer_ready _ _ _ _ _ _ _ _ c.serve-answer.new.core hand c.exchange.ensures.3 served.log served.content in
     same_desk (c.store.ensures.0 ∙ c.exchange.ensures.0) refl
-    (ap (λ m. m.0.kinds) (c.store.ensures.2 _ _ _ _ _ _ _ r.1 r.2) ∙ ap (λ m. m.0.kinds) c.exchange.ensures.3) refl
-    (ap (λ k. k.desk) c.self.view_is)
+    (ap (λ m. m.0.kinds) (c.store.ensures.2 _ _ _ _ _ _ _ ready.1 ready.2) ∙ ap (λ m. m.0.kinds) c.exchange.ensures.3)
+    refl (ap (λ k. k.desk) c.self.view_is)
 
 pub returns-clause-room : goal.returns-clause-room
-returns-clause-room g c = let e = c.serve-answer.ensures in
+returns-clause-room g c = let served = c.serve-answer.ensures in
     subst (λ (h : Handling). 0 < h.state.room
     → (vec_capacity c.serve-answer.new.core.log - vec_len c.serve-answer.new.core.log)
     + length (logged h.row h.request (answer_in g.S.SeqObject.reply_in c.serve-answer.result)) ≡ h.state.room)
     c.self.view_is
-    (room_taken g.S.SeqObject.op_in g.S.SeqObject.reply_in c.self.inside.core c.serve-answer.new.core _ e.log e.room)
+    (room_taken g.S.SeqObject.op_in g.S.SeqObject.reply_in c.self.inside.core c.serve-answer.new.core _ served.log
+    served.room)

@@ -8,18 +8,23 @@ use Rattle.publication.proofs.CallClauses.{is_put_back}
 use Rattle.publication.proofs.client.Hand.put_back.Goals as goal
 
 pub store-requires : goal.store-requires
-store-requires g c = let h = c.self.invariant.0 in let low = h.row_low in let wide = c.desk.invariant.0.0 in
-    let r = back_ready _ _ _ _ _ _ _ _ h c.exchange.ensures.3 in (
+store-requires g c =
+    let hand = c.self.invariant.0 in
+    let low = hand.row_low in
+    let wide = c.desk.invariant.0.0 in
+    let ready = back_ready _ _ _ _ _ _ _ _ hand c.exchange.ensures.3 in (
       search rules,
       omega arith,
-      put_back_keeps_rule _ _ _ _ _ _ _ _ _ _ _ _ _ _ c.self.inside.request _ r.0 r.1 r.2 refl h.on refl,
+      put_back_keeps_rule _ _ _ _ _ _ _ _ _ _ _ _ _ _ c.self.inside.request _ ready.0 ready.1 ready.2 refl hand.on refl,
     )
 
 pub invariant_of-result : goal.invariant_of-result
-invariant_of-result g c = let h = c.self.invariant.0 in
-    let r = back_ready _ _ _ _ _ _ _ _ h c.exchange.ensures.3 in let t = c.store.ensures.2 _ _ _ _ r.1 in (
-      back_ok _ _ _ _ _ _ _ _ h c.exchange.ensures.3 t,
-      own_still _ _ _ _ (ap (λ m. m.0.lists) t ∙ ap (λ m. m.0.lists) c.exchange.ensures.3) c.self.invariant.1,
+invariant_of-result g c =
+    let hand = c.self.invariant.0 in
+    let ready = back_ready _ _ _ _ _ _ _ _ hand c.exchange.ensures.3 in
+    let stored = c.store.ensures.2 _ _ _ _ ready.1 in (
+      back_ok _ _ _ _ _ _ _ _ hand c.exchange.ensures.3 stored,
+      own_still _ _ _ _ (ap (λ m. m.0.lists) stored ∙ ap (λ m. m.0.lists) c.exchange.ensures.3) c.self.invariant.1,
     )
 
 pub returns-clause-put_back : goal.returns-clause-put_back

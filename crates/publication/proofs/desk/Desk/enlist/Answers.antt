@@ -8,29 +8,39 @@ use Rattle.publication.proofs.desk.Desk.enlist.Goals as goal
 
 pub enlist-requires : goal.enlist-requires
 enlist-requires g c =
-    let few = c.self.invariant.0.5 in let low : c.args.object < length c.self.inside.kinds.items = search rules in
+    let few = c.self.invariant.0.5 in
+    let low : c.args.object < length c.self.inside.kinds.items = search rules in
     omega arith
 
 pub invariant_of-client : goal.invariant_of-client
-invariant_of-client g c = let k = c.client.invariant in
+invariant_of-client g c = let client = c.client.invariant in
     subst (λ z. IsClient g.S.SeqObject.op_in g.S.SeqObject.reply_in c.client.inside.number z.calls z.quota
     z.outstanding z.journal c.client.inside.seat.me
     × ArePlacesOf c.client.inside.number c.client.inside.seat.me.0.lists z.places) (sym c.enlist.ensures)
-    (k.0, still_own _ c.args.object c.enlist.result _ _ k.1)
+    (client.0, still_own _ c.args.object c.enlist.result _ _ client.1)
 
 pub returns-clause-tried : goal.returns-clause-tried
-returns-clause-tried g c = let m = c.client.inside in let e = c.enlist.ensures in
-    let lists = ap (λ z. map (λ (p : PlaceSeen). p.roster) z.places) e
-    ∙ same_rosters c.args.object c.enlist.result m.member.places in
+returns-clause-tried g c =
+    let inside = c.client.inside in
+    let tried = c.enlist.ensures in
+    let lists = ap (λ z. map (λ (p : PlaceSeen). p.roster) z.places) tried
+    ∙ same_rosters c.args.object c.enlist.result inside.member.places in
     (λ i. record {
-      desk = record { table = m.seat.table_id; quota = (e i).quota; kinds = m.seat.me.0.kinds; lists = lists i };
-      knows = m.seat.me.0;
-      places = (e i).places;
+      desk = record {
+        table = inside.seat.table_id;
+        quota = (tried i).quota;
+        kinds = inside.seat.me.0.kinds;
+        lists = lists i;
+      };
+      knows = inside.seat.me.0;
+      places = (tried i).places;
     }) ∙ ap (λ (k : Known). record k { places = trying c.args.object c.enlist.result k.places }) c.client.view_is
 
 pub returns-clause-own : goal.returns-clause-own
 returns-clause-own g c =
-    let few = c.self.invariant.0.5 in let low : c.args.object < length c.self.inside.kinds.items = search rules in
-    let k = c.client.invariant in
-    let p = own_place _ c.args.object _ _ (omega arith) k.1 in
-    subst (λ (z : Known). HasPlaceAt z c.args.object) c.client.view_is (p.0, p.1, p.2 ∙ sym k.0.agrees.number_is, p.3)
+    let few = c.self.invariant.0.5 in
+    let low : c.args.object < length c.self.inside.kinds.items = search rules in
+    let client = c.client.invariant in
+    let place = own_place _ c.args.object _ _ (omega arith) client.1 in
+    subst (λ (z : Known). HasPlaceAt z c.args.object) c.client.view_is
+    (place.0, place.1, place.2 ∙ sym client.0.agrees.number_is, place.3)

@@ -26,13 +26,16 @@ join_seat-requires g c =
 
 pub load-requires : goal.load-requires
 load-requires g c =
-    let d = c.self.invariant.0 in let wide = d.0 in let few = d.5 in
+    let desk = c.self.invariant.0 in
+    let wide = desk.0 in
+    let few = desk.5 in
     let low : c.args.object < length c.self.inside.kinds.items = search rules in
-    let e = c.join_seat.ensures.2 in let k = c.one.invariant.0.agrees in (
+    let joined = c.join_seat.ensures.2 in
+    let agrees = c.one.invariant.0.agrees in (
       search rules,
       omega arith,
-      learn_keeps_rule _ _ _ _ _ _ _ _ _ _ (ap (λ z. z.0.role) e ∙ k.client_is) (omega arith)
-          (subst (λ (v : DeskView). IsAtRest v.own) (sym (ap (λ z. z.0) e)) k.at_rest),
+      learn_keeps_rule _ _ _ _ _ _ _ _ _ _ (ap (λ z. z.0.role) joined ∙ agrees.client_is) (omega arith)
+          (subst (λ (v : DeskView). IsAtRest v.own) (sym (ap (λ z. z.0) joined)) agrees.at_rest),
     )
 
 pub split_seat-message-requires-2 : goal.split_seat-message-requires-2
@@ -51,91 +54,107 @@ join_seat-requires-2 g c =
 
 pub load-requires-2 : goal.load-requires-2
 load-requires-2 g c =
-    let d = c.self.invariant.0 in let wide = d.0 in let few = d.5 in
-    let low : c.args.object < length c.self.inside.kinds.items =
-    search rules in let low' : c.args.object < 16 = omega arith in
-    let t = c.load.ensures.2 in let k = c.other.invariant.0.agrees in
+    let desk = c.self.invariant.0 in
+    let wide = desk.0 in
+    let few = desk.5 in
+    let low : c.args.object < length c.self.inside.kinds.items = search rules in
+    let low' : c.args.object < 16 = omega arith in
+    let learnt = c.load.ensures.2 in
+    let agrees = c.other.invariant.0.agrees in
     let received = ap (λ z. z.0) c.join_seat.ensures.2
     ∙ ap (λ z. after_message c.one.inside.seat.me.0 z.0) c.split_seat-message.ensures.4 in
     let back = ap (λ z. z.0) c.join_seat-2.ensures.2
     ∙ ((λ i. after_message (c.split_seat-message.ensures.2 i).0 (c.split_seat-message-2.ensures.4 i).0)) in
-    let is = told_back c.args.object c.one.inside.seat.me.0 c.other.inside.seat.me.0 _ _ _ t.0 low' received
-    (ap (λ z. z.0) t.1) t.5 back in (
+    let is = told_back c.args.object c.one.inside.seat.me.0 c.other.inside.seat.me.0 _ _ _ learnt.0 low' received
+    (ap (λ z. z.0) learnt.1) learnt.5 back in (
       search rules,
       omega arith,
-      adopt_keeps_rule _ _ _ _ _ _ _ _ _ _ (ap (λ z. z.role) back ∙ k.client_is) low'
+      adopt_keeps_rule _ _ _ _ _ _ _ _ _ _ (ap (λ z. z.role) back ∙ agrees.client_is) low'
           (subst (λ l. StartsWith l (seen_of c.join_seat-2.new.seat.me.0 c.args.object)) (sym is)
           (begins_there c.args.object c.one.inside.seat.me.0 c.other.inside.seat.me.0 _
-          c.join_seat-2.new.seat.me.0 t.0 received (ap (λ z. z.seen) back) t.4))
-          (subst (λ (v : DeskView). IsAtRest v.own) (sym back) k.at_rest),
+          c.join_seat-2.new.seat.me.0 learnt.0 received (ap (λ z. z.seen) back) learnt.4))
+          (subst (λ (v : DeskView). IsAtRest v.own) (sym back) agrees.at_rest),
     )
 
 pub invariant_of-result : goal.invariant_of-result
 invariant_of-result g c =
-    let d = c.self.invariant.0 in let few = d.5 in
+    let desk = c.self.invariant.0 in
+    let few = desk.5 in
     let low : c.args.object < length c.self.inside.kinds.items = search rules in
     let low' : c.args.object < 16 = omega arith in
-    let x : ℕ = c.args.object in let t = c.load.ensures.2 in
+    let object : ℕ = c.args.object in
+    let learnt = c.load.ensures.2 in
     let first = c.split_seat-message-2.ensures.2
-    ∙ (t.1 ∙ ap (λ z. (after_meet x t.0 z.0, z.1)) c.join_seat.ensures.2) in (
-      met_ok g.S.SeqObject.op_in g.S.SeqObject.reply_in _ _ _ _ _ x t.0 c.split_seat-message.result.me.0.seen
+    ∙ (learnt.1 ∙ ap (λ z. (after_meet object learnt.0 z.0, z.1)) c.join_seat.ensures.2) in (
+      met_ok g.S.SeqObject.op_in g.S.SeqObject.reply_in _ _ _ _ _ object learnt.0 c.split_seat-message.result.me.0.seen
           c.one.inside.seat.me _ c.one.invariant.0 low'
-          (subst (λ (v : DeskView). IsLegalLog (kind_at v.kinds x) t.0) (ap (λ z. z.0) c.join_seat.ensures.2) t.2)
-          (subst (λ (v : DeskView). IsAccount x v t.0) (ap (λ z. z.0) c.join_seat.ensures.2) t.6) first,
+          (subst (λ (v : DeskView). IsLegalLog (kind_at v.kinds object) learnt.0) (ap (λ z. z.0) c.join_seat.ensures.2)
+          learnt.2)
+          (subst (λ (v : DeskView). IsAccount object v learnt.0) (ap (λ z. z.0) c.join_seat.ensures.2) learnt.6) first,
       own_still _ _ _ _ (ap (λ m. m.0.lists) first) c.one.invariant.1,
     )
 
 pub invariant_of-result-2 : goal.invariant_of-result-2
 invariant_of-result-2 g c =
-    let d = c.self.invariant.0 in let few = d.5 in
+    let desk = c.self.invariant.0 in
+    let few = desk.5 in
     let low : c.args.object < length c.self.inside.kinds.items = search rules in
     let low' : c.args.object < 16 = omega arith in
-    let x : ℕ = c.args.object in let t = c.load.ensures.2 in
+    let object : ℕ = c.args.object in
+    let learnt = c.load.ensures.2 in
     let received = ap (λ z. z.0) c.join_seat.ensures.2
     ∙ ap (λ z. after_message c.one.inside.seat.me.0 z.0) c.split_seat-message.ensures.4 in
     let back = ap (λ z. z.0) c.join_seat-2.ensures.2
     ∙ ((λ i. after_message (c.split_seat-message.ensures.2 i).0 (c.split_seat-message-2.ensures.4 i).0)) in
-    let is = told_back x c.one.inside.seat.me.0 c.other.inside.seat.me.0 _ _ _ t.0 low' received
-    (ap (λ z. z.0) t.1) t.5 back in
+    let is = told_back object c.one.inside.seat.me.0 c.other.inside.seat.me.0 _ _ _ learnt.0 low' received
+    (ap (λ z. z.0) learnt.1) learnt.5 back in
     let whole = c.join_seat-2.ensures.2
     ∙ ap (λ z. (after_message z.0 c.split_seat-message-2.result.me.0, z.1)) c.split_seat-message.ensures.2 in
-    let u = c.load-2.ensures.2 in let second = u.0 ∙ (λ i. (after_meet x (is i) (whole i).0, (whole i).1)) in (
-      met_ok g.S.SeqObject.op_in g.S.SeqObject.reply_in _ _ _ _ _ x t.0 c.split_seat-message-2.result.me.0.seen
+    let adopted = c.load-2.ensures.2 in
+    let second = adopted.0 ∙ (λ i. (after_meet object (is i) (whole i).0, (whole i).1)) in (
+      met_ok g.S.SeqObject.op_in g.S.SeqObject.reply_in _ _ _ _ _ object learnt.0
+          c.split_seat-message-2.result.me.0.seen
           c.other.inside.seat.me _ c.other.invariant.0 low'
-          (subst (λ l. IsLegalLog (kind_at c.other.inside.seat.me.0.kinds x) l)
-          is (subst (λ (v : DeskView). IsLegalLog (kind_at v.kinds x) (received_of c.join_seat-2.new.seat.me.0 x))
-          (ap (λ z. z.0) whole) u.1))
-          (subst (λ l. IsAccount x (after_message c.other.inside.seat.me.0 c.split_seat-message-2.result.me.0) l)
-          is (subst (λ (v : DeskView). IsAccount x v (received_of c.join_seat-2.new.seat.me.0 x))
-          (ap (λ z. z.0) whole) u.2)) second,
+          (subst (λ l. IsLegalLog (kind_at c.other.inside.seat.me.0.kinds object) l)
+          is (subst (λ (v : DeskView). IsLegalLog (kind_at v.kinds object)
+          (received_of c.join_seat-2.new.seat.me.0 object))
+          (ap (λ z. z.0) whole) adopted.1))
+          (subst (λ l. IsAccount object (after_message c.other.inside.seat.me.0 c.split_seat-message-2.result.me.0) l)
+          is (subst (λ (v : DeskView). IsAccount object v (received_of c.join_seat-2.new.seat.me.0 object))
+          (ap (λ z. z.0) whole) adopted.2)) second,
       own_still _ _ _ _ (ap (λ m. m.0.lists) second) c.other.invariant.1,
     )
 
 pub returns-clause-met : goal.returns-clause-met
 returns-clause-met g c =
-    let wide = c.one.invariant.0.agrees.wide in let wide' = c.other.invariant.0.agrees.wide in
-    let d = c.self.invariant.0 in
-    let few = d.5 in let low : c.args.object < length c.self.inside.kinds.items = search rules in
+    let wide = c.one.invariant.0.agrees.wide in
+    let wide' = c.other.invariant.0.agrees.wide in
+    let desk = c.self.invariant.0 in
+    let few = desk.5 in
+    let low : c.args.object < length c.self.inside.kinds.items = search rules in
     let low' : c.args.object < 16 = omega arith in
-    let x : ℕ = c.args.object in let t = c.load.ensures.2 in
+    let object : ℕ = c.args.object in
+    let learnt = c.load.ensures.2 in
     let first = c.split_seat-message-2.ensures.2
-    ∙ (t.1 ∙ ap (λ z. (after_meet x t.0 z.0, z.1)) c.join_seat.ensures.2) in
+    ∙ (learnt.1 ∙ ap (λ z. (after_meet object learnt.0 z.0, z.1)) c.join_seat.ensures.2) in
     let received = ap (λ z. z.0) c.join_seat.ensures.2
     ∙ ap (λ z. after_message c.one.inside.seat.me.0 z.0) c.split_seat-message.ensures.4 in
     let back = ap (λ z. z.0) c.join_seat-2.ensures.2
     ∙ ((λ i. after_message (c.split_seat-message.ensures.2 i).0 (c.split_seat-message-2.ensures.4 i).0)) in
-    let is = told_back x c.one.inside.seat.me.0 c.other.inside.seat.me.0 _ _ _ t.0 low' received
-    (ap (λ z. z.0) t.1) t.5 back in
+    let is = told_back object c.one.inside.seat.me.0 c.other.inside.seat.me.0 _ _ _ learnt.0 low' received
+    (ap (λ z. z.0) learnt.1) learnt.5 back in
     let whole = c.join_seat-2.ensures.2
     ∙ ap (λ z. (after_message z.0 c.split_seat-message-2.result.me.0, z.1)) c.split_seat-message.ensures.2 in
-    let u = c.load-2.ensures.2 in let second = u.0 ∙ (λ i. (after_meet x (is i) (whole i).0, (whole i).1)) in
-    let there = begins_there x c.one.inside.seat.me.0 c.other.inside.seat.me.0 _ c.join_seat-2.new.seat.me.0
-    t.0 received (ap (λ z. z.seen) back) t.4 in
-    met x c.args.one c.args.other _ _ _ _ c.one.inside.seat.me.0 c.other.inside.seat.me.0 _ _ t.0
+    let adopted = c.load-2.ensures.2 in
+    let second = adopted.0 ∙ (λ i. (after_meet object (is i) (whole i).0, (whole i).1)) in
+    let there = begins_there object c.one.inside.seat.me.0 c.other.inside.seat.me.0 _ c.join_seat-2.new.seat.me.0
+    learnt.0 received (ap (λ z. z.seen) back) learnt.4 in
+    met object c.args.one c.args.other _ _ _ _ c.one.inside.seat.me.0 c.other.inside.seat.me.0 _ _ learnt.0
     c.split_seat-message.result.me.0.seen c.split_seat-message-2.result.me.0.seen
     (sym (ap (λ k. k.desk.kinds) c.one.view_is)) (sym (ap (λ k. k.knows) c.one.view_is))
     (sym (ap (λ k. k.knows) c.other.view_is))
     (ap (λ z. z.0) first) (ap (λ z. z.0) second) (omega arith) (omega arith)
-    (subst (λ (v : DeskView). IsLegalLog (kind_at v.kinds x) t.0) (ap (λ z. z.0) c.join_seat.ensures.2) t.2)
-    (subst (λ (v : DeskView). StartsWith t.0 (seen_of v x)) (ap (λ z. z.0) c.join_seat.ensures.2) t.3)
-    (subst (λ (v : DeskView). StartsWith t.0 (seen_of v x)) (ap (λ z. z.0) whole) there)
+    (subst (λ (v : DeskView). IsLegalLog (kind_at v.kinds object) learnt.0) (ap (λ z. z.0) c.join_seat.ensures.2)
+    learnt.2)
+    (subst (λ (v : DeskView). StartsWith learnt.0 (seen_of v object)) (ap (λ z. z.0) c.join_seat.ensures.2) learnt.3)
+    (subst (λ (v : DeskView). StartsWith learnt.0 (seen_of v object)) (ap (λ z. z.0) whole) there)

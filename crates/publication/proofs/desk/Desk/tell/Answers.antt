@@ -5,13 +5,15 @@ use Rattle.publication.specs.Handles.{IsClient}
 use Rattle.publication.proofs.desk.Desk.tell.Goals as goal
 
 pub join_seat-requires : goal.join_seat-requires
-join_seat-requires g c = let wide = c.self.invariant.0.0 in let table = sym (ap (λ s. s.id.table) c.self.view_is) in (
-  ap (λ k. k.desk.table) c.client.view_is ∙ (ap (λ s. s.table) c.requires.client ∙ table),
-  ap (λ r. r.table) c.retired.view_is ∙ (c.requires.retired ∙ table),
-  c.retired.invariant,
-  omega arith,
-  notice_keeps_rule _ _ _ _ _ _ _ _ _ _,
-)
+join_seat-requires g c =
+    let wide = c.self.invariant.0.0 in
+    let table = sym (ap (λ s. s.id.table) c.self.view_is) in (
+      ap (λ k. k.desk.table) c.client.view_is ∙ (ap (λ s. s.table) c.requires.client ∙ table),
+      ap (λ r. r.table) c.retired.view_is ∙ (c.requires.retired ∙ table),
+      c.retired.invariant,
+      omega arith,
+      notice_keeps_rule _ _ _ _ _ _ _ _ _ _,
+    )
 
 pub invariant_of-client : goal.invariant_of-client
 invariant_of-client g c = let k = c.client.invariant.0 in (

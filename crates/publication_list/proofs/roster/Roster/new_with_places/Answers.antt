@@ -8,9 +8,12 @@ use Rattle.publication_list.proofs.roster.Roster.new_with_places.Goals as goal
 
 pub loop-place-init : goal.loop-place-init
 loop-place-init c =
-    let e = c.in_ok-roster.ensures in let k = e.places in let n = c.len.ensures in let m = long c.args.owners.now in
-    let count =
-    k.0 in let same : length c.in_ok-roster.places.items ≡ length c.args.owners.now.items = omega arith in
+    let e = c.in_ok-roster.ensures in
+    let k = e.places in
+    let n = c.len.ensures in
+    let m = long c.args.owners.now in
+    let count = k.0 in
+    let same : length c.in_ok-roster.places.items ≡ length c.args.owners.now.items = omega arith in
     let id = sym (ap (λ r. r.id) c.in_ok-shared.ensures.ok) in (
       subst (λ z. AreRowPlaces z (length c.in_ok-roster.places.items) c.in_ok-roster.places.items) id
           (subst (λ z. AreRowPlaces c.in_ok-roster.roster.id z c.in_ok-roster.places.items) (sym count) k),
@@ -20,20 +23,27 @@ loop-place-init c =
 
 pub index_mut-requires : goal.index_mut-requires
 index_mut-requires c =
-    let i = c.loop-place.invariant in let p = popped _ _ _ _ _ i.0 c.in-Some.ensures.items in let n = p.2 in let at =
-    c.len-in-Some.ensures in let a = long c.pop.new.self in let b = long c.loop-place.owners in let few = i.1 in
-    let same = i.2.0 in omega arith
+    let i = c.loop-place.invariant in
+    let p = popped _ _ _ _ _ i.0 c.in-Some.ensures.items in
+    omega (arith, p.2, c.len-in-Some.ensures, long c.pop.new.self, long c.loop-place.owners, i.1, i.2.0)
 
 pub push_reserved-requires : goal.push_reserved-requires
 push_reserved-requires c =
-    let i = c.loop-place.invariant in let p = popped _ _ _ _ _ i.0 c.in-Some.ensures.items in let n = p.2 in let at =
-    c.len-in-Some.ensures in let a = long c.pop.new.self in let few = i.1 in
+    let i = c.loop-place.invariant in
+    let p = popped _ _ _ _ _ i.0 c.in-Some.ensures.items in
+    let n = p.2 in
+    let at = c.len-in-Some.ensures ∙ long c.pop.new.self in
+    let few = i.1 in
     still_room _ c.len-in-Some.result _ _ _ _ c.requires.room i.2 (omega arith) (omega arith) c.index_mut.ensures.value
 
 pub loop-place-preserved : goal.loop-place-preserved
 loop-place-preserved c =
-    let i = c.loop-place.invariant in let p = popped _ _ _ _ _ i.0 c.in-Some.ensures.items in let n = p.2 in let at =
-    c.len-in-Some.ensures ∙ long c.pop.new.self in let few = i.1 in let q = c.push_reserved.ensures in (
+    let i = c.loop-place.invariant in
+    let p = popped _ _ _ _ _ i.0 c.in-Some.ensures.items in
+    let n = p.2 in
+    let at = c.len-in-Some.ensures ∙ long c.pop.new.self in
+    let few = i.1 in
+    let q = c.push_reserved.ensures in (
       p.0,
       omega arith,
       one_grown _ _ _ _ _ _ c.index_mut.result.now c.push_reserved.new.self _ i.2 n (omega arith)

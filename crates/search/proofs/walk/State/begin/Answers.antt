@@ -1,9 +1,8 @@
 -- `begin`: the search is at its start: no level, all places linked, and an empty object. No place is dead yet,
 -- because both sets of dead ones are new.
-use Rattle.std.proofs.Common.{◌≡◌, [], length, ◌∙◌, subst, arith}
+use Rattle.std.proofs.Common.{◌≡◌, [], length, ◌∙◌, arith}
 use Rattle.std.proofs.lemmas.List.{get_or_default}
 use Rattle.search.specs.Arranged.{call_at}
-use Rattle.search.specs.Links.{Linked}
 use Rattle.search.specs.Searching.{IsWindow}
 use Rattle.search.proofs.Stack.{placed}
 use Rattle.search.proofs.Generations.{none_dead}

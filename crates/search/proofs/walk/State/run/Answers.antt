@@ -35,7 +35,7 @@ pass-requires-clause-dead_at c =
           (omega (arith, w.if-item-self.true)) w.if-item-self.true
       | then-item-self-via-else-item-self+then-not-is_possible w ↦
           dead_impossible t.items.items c.index-item.result.now _ here
-          (λ h. let p = w.is_possible.ensures.1 h in let f = w.if-not-is_possible.true in absurd (cc (p, f)))
+          (λ h. absurd (cc (w.is_possible.ensures.1 h, w.if-not-is_possible.true)))
     ]
 
 pub loop-self-smaller : goal.loop-self-smaller
