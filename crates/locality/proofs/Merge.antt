@@ -40,9 +40,18 @@ pub one_number : {X : Type 0} (num : X → ℕ) (ops : List X) (a b : X) → Pai
     → In b ops → num a ≡ num b → a ≡ b
 one_number num [] a b h i j e = absurd i
 one_number num (o ∷ ops) a b h i j e = elim i [
-  | inl p ↦ elim j [ inl q ↦ p ∙ sym q | inr r ↦ let g = h.0 b r in let e' = ap num p in absurd (omega arith) ]
+  | inl p ↦ elim j [
+    | inl q ↦ p ∙ sym q
+    | inr r ↦
+        let g = h.0 b r in
+        let e' = ap num p in
+        absurd (omega arith)
+  ]
   | inr r ↦ elim j [
-    | inl q ↦ let g = h.0 a r in let e' = ap num q in absurd (omega arith)
+    | inl q ↦
+        let g = h.0 a r in
+        let e' = ap num q in
+        absurd (omega arith)
     | inr t ↦ one_number num ops a b h.1 r t e
   ]
 ]
