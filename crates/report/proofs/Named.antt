@@ -105,31 +105,36 @@ from_list xs y (inr h) = h
 
 -- ---- the objects of the invocations
 
-pub later_named : (e : Event) (es : List Event) (x : ℕ) → IsNamed es x → IsNamed (e ∷ es) x
-later_named e es x n = record {
-  event = n.event;
-  op = n.op;
-  stands = Contains-cons e es n.event n.stands;
-  on_object = n.on_object;
-  invokes = n.invokes;
+pub later_named : (event : Event) (later : List Event) (object : ℕ) → IsNamed later object
+    → IsNamed (event ∷ later) object
+later_named event later object named = record {
+  event = named.event;
+  op = named.op;
+  stands = Contains-cons event later named.event named.stands;
+  on_object = named.on_object;
+  invokes = named.invokes;
 }
 
-used_named : (e : Event) (es : List Event) (a : Action) (x k : ℕ) → e.action ≡ a
-    → k < length (map (λ (u : Use). u.object) (cons_option (use_by e.object a) (uses es)))
-    → get_or (map (λ (u : Use). u.object) (cons_option (use_by e.object a) (uses es))) k x ≡ x
-    → ((j : ℕ) → j < length (map (λ (u : Use). u.object) (uses es))
-    → get_or (map (λ (u : Use). u.object) (uses es)) j x ≡ x → IsNamed es x) → IsNamed (e ∷ es) x
-used_named e es (Invoke op) x zero is lt at more = record
-    { event = e; op = op; stands = (0, omega arith, refl); on_object = at; invokes = is }
-used_named e es (Invoke op) x (suc k) is lt at more = later_named e es x (more k (omega arith) at)
-used_named e es (Ok r) x k is lt at more = later_named e es x (more k lt at)
-used_named e es Fail x k is lt at more = later_named e es x (more k lt at)
-used_named e es Info x k is lt at more = later_named e es x (more k lt at)
+-- an object that one of the uses is of is one that some invocation names
+used_named : (event : Event) (later : List Event) (action : Action) (object place : ℕ) → event.action ≡ action
+    → place < length (map (λ (u : Use). u.object) (cons_option (use_by event.object action) (uses later)))
+    → get_or (map (λ (u : Use). u.object) (cons_option (use_by event.object action) (uses later))) place object ≡ object
+    → ((j : ℕ) → j < length (map (λ (u : Use). u.object) (uses later))
+    → get_or (map (λ (u : Use). u.object) (uses later)) j object ≡ object → IsNamed later object)
+    → IsNamed (event ∷ later) object
+used_named event later (Invoke op) object zero is lt at more = record
+    { event = event; op = op; stands = (0, omega arith, refl); on_object = at; invokes = is }
+used_named event later (Invoke op) object (suc place) is lt at more =
+    later_named event later object (more place (omega arith) at)
+used_named event later (Ok reply) object place is lt at more = later_named event later object (more place lt at)
+used_named event later Fail object place is lt at more = later_named event later object (more place lt at)
+used_named event later Info object place is lt at more = later_named event later object (more place lt at)
 
-named_from_uses : (es : List Event) (x k : ℕ) → k < length (map (λ (u : Use). u.object) (uses es))
-    → get_or (map (λ (u : Use). u.object) (uses es)) k x ≡ x → IsNamed es x
-named_from_uses [] x k lt at = absurd (omega arith)
-named_from_uses (e ∷ es) x k lt at = used_named e es e.action x k refl lt at (named_from_uses es x)
+named_from_uses : (events : List Event) (object place : ℕ) → place < length (map (λ (u : Use). u.object) (uses events))
+    → get_or (map (λ (u : Use). u.object) (uses events)) place object ≡ object → IsNamed events object
+named_from_uses [] object place lt at = absurd (omega arith)
+named_from_uses (event ∷ events) object place lt at =
+    used_named event events event.action object place refl lt at (named_from_uses events object)
 
 use_first : (x : ℕ) (a : Action) (us : List Use) (y : ℕ) → Contains (map (λ (u : Use). u.object) us) y
     → Contains (map (λ (u : Use). u.object) (cons_option (use_by x a) us)) y
