@@ -105,7 +105,10 @@ one_late calls xs i p many apart pending known = elim (late p.call.number xs) [
   | inl w ↦ w
   | inr all ↦
       let test : Call → Bool = λ e. is_open e && nat_lt e.number p.call.number in
-      let passes = all_pass test xs (λ x j. let l = all x j in let o = pending x j in grind (arith, nat_tests)) in
+      let passes = all_pass test xs (λ x j.
+          let earlier = all x j in
+          let removes = pending x j in
+          grind (arith, nat_tests)) in
       let fewer = count_among test xs calls (apart_calls xs apart) (λ x j q. known x j) in
       let ranked = p.at in
       absurd (omega arith)
@@ -235,45 +238,49 @@ keep_own calls kept i d behind e es reply rising closed k here apart time does a
 }
 
 -- in place of a pending removal one is done that was invoked no later than some such one so far
-keep_other : (calls : List Call) (kept : ℕ → Bool) (i : ℕ) (d behind : Content) (e x : Call) (es : List Call)
-    (reply : AnyReply) (p : Nth calls i)
-    → Pairs (λ a b. a.number < b.number) calls → is_open e ≡ true → kept p.call.number ≡ true → p.call.number ≤ x.number
-    → ((y : Call) → In y es → ReturnsBefore y x → ⊥) → next d p.call.op ≡ Some (behind, reply)
-    → Exchanged calls kept (i + 1) behind es → Exchanged calls kept i d (e ∷ es)
-keep_other calls kept i d behind e x es reply p rising pending k le time does m = record {
-  entries = p.call ∷ m.entries;
-  replies = (behind, reply, does, agrees p.call.returned (open_returned p.call p.pending), m.replies);
+keep_other : (calls : List Call) (kept : ℕ → Bool) (i : ℕ) (content after : Content) (removal late : Call)
+    (others : List Call)
+    (reply : AnyReply) (chosen : Nth calls i)
+    → Pairs (λ a b. a.number < b.number) calls → is_open removal ≡ true → kept chosen.call.number ≡ true
+    → chosen.call.number ≤ late.number
+    → ((y : Call) → In y others → ReturnsBefore y late → ⊥) → next content chosen.call.op ≡ Some (after, reply)
+    → Exchanged calls kept (i + 1) after others → Exchanged calls kept i content (removal ∷ others)
+keep_other calls kept i content after removal late others reply chosen rising pending keep due time does rest = record {
+  entries = chosen.call ∷ rest.entries;
+  replies = (after, reply, does, agrees chosen.call.returned (open_returned chosen.call chosen.pending), rest.replies);
   from = λ y j. elim j [
-    | inl q ↦ inr (ap (λ (z : Call). is_open z) q ∙ p.pending, ranked y q)
-    | inr l ↦ elim (m.from y l) [
+    | inl q ↦ inr (ap (λ (z : Call). is_open z) q ∙ chosen.pending, ranked y q)
+    | inr l ↦ elim (rest.from y l) [
       | inl own ↦ inl (inr own.0, own.1)
       | inr other ↦ inr (other.0, less (rank calls y.number) other.1)
     ]
   ];
   known = λ y j. elim j [
-    | inl q ↦ subst (λ (z : Call). In z calls × (kept z.number ≡ true)) (sym q) (p.known, k)
-    | inr l ↦ m.known y l
+    | inl q ↦ subst (λ (z : Call). In z calls × (kept z.number ≡ true)) (sym q) (chosen.known, keep)
+    | inr l ↦ rest.known y l
   ];
   in_time = (
-    λ y j. elim (m.from y j) [
+    λ y j. elim (rest.from y j) [
       | inl own ↦ λ rb. time y own.0 (rb.0, rb.1, later rb.0.at rb.2)
       | inr other ↦ λ rb. not_returned y rb.0 other.0 rb.1
     ],
-    m.in_time,
+    rest.in_time,
   );
   apart = (
-    λ y j. elim (m.from y j) [
+    λ y j. elim (rest.from y j) [
       | inl own ↦ λ q. false_is_not_true
           (sym own.1 ∙ ap (λ (z : Call). is_open z)
-          (sym (one_number (λ (z : Call). z.number) p.call y calls rising p.known (m.known y j).0 q)) ∙ p.pending)
-      | inr other ↦ λ q. more (rank calls y.number) (rank calls p.call.number) (ap (rank calls) q) p.at other.1
+          (sym (one_number (λ (z : Call). z.number) chosen.call y calls rising chosen.known (rest.known y j).0 q))
+          ∙ chosen.pending)
+      | inr other ↦ λ q. more (rank calls y.number) (rank calls chosen.call.number)
+          (ap (rank calls) q) chosen.at other.1
     ],
-    m.apart,
+    rest.apart,
   );
   whole = λ z j kz so. elim j [
     | inl q ↦ absurd (false_is_not_true
-        (sym (open_returned e pending) ∙ ap (λ (u : Call). is_some u.returned) (sym q) ∙ so))
-    | inr l ↦ inr (m.whole z l kz so)
+        (sym (open_returned removal pending) ∙ ap (λ (u : Call). is_some u.returned) (sym q) ∙ so))
+    | inr l ↦ inr (rest.whole z l kz so)
   ];
 }
   where
@@ -284,10 +291,10 @@ keep_other calls kept i d behind e x es reply p rising pending k le time does m 
     less : (n : ℕ) → i + 1 ≤ n → i ≤ n
     less n l = omega arith
 
-    ranked : (y : Call) → y ≡ p.call → i ≤ rank calls y.number
-    ranked y q = subst (λ (n : ℕ). i ≤ n) (sym (ap (λ (z : Call). rank calls z.number) q ∙ p.at)) (omega arith)
+    ranked : (y : Call) → y ≡ chosen.call → i ≤ rank calls y.number
+    ranked y q = subst (λ (n : ℕ). i ≤ n) (sym (ap (λ (z : Call). rank calls z.number) q ∙ chosen.at)) (omega arith)
 
-    later : (at : ℕ) → at < p.call.number → at < x.number
+    later : (at : ℕ) → at < chosen.call.number → at < late.number
     later at l = omega arith
 
     more : (a b : ℕ) → b ≡ a → b ≡ i → i + 1 ≤ a → ⊥
@@ -350,7 +357,10 @@ walk calls kind all keeps kept s (e ∷ es) i xs c d r h t =
       later_known = λ x a. t.later_known x (inr a);
       later_apart = t.later_apart.1;
       in_time = t.in_time.1;
-      owed = let u = turn keeps e c h.0 h.1 h.2 h.3 in let none_told = u.open_call none in omega arith;
+      owed =
+          let u = turn keeps e c h.0 h.1 h.2 h.3 in
+          let none_told = u.open_call none in
+          omega arith;
     }
 
     own_told : is_open e ≡ false
@@ -414,7 +424,7 @@ walk calls kind all keeps kept s (e ∷ es) i xs c d r h t =
 
         turned : IsTurn calls keeps (i + 1) (e ∷ xs) es h.0
         turned = fewer (open_returned e o) (i + 1) (e ∷ xs) long pending known apart cross (λ x y. time y x)
-            (let one_more = ap one took in omega arith)
+            (let counted = ap one took in omega arith)
 
         same_op : p.call.op ≡ e.op
         same_op = same_removal_op p.call.op e.op (open_removal p.call p.pending) (open_removal e o)
