@@ -34,8 +34,7 @@ use Rattle.model.proofs.Orders.{same_pos}
 
 -- a refusal that names the first fault
 pub refused_by : (number : ℕ) (kind : Kind) (calls : List Call) (order : List ℤ) (fault : OrderFault)
-    (answer : Result (Unit {0}) Refusal)
-    → answer ≡ Err (BadOrder number fault) → IsFirstFault kind calls order fault
+    (answer : Result (Unit {0}) Refusal) → answer ≡ Err (BadOrder number fault) → IsFirstFault kind calls order fault
     → IfErr answer (RefusesOrder number kind calls order)
 refused_by number kind calls order fault answer is first = rw is (refl, first)
 

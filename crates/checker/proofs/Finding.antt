@@ -81,8 +81,7 @@ placeholder_operation = record { number = 0; op = Enqueue (pos 0); «end» = Ret
 -- a number that no call's operation has names no call
 pub not_named : (ops : List Invocation) (entry : ℤ) (default : Invocation)
     → ((k : ℕ) (c : Call) → k < length ops → pos (get_or ops k default).number ≡ entry
-    → call_of (get_or ops k default) ≡ Some c → ⊥)
-    → call_with_number (calls_of ops) entry ≡ None
+    → call_of (get_or ops k default) ≡ Some c → ⊥) → call_with_number (calls_of ops) entry ≡ None
 not_named ops entry default h = go (call_with_number (calls_of ops) entry) refl
   where
     go : (r : Option Call) → call_with_number (calls_of ops) entry ≡ r → r ≡ None
@@ -114,8 +113,7 @@ found_by_number ops entry place default rising inside is done =
     )
 
 pub found_here : (ops : List Invocation) (entry : ℤ) (place : ℕ) (default : Invocation)
-    → AllPairs (λ a b. a.number < b.number) ops
-    → place < length ops
+    → AllPairs (λ a b. a.number < b.number) ops → place < length ops
     → int_cmp (pos (get_or ops place default).number) entry ≡ Equal → (get_or ops place default).«end» ≢ Failed
     → (c : Call) × AtHand ops entry place c
 found_here ops entry place default rising inside eq done =
@@ -124,8 +122,7 @@ found_here ops entry place default rising inside eq done =
 
 -- what failed names no call
 pub failed_here : (ops : List Invocation) (entry : ℤ) (place : ℕ) (default : Invocation)
-    → AllPairs (λ a b. a.number < b.number) ops
-    → place < length ops
+    → AllPairs (λ a b. a.number < b.number) ops → place < length ops
     → int_cmp (pos (get_or ops place default).number) entry ≡ Equal → call_of (get_or ops place default) ≡ None
     → call_with_number (calls_of ops) entry ≡ None
 failed_here ops entry place default rising inside eq none = not_named ops entry default (λ j c m n q.

@@ -50,8 +50,7 @@ module _ (kind : Kind) (calls : List Call) (order : List ℤ) (i : ℕ) where
   same_reply : (call called : Call) (content there after after' : Content) (gives says : AnyReply) → call ≡ called
       → content_at kind calls order i ≡ Some content
       → content_at kind calls order i ≡ Some there → next content call.op ≡ Some (after, gives)
-      → next there called.op ≡ Some (after', says)
-      → gives ≡ says
+      → next there called.op ≡ Some (after', says) → gives ≡ says
   same_reply call called content there after after' gives says same at at' gives_it says_it =
       let contents : content ≡ there = same_Some content there (sym at ∙ at') in
       let both : next content call.op ≡ next there called.op =

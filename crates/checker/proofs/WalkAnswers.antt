@@ -36,8 +36,7 @@ in_named calls (entry ∷ order) call i = go (call_with_number calls entry) refl
     ]
 
 named_in : (calls : List Call) (order : List ℤ) (entry : ℤ) (call : Call) → In entry order
-    → call_with_number calls entry ≡ Some call
-    → In call (named calls order)
+    → call_with_number calls entry ≡ Some call → In call (named calls order)
 named_in calls [] entry call i q = absurd i
 named_in calls (first ∷ order) entry call i q = elim i [
   | inl e ↦ rw (← e, q) (inl refl)
@@ -76,8 +75,7 @@ said e None reply q k = tt
 said e (Some r) reply q k = k r q
 
 replies_named : (calls : List Call) (content : Content) (order : List ℤ) (last : Content)
-    → Along calls content order last
-    → RepliesAlong content (named calls order)
+    → Along calls content order last → RepliesAlong content (named calls order)
 replies_named calls content [] last h = tt
 replies_named calls content (entry ∷ order) last h =
     let call : Call = h.0 in

@@ -97,8 +97,7 @@ after_step calls content after entry call found step =
 
 -- so the order leads to the content
 pub along_content : (calls : List Call) (content : Content) (order : List ℤ) (last : Content)
-    → Along calls content order last
-    → content_after calls (Some content) order ≡ Some last
+    → Along calls content order last → content_after calls (Some content) order ≡ Some last
 along_content calls content [] last h = ap Some h
 along_content calls content (entry ∷ order) last h =
     ap (λ (x : Option Content). content_after calls x order) (after_step calls content h.1 entry h.0 h.2 h.3)
@@ -106,8 +105,7 @@ along_content calls content (entry ∷ order) last h =
 
 -- an order that is right so far is right at each place: in the content there the entry is a step
 pub along_at : (calls : List Call) (content : Content) (order : List ℤ) (last : Content) (place : ℕ) (entry : ℤ)
-    (call : Call) (there : Content)
-    → Along calls content order last
+    (call : Call) (there : Content) → Along calls content order last
     → slice_get order place ≡ Some entry → call_with_number calls entry ≡ Some call
     → content_after calls (Some content) (take place order) ≡ Some there
     → (after : Content) × IsStep there call after
@@ -123,8 +121,7 @@ along_at calls content (first ∷ order) last (suc place) entry call there along
 
 -- the order goes on with an entry that is a step
 pub along_push : (calls : List Call) (content : Content) (order : List ℤ) (last : Content) (entry : ℤ) (call : Call)
-    (after : Content)
-    → Along calls content order last
+    (after : Content) → Along calls content order last
     → call_with_number calls entry ≡ Some call → IsStep last call after
     → Along calls content (order ++ entry ∷ []) after
 along_push calls content [] last entry call after along found step =
@@ -204,8 +201,7 @@ no_fault kind calls order content so_far place (Omitted n) h = h
 
 -- a fault before place i is one of the first i entries
 names_front : (calls : List Call) (order : List ℤ) (i place : ℕ) (entry : ℤ) (call : Call) → place < i
-    → HasNumberAt calls order place entry call
-    → HasNumberAt calls (take i order) place entry call
+    → HasNumberAt calls order place entry call → HasNumberAt calls (take i order) place entry call
 names_front calls order i place entry call before h =
     record { here = get_front order i place before ∙ h.here; named = h.named }
 

@@ -174,6 +174,7 @@ taken_early kind calls removal split keeps response returned =
 
 -- ---- the general case, a queue and a stack
 
+-- in general, what was ahead of the removal was taken out before it, since where it is done nothing ahead of it is left
 plain_case : (kind : Kind) (calls : List Call) (removal : Call) (split : Split kind calls removal) (response : Return)
     (found : Option ℤ) (from before : ℕ) → is_removal removal.op ≡ true → removal.returned ≡ Some response
     → response.reply ≡ Value found
@@ -191,9 +192,9 @@ plain_case kind calls removal split response found from before removes returned 
     let counted = count_tally (is_put_ahead keeps from before) calls in
     omega arith
 
+-- what was put into a queue before the value that it gave was taken out before that
 queue_case : (kind : Kind) (calls : List Call) (removal : Call) (split : Split kind calls removal) (response : Return)
-    (found : ℤ)
-    (from before : ℕ) → kind ≡ variant.Queue → removal.op ≡ Dequeue → removal.returned ≡ Some response
+    (found : ℤ) (from before : ℕ) → kind ≡ variant.Queue → removal.op ≡ Dequeue → removal.returned ≡ Some response
     → response.reply ≡ Value (Some found)
     → before ≤ removal.number → ((p : Call) → In p calls → puts_in (int_eq found) p.op ≡ true → before ≤ p.number)
     → All (λ e. (r : Return) → e.returned ≡ Some r → e.number < r.at) calls
@@ -229,9 +230,9 @@ queue_case kind calls removal split response found from before is_queue dequeue 
     turned : (a b : ℕ) → a < b → b < a → ⊥
     turned a b l m = omega arith
 
+-- what was put on a stack after the value that it gave was taken off before that
 stack_case : (kind : Kind) (calls : List Call) (removal : Call) (split : Split kind calls removal) (response : Return)
-    (found : ℤ)
-    (from before : ℕ) → kind ≡ variant.Stack → removal.op ≡ Pop → removal.returned ≡ Some response
+    (found : ℤ) (from before : ℕ) → kind ≡ variant.Stack → removal.op ≡ Pop → removal.returned ≡ Some response
     → response.reply ≡ Value (Some found)
     → before ≤ removal.number → list_all (λ e. not (puts_in (int_eq found) e.op) || ended_before from e.returned)
     calls ≡ true → All (λ e. (r : Return) → e.returned ≡ Some r → e.number < r.at) calls
@@ -295,10 +296,8 @@ Bounded kind calls removal split from op found = count_by
 
 -- a bound that holds of the operation and of the value that was found holds of the removal
 moved : (kind : Kind) (calls : List Call) (removal : Call) (split : Split kind calls removal) (from : ℕ)
-    (op own : AnyOp)
-    (found : Option ℤ) (value : ℤ) → op ≡ own → found ≡ Some value
-    → Bounded kind calls removal split from own (Some value)
-    → Bounded kind calls removal split from op found
+    (op own : AnyOp) (found : Option ℤ) (value : ℤ) → op ≡ own → found ≡ Some value
+    → Bounded kind calls removal split from own (Some value) → Bounded kind calls removal split from op found
 moved kind calls removal split from op own found value same is bounded =
     subst (λ (found : Option ℤ). Bounded kind calls removal split from op found) (sym is)
     (subst (λ (op : AnyOp). Bounded kind calls removal split from op (Some value)) (sym same) bounded)

@@ -53,8 +53,7 @@ Bounded what op c after r = there what after + one (takes what op (Some r)) ≤ 
 
 -- a replacement takes away what was there
 swapped : (value old new : ℤ) (before after : Option ℤ) (own : Bool) → after ≡ cond own (Some new) before
-    → (own ≡ true → contains_value before old ≡ true)
-    → one (contains_value after value) + one (own && int_eq old value)
+    → (own ≡ true → contains_value before old ≡ true) → one (contains_value after value) + one (own && int_eq old value)
     ≤ one (contains_value before value) + one (own && int_eq new value)
 swapped value old new None after true is has = absurd (cc (has refl))
 swapped value old new (Some had) after true is has = let there = has refl in rw is (grind (arith, ints))

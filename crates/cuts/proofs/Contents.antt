@@ -88,8 +88,7 @@ by_free keeps op false told reply part after taken skip = inl (inl refl, skip)
 
 -- a removal, which the part may leave out only if it took no kept value
 by_removal : (keeps : ℤ → Bool) (op : AnyOp) (kept told : Bool) (value : ℤ) (part after : Content) (own : Bool)
-    → keeps value ≡ own
-    → fits_removal keeps kept (shown told (Value (Some value))) ≡ true
+    → keeps value ≡ own → fits_removal keeps kept (shown told (Value (Some value))) ≡ true
     → (told ≡ false → kept ≡ false → keeps value ≡ false)
     → (own ≡ true → Takes keeps op (Value (Some value)) part after) → (own ≡ false → IsShadow keeps after part)
     → Step keeps op kept told (Value (Some value)) part after
@@ -105,8 +104,7 @@ by_removal keeps op false false value part after own is fit none take skip =
 by_change : (keeps : ℤ → Bool) (op : AnyOp) (key : ℤ) (kept told took : Bool) (part after : Content)
     → fits_change keeps kept key (shown told (Flag took)) ≡ true
     → (keeps key ≡ true → Takes keeps op (Flag took) part after) → (keeps key ≡ false → IsShadow keeps after part)
-    → (took ≡ false → IsShadow keeps after part)
-    → Step keeps op kept told (Flag took) part after
+    → (took ≡ false → IsShadow keeps after part) → Step keeps op kept told (Flag took) part after
 by_change keeps op key kept false took part after fit take skip same =
     by_same keeps op kept false (Flag took) part after (keeps key) fit take skip
 by_change keeps op key kept true true part after fit take skip same =
@@ -249,8 +247,7 @@ same_cell : (keeps : ℤ → Bool) → ((v : ℤ) → keeps v ≡ true) → (who
 same_cell keeps every whole part shadow = grind arith
 
 same_expected : (keeps : ℤ → Bool) (old : ℤ) (whole part : Option ℤ) → contains_value whole old ≡ true
-    → keeps old ≡ true
-    → IsCellShadow keeps whole part → part ≡ whole
+    → keeps old ≡ true → IsCellShadow keeps whole part → part ≡ whole
 same_expected keeps old whole part has own shadow = grind (arith, ints)
 
 -- a value that the part leaves out says nothing about the part's content
@@ -270,8 +267,7 @@ read_step keeps (Some value) part true true shadow fit =
 
 -- a compare-and-set that swapped
 swap_step : (all : Bool) (keeps : ℤ → Bool) (whole part : Option ℤ) (old new : ℤ) (kept told : Bool)
-    → IsCellShadow keeps whole part
-    → contains_value whole old ≡ true
+    → IsCellShadow keeps whole part → contains_value whole old ≡ true
     → fits_cas all keeps kept old new (shown told (Swapped old new)) ≡ true
     → Step keeps (Cas old new) kept told (Swapped old new) (register part) (register (Some new))
 swap_step all keeps whole part old new kept told shadow has fit = go kept told (keeps old) refl fit
@@ -317,8 +313,7 @@ fail_step all keeps every whole part old new true true shadow differs fit =
 
 -- a creation in an empty register
 create_step : (all : Bool) (keeps : ℤ → Bool) (part : Option ℤ) (value : ℤ) (kept told : Bool)
-    → IsCellShadow keeps None part
-    → fits_create all keeps kept value (shown told (Flag true)) ≡ true
+    → IsCellShadow keeps None part → fits_create all keeps kept value (shown told (Flag true)) ≡ true
     → Step keeps (Create value) kept told (Flag true) (register part) (register (Some value))
 create_step all keeps part value true told shadow fit =
     inr (refl, register (Some value), ap (λ (z : Option ℤ). next (register z) (Create value)) shadow, λ e. refl)

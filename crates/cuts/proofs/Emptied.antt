@@ -117,8 +117,7 @@ emptied c op o s d u t = search rules
 pub spent : (removal : Call) (response : Return) (found : Option ℤ) (earlier later : List Call) (kind : Kind)
     → is_removal removal.op ≡ true
     → removal.returned ≡ Some response → response.reply ≡ Value found → (removal.op ≡ Dequeue → found ≡ None)
-    → (removal.op ≡ Pop → found ≡ None)
-    → RepliesAlong (empty kind) (earlier ++ removal ∷ later)
+    → (removal.op ≡ Pop → found ≡ None) → RepliesAlong (empty kind) (earlier ++ removal ∷ later)
     → tally (put_by (is_value_ahead found removal.op)) earlier ≤ tally
     (may_by (is_value_ahead found removal.op)) earlier
 spent removal response found earlier later kind removes back value dequeued popped along =

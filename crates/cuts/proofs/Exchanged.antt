@@ -239,8 +239,7 @@ keep_own calls kept i d behind e es reply rising closed k here apart time does a
 
 -- in place of a pending removal one is done that was invoked no later than some such one so far
 keep_other : (calls : List Call) (kept : ℕ → Bool) (i : ℕ) (content after : Content) (removal late : Call)
-    (others : List Call)
-    (reply : AnyReply) (chosen : Nth calls i)
+    (others : List Call) (reply : AnyReply) (chosen : Nth calls i)
     → Pairs (λ a b. a.number < b.number) calls → is_open removal ≡ true → kept chosen.call.number ≡ true
     → chosen.call.number ≤ late.number
     → ((y : Call) → In y others → ReturnsBefore y late → ⊥) → next content chosen.call.op ≡ Some (after, reply)

@@ -51,8 +51,7 @@ left cuts i d lt =
 
 -- once the next cut has named its part, that is the part so far
 pub cut_further : (cuts : List Cut) (i : ℕ) (default : Cut) (whole now next : List Call) → i < length cuts
-    → IsCutSoFar cuts i whole now
-    → Names (get_or cuts i default) now next
+    → IsCutSoFar cuts i whole now → Names (get_or cuts i default) now next
     → ((part : List Call) → Names (get_or cuts i default) now part → part ≡ next)
     → IsCutSoFar cuts (i + 1) whole next
 cut_further cuts i default whole now next inside so_far named one = record {
@@ -77,8 +76,7 @@ IsKindSoFar cuts i whole now = part_kind cuts whole ≡ part_kind (drop i cuts) 
 
 -- and the kind that it leaves is the kind so far
 pub kind_further : (cuts : List Cut) (i : ℕ) (default : Cut) (whole now next : Kind) → i < length cuts
-    → IsKindSoFar cuts i whole now
-    → next ≡ kind_cut (get_or cuts i default) now → IsKindSoFar cuts (i + 1) whole next
+    → IsKindSoFar cuts i whole now → next ≡ kind_cut (get_or cuts i default) now → IsKindSoFar cuts (i + 1) whole next
 kind_further cuts i default whole now next inside so_far is =
     so_far ∙ ap (λ (cs : List Cut). part_kind cs now) (left cuts i default inside)
     ∙ ap (part_kind (drop (i + 1) cuts)) (sym is)

@@ -184,8 +184,7 @@ chosen kind key from at first front es after on writes written begins along = go
 suffix_valid : (kind : Kind) (calls : List Call) (call : Call) (response : Return) (first : Option (AnyOp × AnyReply))
     (order : List ℤ) → Contains calls call
     → All (λ f. kind_of f.op ≡ kind) calls → call.returned ≡ Some response → leaves call.op response.reply ≡ Some first
-    → All (λ f. key_of f.op ≡ key_of call.op) calls
-    → IsValidOrder kind calls order
+    → All (λ f. key_of f.op ≡ key_of call.op) calls → IsValidOrder kind calls order
     → (part : List ℤ) × IsValidOrder kind (calls_from call.number response.at first calls) part
 suffix_valid kind calls call response first order stands kinds returned leaves_first one_key valid =
     let number : Call → ℤ = λ x. pos x.number in

@@ -158,11 +158,9 @@ popped p es q k = cond (k == p) es (q k)
 -- An invocation and its response come before a history that is one line with the queues without this operation: then
 -- all is one line.
 lined_step : (invocation response : Event) (later : List Event) (queues : ℕ → List Ended) (ended : Ended)
-    (others : List Ended)
-    → queues (process_of invocation) ≡ ended ∷ others
+    (others : List Ended) → queues (process_of invocation) ≡ ended ∷ others
     → invocation ∷ response ∷ by_process (process_of invocation) later ≡ ended_events (ended ∷ others)
-    → ended.made.process ≡ process_of invocation
-    → process_of response ≡ process_of invocation
+    → ended.made.process ≡ process_of invocation → process_of response ≡ process_of invocation
     → ((queues : ℕ → List Ended) → ((p : ℕ) → by_process p later ≡ ended_events (queues p))
     → ((p : ℕ) (ended : Ended) → In ended (queues p) → ended.made.process ≡ p) → Lined later queues)
     → ((p : ℕ) → by_process p (invocation ∷ response ∷ later) ≡ ended_events (queues p))

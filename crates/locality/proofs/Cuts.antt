@@ -128,8 +128,7 @@ length_filter_events q (m ∷ h) = let rest = length_filter_events q h in grind 
 
 -- what holds of each two of a list holds of one in its front and one in the rest
 pairs_across : (R : Numbered → Numbered → Type 0) (before after : List Numbered) (earlier later : Numbered)
-    → Pairs R (before ++ after) → In earlier before
-    → In later after → R earlier later
+    → Pairs R (before ++ after) → In earlier before → In later after → R earlier later
 pairs_across R [] after earlier later each i j = absurd i
 pairs_across R (first ∷ before) after earlier later each i j = elim i [
   | inl e ↦ rw e (each.0 later (in_right later before after j))

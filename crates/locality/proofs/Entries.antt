@@ -197,8 +197,7 @@ given_entry object content (entry ∷ entries) replies number reply given =
 -- it is the reply that is recorded
 pub give_recorded : (object : Specification) (content : object.Content) (entries : List ProcessCall)
     (replies : RepliesBy object.next content (calls entries)) (entry : ProcessCall) (response : Return) → Once entries
-    → In entry entries
-    → entry.call.returned ≡ Some response
+    → In entry entries → entry.call.returned ≡ Some response
     → give_in object content entries replies (number_of entry) ≡ Some response.reply
 give_recorded object content [] replies entry response once i back = absurd i
 give_recorded object content (head ∷ entries) replies entry response once i back = elim i [

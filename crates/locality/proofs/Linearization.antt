@@ -68,8 +68,7 @@ swap_filters p q os = filter-filter p q os
 
 -- a late response is a response
 late_responds : (call : ProcessCall) (recorded : Option Return) (given : Option AnyReply) (event : Event)
-    → In event (late call recorded given)
-    → is_invocation event ≡ false
+    → In event (late call recorded given) → is_invocation event ≡ false
 late_responds call None (Some reply) event i = elim i [ inl q ↦ ap is_invocation q | inr n ↦ absurd n ]
 late_responds call recorded given event i = absurd i
 
@@ -276,8 +275,7 @@ module _ (objects : ℕ → Specification) (h : List Numbered) (hist : IsHistory
 
   -- what has returned before the moment t stands below it in the line
   returned_below : (process : ℕ) (before : List Numbered) (event : Numbered) (after : List Numbered)
-      → h ≡ before ++ event ∷ after
-      → length (filter (responds process) (events before))
+      → h ≡ before ++ event ∷ after → length (filter (responds process) (events before))
       ≤ length (filter (responds process) (dones give (below event.number)))
   returned_below process before event after cut =
       let moment : ℕ = event.number in
@@ -318,8 +316,7 @@ module _ (objects : ℕ → Specification) (h : List Numbered) (hist : IsHistory
 
   -- and what stands below it was invoked before
   invoked_below : (process : ℕ) (before : List Numbered) (event : Numbered) (after : List Numbered)
-      → h ≡ before ++ event ∷ after
-      → length (filter (invokes process) (dones give (below event.number)))
+      → h ≡ before ++ event ∷ after → length (filter (invokes process) (dones give (below event.number)))
       ≤ length (filter (invokes process) (events before))
   invoked_below process before event after cut =
       let moment : ℕ = event.number in

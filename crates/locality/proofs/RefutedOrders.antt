@@ -51,10 +51,8 @@ step c op o made same after reply e m =
 
 -- while all others are enqueues, a dequeue has the first value
 first_out : (value : ℤ) (values : List ℤ) (calls : List Call) (take : Call) (taken : Return) → take.op ≡ Dequeue
-    → take.returned ≡ Some taken
-    → ((e : Call) → In e calls → (e ≡ take) ⊎ IsEnqueue e.op) → In take calls
-    → RepliesAlong (queue (value ∷ values)) calls
-    → taken.reply ≡ Value (Some value)
+    → take.returned ≡ Some taken → ((e : Call) → In e calls → (e ≡ take) ⊎ IsEnqueue e.op) → In take calls
+    → RepliesAlong (queue (value ∷ values)) calls → taken.reply ≡ Value (Some value)
 first_out value values [] take taken op back other among along = absurd among
 first_out value values (call ∷ calls) take taken op back other among along = elim (other call (inl refl)) [
   | inl q ↦
@@ -74,8 +72,7 @@ first_out value values (call ∷ calls) take taken op back other among along = e
 
 -- An enqueue returned before all other operations were invoked, and one of these is a dequeue: it has the value.
 first_in_first_out : (calls : List Call) (put take : Call) (value : ℤ) (taken stored : Return) (order : List ℤ)
-    → put.op ≡ Enqueue value
-    → put.returned ≡ Some stored
+    → put.op ≡ Enqueue value → put.returned ≡ Some stored
     → take.op ≡ Dequeue → take.returned ≡ Some taken → In put calls → In take calls
     → ((e : Call) → In e calls → (e ≡ put) ⊎ ReturnsBefore put e)
     → ((e : Call) → In e calls → (e ≡ take) ⊎ IsEnqueue e.op) → IsValidOrder Queue calls order
@@ -114,8 +111,7 @@ first = returned 0 (Enqueue (pos 1)) 1 (Some (pos 1))
 
 -- after it another value is enqueued, and no dequeue gives 2
 overtaken : (h : List Numbered) (put take : Call) (value : ℤ) (taken : Return) → IsHistory h
-    → calls_on 0 h ≡ first ∷ put ∷ take ∷ []
-    → put.op ≡ Enqueue value → 1 < put.number
+    → calls_on 0 h ≡ first ∷ put ∷ take ∷ [] → put.op ≡ Enqueue value → 1 < put.number
     → take.op ≡ Dequeue → 1 < take.number → take.returned ≡ Some taken → taken.reply ≡ Value (Some (pos 2))
     → ¬ IsLinearizable (λ x. Queue) (events h)
 overtaken h put take value taken hist is put_op put_later take_op take_later take_back two lin =

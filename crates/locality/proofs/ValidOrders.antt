@@ -112,8 +112,7 @@ filter_responses q (e ∷ es) r = let rest = filter_responses q es r.1 in grind 
 
 -- where each returns before the next begins and this one is back before t, so are those before it
 back_upto : (moment : ℕ) (before after : List ProcessCall) (call : ProcessCall) (response : Return)
-    → Pairs Before (before ++ call ∷ after)
-    → call.call.returned ≡ Some response
+    → Pairs Before (before ++ call ∷ after) → call.call.returned ≡ Some response
     → number_of call ≤ response.at → response.at < moment
     → suc (length before) ≤ length (filter (λ e. is_back moment e.call.returned) (before ++ call ∷ after))
 back_upto moment [] after call response in_turn back began early =

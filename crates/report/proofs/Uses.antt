@@ -101,8 +101,7 @@ one_of_another kind seen next old number other h =
 
 -- the next invocation of a list is put after those before it
 pub seen_next : (kind : Option Kind) (all : List Invoked) (i : ℕ) (default : Invoked) (new : ℕ → Bool) (count : ℕ)
-    → i < length all
-    → AreSeen new count (object_numbers kind (take i all ++ get_or all i default ∷ []))
+    → i < length all → AreSeen new count (object_numbers kind (take i all ++ get_or all i default ∷ []))
     → AreSeen new count (object_numbers kind (take (i + 1) all))
 seen_next kind all i default new count inside h =
     subst (λ xs. AreSeen new count (object_numbers kind xs)) (sym (take_more all i default inside)) h
@@ -178,8 +177,7 @@ counted k i = is_of k i && not i.failed
 
 -- the next event adds as many operations to the one count as to the other
 count_step : (kind : Option Kind) (number process object : ℕ) (action : Action) (failed : Bool) (rest : List Numbered)
-    (later : List Invoked)
-    → length (filter (counted kind) later) ≡ length (filter (is_call_of kind) (calls_in rest))
+    (later : List Invoked) → length (filter (counted kind) later) ≡ length (filter (is_call_of kind) (calls_in rest))
     → length (filter (counted kind) (invocation_by object action failed ++ later))
     ≡ length (filter (is_call_of kind) (calls_in (denoted_by number process object action failed ++ rest)))
 count_step None number process object (Invoke op) true rest later same = same

@@ -58,8 +58,7 @@ get-at_key es q h = get-from_sorted int_cmp es q (is_sorted-entries es h) ∙ fi
 
 -- after a change at k, the map has at q what the map before has, changed at k
 get-changed : (before after : Entries) (key : ℤ) (value : Option ℤ) → Ordered before → Ordered after
-    → Changes before after key value → (q : ℤ)
-    → get (from_sorted {R = int_cmp} after) q
+    → Changes before after key value → (q : ℤ) → get (from_sorted {R = int_cmp} after) q
     ≡ cond (eq_by_cmp int_cmp q key) value (get (from_sorted {R = int_cmp} before) q)
 get-changed before after key value ordered ordered' changes q =
     get-at_key after q ordered' ∙ changes q ∙ ap (λ b. cond b value (at_key q before))
@@ -103,15 +102,12 @@ next-put map before after key value reply is ordered ordered' changes old =
     ∙ sym old)
 
 pub next-get : (map : FinMap int_cmp ℤ) (entries : Entries) (key : ℤ) (reply : Option ℤ) → from_sorted entries ≡ map
-    → Ordered entries
-    → reply ≡ at_key key entries
-    → next (table map) (Get key) ≡ Some (table map, Value reply)
+    → Ordered entries → reply ≡ at_key key entries → next (table map) (Get key) ≡ Some (table map, Value reply)
 next-get map entries key reply is ordered found =
     ap (λ o. Some (table map, Value o)) (ap (λ n. get n key) (sym is) ∙ get-at_key entries key ordered ∙ sym found)
 
 pub next-del : (map : FinMap int_cmp ℤ) (before after : Entries) (key : ℤ) (reply : Option ℤ) → from_sorted before ≡ map
-    → Ordered before
-    → Ordered after → Changes before after key None → reply ≡ at_key key before
+    → Ordered before → Ordered after → Changes before after key None → reply ≡ at_key key before
     → next (table map) (Del key) ≡ Some (table (from_sorted after), Value reply)
 next-del map before after key reply is ordered ordered' changes old =
     ap (λ n. Some (table n, Value (get map key)))
@@ -120,8 +116,7 @@ next-del map before after key reply is ordered ordered' changes old =
     ∙ sym old)
 
 table_inserted : (map : FinMap int_cmp ℤ) (before after : Entries) (key value : ℤ) → from_sorted before ≡ map
-    → Ordered before
-    → Ordered after → Changes before after key (Some value)
+    → Ordered before → Ordered after → Changes before after key (Some value)
     → insert map key value ≡ from_sorted after
 table_inserted map before after key value is ordered ordered' changes = ap (λ n. insert n key value) (sym is)
     ∙ sym (from_sorted-insert before after key value ordered ordered' changes)
@@ -132,8 +127,7 @@ table_at_key map entries key is ordered = ap (λ n. get n key) (sym is) ∙ get-
 
 -- an operation that changes the table where it is so, and replies whether it is so
 pub next_if_so : (map : FinMap int_cmp ℤ) (before after : Entries) (key value : ℤ) (so flag : Bool)
-    → from_sorted before ≡ map
-    → Ordered before → Ordered after → Changes before after key (Some value)
+    → from_sorted before ≡ map → Ordered before → Ordered after → Changes before after key (Some value)
     → so ≡ flag → flag ≡ true
     → ◌≡◌ {A = Option (Content × AnyReply)} (Some (table (inserted_if so map key value), Flag so)) (Some (
       table
@@ -158,8 +152,7 @@ pub absent-at_key : (map : FinMap int_cmp ℤ) (entries : Entries) (key : ℤ) �
 absent-at_key map entries key is ordered = ap (λ o. not (is_some o)) (table_at_key map entries key is ordered)
 
 pub has-at_key : (map : FinMap int_cmp ℤ) (entries : Entries) (key value : ℤ) → from_sorted entries ≡ map
-    → Ordered entries
-    → has_value map key value ≡ contains_value (at_key key entries) value
+    → Ordered entries → has_value map key value ≡ contains_value (at_key key entries) value
 has-at_key map entries key value is ordered = ap (λ o. contains_value o value) (table_at_key map entries key is ordered)
 
 pub contains-eq : (o : Option ℤ) (a : ℤ) → contains_value o a ≡ option_eq int_eq o (Some a)
@@ -167,15 +160,13 @@ contains-eq None a = refl
 contains-eq (Some v) a = refl
 
 pub next-assoc : (map : FinMap int_cmp ℤ) (before after : Entries) (key value : ℤ) → from_sorted before ≡ map
-    → Ordered before
-    → Ordered after → Changes before after key (Some value)
+    → Ordered before → Ordered after → Changes before after key (Some value)
     → next (table map) (Assoc key value) ≡ Some (table (from_sorted after), Value None)
 next-assoc map before after key value is ordered ordered' changes = ap (λ n. Some (table n, Value None))
     (table_inserted map before after key value is ordered ordered' changes)
 
 pub next-dissoc : (map : FinMap int_cmp ℤ) (before after : Entries) (key : ℤ) → from_sorted before ≡ map
-    → Ordered before
-    → Ordered after → Changes before after key None
+    → Ordered before → Ordered after → Changes before after key None
     → next (table map) (Dissoc key) ≡ Some (table (from_sorted after), Value None)
 next-dissoc map before after key is ordered ordered' changes =
     ap (λ n. Some (table n, Value None)) (ap (λ n. remove n key) (sym is)
