@@ -177,7 +177,6 @@ give_some object content (head ∷ entries) replies entry once i = elim i [
 ]
 
 -- what is given a reply is an entry
--- what is given a reply is an entry
 pub given_entry : (object : Specification) (content : object.Content) (entries : List ProcessCall)
     (replies : RepliesBy object.next content (calls entries)) (number : ℕ) (reply : AnyReply)
     → give_in object content entries replies number ≡ Some reply
