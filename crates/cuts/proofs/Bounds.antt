@@ -93,20 +93,22 @@ set_by what e = sets what e.op (reply_of e.returned)
 abbrev taken_by : Counted → Call → Bool
 taken_by what e = takes what e.op (reply_of e.returned)
 
-turn : (what : Counted) (e : Call) (c after : Content) (r : AnyReply) → next c e.op ≡ Some (after, r)
-    → IfSome e.returned (λ t. t.reply ≡ r)
-    → there what after + one (taken_by what e) ≤ there what c + one (set_by what e)
-turn what e c after r does agrees = go e.returned agrees
+-- a call takes the content away only where it is there, or is set by the call
+turn : (what : Counted) (call : Call) (before after : Content) (given : AnyReply)
+    → next before call.op ≡ Some (after, given) → IfSome call.returned (λ t. t.reply ≡ given)
+    → there what after + one (taken_by what call) ≤ there what before + one (set_by what call)
+turn what call before after given does agrees = go call.returned agrees
   where
-    here : Bounded what e.op c after r
-    here = subst (λ z. IfSome z (λ p. Bounded what e.op c p.0 p.1)) does (bounded what c e.op)
+    here : Bounded what call.op before after given
+    here = subst (λ z. IfSome z (λ p. Bounded what call.op before p.0 p.1)) does (bounded what before call.op)
 
-    go : (o : Option Return) → IfSome o (λ t. t.reply ≡ r)
-        → there what after + one (takes what e.op (reply_of o)) ≤ there what c + one (sets what e.op (reply_of o))
+    go : (o : Option Return) → IfSome o (λ t. t.reply ≡ given)
+        → there what after + one (takes what call.op (reply_of o))
+        ≤ there what before + one (sets what call.op (reply_of o))
     go None h =
         let step = here in
-        let told = ap one (none_taken what e.op) in
-        let may = one_le (sets what e.op (Some r)) (sets what e.op None) (may_set what e.op r) in
+        let told = ap one (none_taken what call.op) in
+        let may = one_le (sets what call.op (Some given)) (sets what call.op None) (may_set what call.op given) in
         omega arith
     go (Some t) h = rw h here
 

@@ -180,71 +180,71 @@ pub record Exchanged (calls : List Call) (kept : ℕ → Bool) (i : ℕ) (d : Co
   pub whole : (x : Call) → In x es → kept x.number ≡ true → IsSome x.returned → In x entries
 
 -- the part leaves out a call
-leave : (calls : List Call) (kept : ℕ → Bool) (i : ℕ) (d : Content) (e : Call) (es : List Call)
-    → (kept e.number ≡ false)
-    ⊎ (is_some e.returned ≡ false) → Exchanged calls kept i d es → Exchanged calls kept i d (e ∷ es)
-leave calls kept i d e es out m = record {
-  entries = m.entries;
-  replies = m.replies;
-  from = λ y j. elim (m.from y j) [ inl own ↦ inl (inr own.0, own.1) | inr other ↦ inr other ];
-  known = m.known;
-  in_time = m.in_time;
-  apart = m.apart;
+leave : (calls : List Call) (kept : ℕ → Bool) (i : ℕ) (content : Content) (call : Call) (later : List Call)
+    → (kept call.number ≡ false) ⊎ (is_some call.returned ≡ false) → Exchanged calls kept i content later
+    → Exchanged calls kept i content (call ∷ later)
+leave calls kept i content call later out rest = record {
+  entries = rest.entries;
+  replies = rest.replies;
+  from = λ y j. elim (rest.from y j) [ inl own ↦ inl (inr own.0, own.1) | inr other ↦ inr other ];
+  known = rest.known;
+  in_time = rest.in_time;
+  apart = rest.apart;
   whole = λ x j k so. elim j [
     | inl q ↦ absurd (elim out [
       | inl not_kept ↦ false_is_not_true (sym not_kept ∙ ap (λ (z : Call). kept z.number) (sym q) ∙ k)
       | inr pending ↦ false_is_not_true (sym pending ∙ ap (λ (z : Call). is_some z.returned) (sym q) ∙ so)
     ])
-    | inr l ↦ m.whole x l k so
+    | inr l ↦ rest.whole x l k so
   ];
 }
 
 -- a call that is no pending removal is done
-keep_own : (calls : List Call) (kept : ℕ → Bool) (i : ℕ) (d behind : Content) (e : Call) (es : List Call)
+keep_own : (calls : List Call) (kept : ℕ → Bool) (i : ℕ) (content after : Content) (call : Call) (later : List Call)
     (reply : AnyReply)
-    → Pairs (λ a b. a.number < b.number) calls → is_open e ≡ false → kept e.number ≡ true → In e calls
-    → ((y : Call) → In y es → e.number ≢ y.number)
-    → ((y : Call) → In y es → ReturnsBefore y e → ⊥) → next d e.op ≡ Some (behind, reply)
-    → IfSome e.returned (λ r. r.reply ≡ reply)
-    → Exchanged calls kept i behind es → Exchanged calls kept i d (e ∷ es)
-keep_own calls kept i d behind e es reply rising closed k here apart time does agrees m = record {
-  entries = e ∷ m.entries;
-  replies = (behind, reply, does, agrees, m.replies);
+    → Pairs (λ a b. a.number < b.number) calls → is_open call ≡ false → kept call.number ≡ true → In call calls
+    → ((y : Call) → In y later → call.number ≢ y.number)
+    → ((y : Call) → In y later → ReturnsBefore y call → ⊥) → next content call.op ≡ Some (after, reply)
+    → IfSome call.returned (λ r. r.reply ≡ reply)
+    → Exchanged calls kept i after later → Exchanged calls kept i content (call ∷ later)
+keep_own calls kept i content after call later reply rising closed keep here apart time does agrees rest = record {
+  entries = call ∷ rest.entries;
+  replies = (after, reply, does, agrees, rest.replies);
   from = λ y j. elim j [
     | inl q ↦ inl (inl q, ap (λ (z : Call). is_open z) q ∙ closed)
-    | inr l ↦ elim (m.from y l) [ inl own ↦ inl (inr own.0, own.1) | inr other ↦ inr other ]
+    | inr l ↦ elim (rest.from y l) [ inl own ↦ inl (inr own.0, own.1) | inr other ↦ inr other ]
   ];
   known = λ y j. elim j [
-    | inl q ↦ subst (λ (z : Call). In z calls × (kept z.number ≡ true)) (sym q) (here, k)
-    | inr l ↦ m.known y l
+    | inl q ↦ subst (λ (z : Call). In z calls × (kept z.number ≡ true)) (sym q) (here, keep)
+    | inr l ↦ rest.known y l
   ];
   in_time = (
-    λ y j. elim (m.from y j) [
+    λ y j. elim (rest.from y j) [
       | inl own ↦ time y own.0
       | inr other ↦ λ rb. not_returned y rb.0 other.0 rb.1
     ],
-    m.in_time,
+    rest.in_time,
   );
   apart = (
-    λ y j. elim (m.from y j) [
+    λ y j. elim (rest.from y j) [
       | inl own ↦ apart y own.0
       | inr other ↦ λ q. false_is_not_true
           (sym closed ∙ ap (λ (z : Call). is_open z)
-          (one_number (λ (z : Call). z.number) e y calls rising here (m.known y j).0 q) ∙ other.0)
+          (one_number (λ (z : Call). z.number) call y calls rising here (rest.known y j).0 q) ∙ other.0)
     ],
-    m.apart,
+    rest.apart,
   );
-  whole = λ x j kx so. elim j [ inl q ↦ inl q | inr l ↦ inr (m.whole x l kx so) ];
+  whole = λ x j kx so. elim j [ inl q ↦ inl q | inr l ↦ inr (rest.whole x l kx so) ];
 }
 
 -- in place of a pending removal one is done that was invoked no later than some such one so far
 keep_other : (calls : List Call) (kept : ℕ → Bool) (i : ℕ) (content after : Content) (removal late : Call)
-    (others : List Call) (reply : AnyReply) (chosen : Nth calls i)
+    (later : List Call) (reply : AnyReply) (chosen : Nth calls i)
     → Pairs (λ a b. a.number < b.number) calls → is_open removal ≡ true → kept chosen.call.number ≡ true
     → chosen.call.number ≤ late.number
-    → ((y : Call) → In y others → ReturnsBefore y late → ⊥) → next content chosen.call.op ≡ Some (after, reply)
-    → Exchanged calls kept (i + 1) after others → Exchanged calls kept i content (removal ∷ others)
-keep_other calls kept i content after removal late others reply chosen rising pending keep due time does rest = record {
+    → ((y : Call) → In y later → ReturnsBefore y late → ⊥) → next content chosen.call.op ≡ Some (after, reply)
+    → Exchanged calls kept (i + 1) after later → Exchanged calls kept i content (removal ∷ later)
+keep_other calls kept i content after removal late later reply chosen rising pending keep due time does rest = record {
   entries = chosen.call ∷ rest.entries;
   replies = (after, reply, does, agrees chosen.call.returned (open_returned chosen.call chosen.pending), rest.replies);
   from = λ y j. elim j [
@@ -260,7 +260,7 @@ keep_other calls kept i content after removal late others reply chosen rising pe
   ];
   in_time = (
     λ y j. elim (rest.from y j) [
-      | inl own ↦ λ rb. time y own.0 (rb.0, rb.1, later rb.0.at rb.2)
+      | inl own ↦ λ rb. time y own.0 (rb.0, rb.1, before_late rb.0.at rb.2)
       | inr other ↦ λ rb. not_returned y rb.0 other.0 rb.1
     ],
     rest.in_time,
@@ -293,8 +293,8 @@ keep_other calls kept i content after removal late others reply chosen rising pe
     ranked : (y : Call) → y ≡ chosen.call → i ≤ rank calls y.number
     ranked y q = subst (λ (n : ℕ). i ≤ n) (sym (ap (λ (z : Call). rank calls z.number) q ∙ chosen.at)) (omega arith)
 
-    later : (at : ℕ) → at < chosen.call.number → at < late.number
-    later at l = omega arith
+    before_late : (at : ℕ) → at < chosen.call.number → at < late.number
+    before_late at l = omega arith
 
     more : (a b : ℕ) → b ≡ a → b ≡ i → i + 1 ≤ a → ⊥
     more a b q r l = absurd (omega arith)

@@ -49,25 +49,28 @@ record AreCalls (kind : Kind) (calls : List Call) : Type 0 where
   ends : (e : Call) (r : Return) → In e calls → e.returned ≡ Some r → e.number < r.at
   kinds : (e : Call) → In e calls → kind_of e.op ≡ kind
 
-recast_kind : (done : AnyOp → AnyReply → Option (AnyOp × AnyReply)) (pending : AnyOp → Option AnyOp) (k : Kind)
-    (y x : Call) → ((reply : AnyReply) → IfSome (done y.op reply) (λ f. kind_of f.0 ≡ k))
-    → IfSome (pending y.op) (λ f. kind_of f ≡ k) → recast done pending y.number y.op y.returned ≡ Some x
-    → kind_of x.op ≡ k
-recast_kind done pending k y x d p e = go y.returned e
+-- what a call becomes is of a kind if what it becomes when it is done, and when it is pending, is
+recast_kind : (done : AnyOp → AnyReply → Option (AnyOp × AnyReply)) (pending : AnyOp → Option AnyOp) (kind : Kind)
+    (call part : Call) → ((reply : AnyReply) → IfSome (done call.op reply) (λ f. kind_of f.0 ≡ kind))
+    → IfSome (pending call.op) (λ f. kind_of f ≡ kind)
+    → recast done pending call.number call.op call.returned ≡ Some part → kind_of part.op ≡ kind
+recast_kind done pending kind call part done_kind pending_kind is = go call.returned is
   where
-    finished : (at : ℕ) (f : Option (AnyOp × AnyReply)) → IfSome f (λ f. kind_of f.0 ≡ k)
-        → option_map (returned_call y.number at) f ≡ Some x → kind_of x.op ≡ k
-    finished at None l e = absurd (cc e)
-    finished at (Some f) l e = subst (λ (z : Call). kind_of z.op ≡ k) (same_Some (returned_call y.number at f) x e) l
+    finished : (at : ℕ) (f : Option (AnyOp × AnyReply)) → IfSome f (λ f. kind_of f.0 ≡ kind)
+        → option_map (returned_call call.number at) f ≡ Some part → kind_of part.op ≡ kind
+    finished at None l is = absurd (cc is)
+    finished at (Some f) l is =
+        subst (λ (z : Call). kind_of z.op ≡ kind) (same_Some (returned_call call.number at f) part is) l
 
-    unfinished : (f : Option AnyOp) → IfSome f (λ f. kind_of f ≡ k) → option_map (pending_call y.number) f ≡ Some x
-        → kind_of x.op ≡ k
-    unfinished None l e = absurd (cc e)
-    unfinished (Some op) l e = subst (λ (z : Call). kind_of z.op ≡ k) (same_Some (pending_call y.number op) x e) l
+    unfinished : (f : Option AnyOp) → IfSome f (λ f. kind_of f ≡ kind)
+        → option_map (pending_call call.number) f ≡ Some part → kind_of part.op ≡ kind
+    unfinished None l is = absurd (cc is)
+    unfinished (Some op) l is =
+        subst (λ (z : Call). kind_of z.op ≡ kind) (same_Some (pending_call call.number op) part is) l
 
-    go : (o : Option Return) → recast done pending y.number y.op o ≡ Some x → kind_of x.op ≡ k
-    go None e = unfinished (pending y.op) p e
-    go (Some r) e = finished r.at (done y.op r.reply) (d r.reply) e
+    go : (o : Option Return) → recast done pending call.number call.op o ≡ Some part → kind_of part.op ≡ kind
+    go None is = unfinished (pending call.op) pending_kind is
+    go (Some r) is = finished r.at (done call.op r.reply) (done_kind r.reply) is
 
 later_kind : (first : Option (AnyOp × AnyReply)) (at : ℕ) (y : Call)
     → kind_of (call_later first at y).op ≡ kind_of y.op

@@ -143,17 +143,21 @@ use_first x (Ok r) us y h = h
 use_first x Fail us y h = h
 use_first x Info us y h = h
 
-uses_from_named : (es : List Event) (n : Event) (op : AnyOp) (x k : ℕ) → k < length es → get_or es k n ≡ n
-    → n.object ≡ x → n.action ≡ Invoke op → Contains (map (λ (u : Use). u.object) (uses es)) x
-uses_from_named [] n op x k lt at on is = absurd (omega arith)
-uses_from_named (e ∷ es) n op x zero lt at on is =
-    let own : use_by e.object e.action ≡ use_by n.object (Invoke op) = ap
-    (λ (v : Event). use_by v.object v.action) at ∙ ap (use_by n.object) is in
-    let here : Contains (map (λ (u : Use). u.object) (cons_option (use_by n.object (Invoke op)) (uses es))) x =
-    (0, omega arith, on) in
-    subst (λ u. Contains (map (λ (v : Use). v.object) (cons_option u (uses es))) x) (sym own) here
-uses_from_named (e ∷ es) n op x (suc k) lt at on is = use_first e.object e.action (uses es) x
-    (uses_from_named es n op x k (omega arith) at on is)
+-- what an invocation of the history names is among the objects of the uses
+uses_from_named : (events : List Event) (named : Event) (op : AnyOp) (object place : ℕ) → place < length events
+    → get_or events place named ≡ named
+    → named.object ≡ object → named.action ≡ Invoke op → Contains (map (λ (u : Use). u.object) (uses events)) object
+uses_from_named [] named op object place lt at on is = absurd (omega arith)
+uses_from_named (event ∷ events) named op object zero lt at on is =
+    let own : use_by event.object event.action ≡ use_by named.object (Invoke op) =
+        ap (λ (v : Event). use_by v.object v.action) at ∙ ap (use_by named.object) is in
+    let here : Contains (map (λ (u : Use). u.object) (cons_option (use_by named.object (Invoke op)) (uses events)))
+        object =
+        (0, omega arith, on) in
+    subst (λ u. Contains (map (λ (v : Use). v.object) (cons_option u (uses events))) object) (sym own) here
+uses_from_named (event ∷ events) named op object (suc place) lt at on is =
+    use_first event.object event.action (uses events) object
+    (uses_from_named events named op object place (omega arith) at on is)
 
 pub objects_named : (es : List Event) (x : ℕ) → Contains (objects_in (uses es)) x ↔ IsNamed es x
 objects_named es x = (

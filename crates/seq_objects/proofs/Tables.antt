@@ -101,10 +101,10 @@ next-put map before after key value reply is ordered ordered' changes old =
     ∙ ap (λ o. Some (table (from_sorted after), Value o)) (ap (λ n. get n key) (sym is) ∙ get-at_key before key ordered
     ∙ sym old)
 
-pub next-get : (map : FinMap int_cmp ℤ) (entries : Entries) (key : ℤ) (reply : Option ℤ) → from_sorted entries ≡ map
-    → Ordered entries → reply ≡ at_key key entries → next (table map) (Get key) ≡ Some (table map, Value reply)
-next-get map entries key reply is ordered found =
-    ap (λ o. Some (table map, Value o)) (ap (λ n. get n key) (sym is) ∙ get-at_key entries key ordered ∙ sym found)
+pub next-get : (map : FinMap int_cmp ℤ) (pairs : Entries) (key : ℤ) (reply : Option ℤ) → from_sorted pairs ≡ map
+    → Ordered pairs → reply ≡ at_key key pairs → next (table map) (Get key) ≡ Some (table map, Value reply)
+next-get map pairs key reply is ordered found =
+    ap (λ o. Some (table map, Value o)) (ap (λ n. get n key) (sym is) ∙ get-at_key pairs key ordered ∙ sym found)
 
 pub next-del : (map : FinMap int_cmp ℤ) (before after : Entries) (key : ℤ) (reply : Option ℤ) → from_sorted before ≡ map
     → Ordered before → Ordered after → Changes before after key None → reply ≡ at_key key before
@@ -121,9 +121,9 @@ table_inserted : (map : FinMap int_cmp ℤ) (before after : Entries) (key value 
 table_inserted map before after key value is ordered ordered' changes = ap (λ n. insert n key value) (sym is)
     ∙ sym (from_sorted-insert before after key value ordered ordered' changes)
 
-table_at_key : (map : FinMap int_cmp ℤ) (entries : Entries) (key : ℤ) → from_sorted entries ≡ map → Ordered entries
-    → get map key ≡ at_key key entries
-table_at_key map entries key is ordered = ap (λ n. get n key) (sym is) ∙ get-at_key entries key ordered
+table_at_key : (map : FinMap int_cmp ℤ) (pairs : Entries) (key : ℤ) → from_sorted pairs ≡ map → Ordered pairs
+    → get map key ≡ at_key key pairs
+table_at_key map pairs key is ordered = ap (λ n. get n key) (sym is) ∙ get-at_key pairs key ordered
 
 -- an operation that changes the table where it is so, and replies whether it is so
 pub next_if_so : (map : FinMap int_cmp ℤ) (before after : Entries) (key value : ℤ) (so flag : Bool)
@@ -147,13 +147,13 @@ next_if_not map key value so flag told fails =
     ap (λ c. Some (table (inserted_if c map key value), Flag c)) told
     ∙ ap (λ c. Some (table (inserted_if c map key value), Flag flag)) fails
 
-pub absent-at_key : (map : FinMap int_cmp ℤ) (entries : Entries) (key : ℤ) → from_sorted entries ≡ map → Ordered entries
-    → is_absent map key ≡ not (is_some (at_key key entries))
-absent-at_key map entries key is ordered = ap (λ o. not (is_some o)) (table_at_key map entries key is ordered)
+pub absent-at_key : (map : FinMap int_cmp ℤ) (pairs : Entries) (key : ℤ) → from_sorted pairs ≡ map → Ordered pairs
+    → is_absent map key ≡ not (is_some (at_key key pairs))
+absent-at_key map pairs key is ordered = ap (λ o. not (is_some o)) (table_at_key map pairs key is ordered)
 
-pub has-at_key : (map : FinMap int_cmp ℤ) (entries : Entries) (key value : ℤ) → from_sorted entries ≡ map
-    → Ordered entries → has_value map key value ≡ contains_value (at_key key entries) value
-has-at_key map entries key value is ordered = ap (λ o. contains_value o value) (table_at_key map entries key is ordered)
+pub has-at_key : (map : FinMap int_cmp ℤ) (pairs : Entries) (key value : ℤ) → from_sorted pairs ≡ map
+    → Ordered pairs → has_value map key value ≡ contains_value (at_key key pairs) value
+has-at_key map pairs key value is ordered = ap (λ o. contains_value o value) (table_at_key map pairs key is ordered)
 
 pub contains-eq : (o : Option ℤ) (a : ℤ) → contains_value o a ≡ option_eq int_eq o (Some a)
 contains-eq None a = refl
@@ -180,11 +180,14 @@ table-injective : (m n : FinMap int_cmp ℤ) → table m ≡ table n → m ≡ n
 unfolding in_table
 table-injective m n e = ap in_table e
 
-pub same_tables : (m n : FinMap int_cmp ℤ) (es fs : Entries) (r : Bool) → from_sorted es ≡ m → from_sorted fs ≡ n
-    → Ordered es → Ordered fs → Decides r (es ≡ fs) → Decides r (table m ≡ table n)
-same_tables m n es fs r em fn he hf decides = (
-  λ t. ap table (sym em ∙ ap from_sorted (decides.0 t) ∙ fn),
-  λ e. decides.1 (from_sorted-injective es fs he hf (em ∙ table-injective m n e ∙ sym fn)),
+-- two tables are compared by their entries
+pub same_tables : (map map' : FinMap int_cmp ℤ) (pairs pairs' : Entries) (answer : Bool) → from_sorted pairs ≡ map
+    → from_sorted pairs' ≡ map'
+    → Ordered pairs → Ordered pairs' → Decides answer (pairs ≡ pairs') → Decides answer (table map ≡ table map')
+same_tables map map' pairs pairs' answer is is' ordered ordered' decides = (
+  λ t. ap table (sym is ∙ ap from_sorted (decides.0 t) ∙ is'),
+  λ same. decides.1
+      (from_sorted-injective pairs pairs' ordered ordered' (is ∙ table-injective map map' same ∙ sym is')),
 )
 
 -- two puts of one key and one value are one
