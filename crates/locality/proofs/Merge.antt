@@ -26,6 +26,8 @@ pub record ObjectOrders {X : Type 0} (num proc obj point : X → ℕ) (stands : 
   pub turns : (a b : X) → In a ops → In b ops → stands a ≡ true → stands b ≡ true → proc a ≡ proc b → num a < num b
       → point a < point b
 
+-- ---- the line
+
 module _ {X : Type 0} (num proc obj point : X → ℕ) (stands : X → Bool) (ops : List X) (entries : ℕ → List X) where
   -- those of n's object whose point is n's number
   abbrev batch : X → List X
@@ -55,6 +57,8 @@ one_number num (o ∷ ops) a b h i j e = elim i [
     | inr t ↦ one_number num ops a b h.1 r t e
   ]
 ]
+
+-- ---- the line, cut to an object and to a process
 
 module _ {X : Type 0} (num proc obj point : X → ℕ) (stands : X → Bool) (ops : List X) (entries : ℕ → List X)
     (o : ObjectOrders num proc obj point stands ops entries) where

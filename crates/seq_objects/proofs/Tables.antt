@@ -20,6 +20,8 @@ use Rattle.model.specs.declared.AnyReply.TheVariants.{Value, Flag}
 use Rattle.model.specs.Objects.{Content, next, table, contains_value, inserted_if, has_value, is_absent}
 use Rattle.seq_objects.specs.declared.map_object.MapOp.TheVariants as of_map
 
+-- ---- the entries of a map
+
 abbrev pub Entries : Type 0
 Entries = List (ℤ × ℤ)
 
@@ -89,6 +91,8 @@ from_sorted-injective es fs he hf e =
 pub from_sorted-empty : (es : Entries) → es ≡ [] → Ordered es → from_sorted {R = int_cmp} es ≡ empty
 from_sorted-empty es e h =
     empty_of_len _ (len-entries _ ∙ ap length (entries-from_sorted int_cmp es (is_sorted-entries es h) ∙ e))
+
+-- ---- the steps
 
 -- The step of each operation. The table has some entries before it, and others after it.
 pub next-put : (map : FinMap int_cmp ℤ) (before after : Entries) (key value : ℤ) (reply : Option ℤ)
