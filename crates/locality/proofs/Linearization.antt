@@ -351,7 +351,7 @@ module _ (objects : ℕ → Specification) (h : List Numbered) (hist : IsHistory
   -- an operation of the completion is one of the sequence
   begun_in_both : (f : Operation) → IsOperation completion_made f → IsOperation sequence f
   begun_in_both f l =
-      let e1 : length (filter (invokes f.process) completion_made) ≡ length (filter (invokes f.process) sequence) =
+      let same : length (filter (invokes f.process) completion_made) ≡ length (filter (invokes f.process) sequence) =
       ap length (sym (invokes_of_process f.process completion_made)
       ∙ (ap (filter (invokes f.process)) (equivalent f.process) ∙ invokes_of_process f.process sequence)) in
       omega arith
@@ -369,20 +369,22 @@ module _ (objects : ℕ → Specification) (h : List Numbered) (hist : IsHistory
           let all : events h ≡ m.front = ap events (q ∙ append-nil a) ∙ s in
           let n : length (filter (invokes f.process) (events h)) ≡ length (filter (invokes f.process) m.front) =
           ap (λ es. length (filter (invokes f.process) es)) all in
-          let x = m.waiting in
-          let y = m.begun in
+          let answered = m.waiting in
+          let invoked = m.begun in
           absurd (omega arith)
       at_event m a (k ∷ b) q s =
-          let x : length (filter (responds e.process) (events a))
+          let answered : length (filter (responds e.process) (events a))
           ≤ length (filter (responds e.process) (dones give (below k.number))) = returned_below e.process a k b q in
-          let y : length (filter (invokes f.process) (dones give (below k.number)))
+          let invoked : length (filter (invokes f.process) (dones give (below k.number)))
           ≤ length (filter (invokes f.process) (events a)) = invoked_below f.process a k b q in
-          let s1 : length (filter (responds e.process) (events a)) ≡ length (filter (responds e.process) m.front) =
+          let same_responses : length (filter (responds e.process) (events a))
+              ≡ length (filter (responds e.process) m.front) =
           ap (λ es. length (filter (responds e.process) es)) s in
-          let s2 : length (filter (invokes f.process) (events a)) ≡ length (filter (invokes f.process) m.front) =
+          let same_invocations : length (filter (invokes f.process) (events a))
+              ≡ length (filter (invokes f.process) m.front) =
           ap (λ es. length (filter (invokes f.process) es)) s in
-          let z = m.returned in
-          let w = m.waiting in
+          let returned = m.returned in
+          let waiting = m.waiting in
           precedes_from sequence e f (record {
             front = dones give (below k.number);
             rest = dones give (filter (λ e. not (nat_lt (point e) k.number)) merged);

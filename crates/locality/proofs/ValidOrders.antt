@@ -244,36 +244,39 @@ module _ (objects : ℕ → Specification) (h : List Numbered) (hist : IsHistory
       (rw (calls_in-part e.made.process h) at (queue_op e.made.process e (line_queue e i)))
 
   -- where the line falls into parts at an operation, so do the operations of its process
-  turn_of : (l n : List Ended) (a : Ended) → all.line ≡ l ++ a ∷ n → (rest : List ProcessCall)
-      × (calls_in (part a.made.process h) ≡ ops_of (filter (λ e. e.made.process == a.made.process) l) ++ a.made ∷ rest)
-  turn_of l n a e =
-      let mine : Ended → Bool = λ d. d.made.process == a.made.process in
-      let self : mine a ≡ true = eq-eqb a.made.process a.made.process refl in
-      let q : queue a.made.process ≡ filter mine l ++ a ∷ filter mine n = sym (all.parts a.made.process)
-      ∙ (ap (filter mine) e ∙ (filter-append mine l (a ∷ n)
-      ∙ ap (λ b. filter mine l ++ cond b (a ∷ filter mine n) (filter mine n)) self)) in
-      let c = completed a.made.process in (
-        ops_of (filter mine n) ++ c.rest,
-        c.front ∙ (ap (λ es. ops_of es ++ c.rest) q
-            ∙ (ap (λ os. os ++ c.rest) (map-append (λ (e : Ended). e.made) (filter mine l) (a ∷ filter mine n))
-            ∙ append_assoc (ops_of (filter mine l)) (a.made ∷ ops_of (filter mine n)) c.rest)),
+  turn_of : (before after : List Ended) (one : Ended) → all.line ≡ before ++ one ∷ after → (rest : List ProcessCall)
+      × (calls_in (part one.made.process h)
+      ≡ ops_of (filter (λ e. e.made.process == one.made.process) before) ++ one.made ∷ rest)
+  turn_of before after one whole =
+      let mine : Ended → Bool = λ d. d.made.process == one.made.process in
+      let self : mine one ≡ true = eq-eqb one.made.process one.made.process refl in
+      let queue_is : queue one.made.process ≡ filter mine before ++ one ∷ filter mine after =
+          sym (all.parts one.made.process)
+      ∙ (ap (filter mine) whole ∙ (filter-append mine before (one ∷ after)
+      ∙ ap (λ b. filter mine before ++ cond b (one ∷ filter mine after) (filter mine after)) self)) in
+      let own = completed one.made.process in (
+        ops_of (filter mine after) ++ own.rest,
+        own.front ∙ (ap (λ es. ops_of es ++ own.rest) queue_is
+            ∙ (ap (λ os. os ++ own.rest) (map-append (λ (e : Ended). e.made) (filter mine before)
+            (one ∷ filter mine after))
+            ∙ append_assoc (ops_of (filter mine before)) (one.made ∷ ops_of (filter mine after)) own.rest)),
       )
 
   -- the operations of a process in the sequence are those in the completion
-  in_completion : (l n : List Ended) (a : Ended) → all.line ≡ l ++ a ∷ n
+  in_completion : (before after : List Ended) (one : Ended) → all.line ≡ before ++ one ∷ after
       → IsOperation lin.completion
-      (record { process = a.made.process; turn = length (filter (λ e. e.made.process == a.made.process) l) })
-  in_completion l n a e =
-      let p : ℕ = a.made.process in
-      let mine : Ended → Bool = λ d. d.made.process == p in
-      let c1 : count (invokes p) lin.completion ≡ count (invokes p) lin.sequence =
-      ap length (sym (invokes_of_process p lin.completion)
-      ∙ (ap (filter (invokes p)) (lin.equivalent p) ∙ invokes_of_process p lin.sequence)) in
-      let c2 : count (invokes p) lin.sequence ≡ length (filter mine all.line) =
-      ap (count (invokes p)) all.events_are ∙ ended_invokes p all.line in
-      let c3 : length (filter mine all.line) ≡ length (filter mine (l ++ a ∷ n)) =
-      ap (λ es. length (filter mine es)) e in
-      let c4 = longer mine l n a (eq-eqb p p refl) in
+      (record { process = one.made.process; turn = length (filter (λ e. e.made.process == one.made.process) before) })
+  in_completion before after one whole =
+      let process : ℕ = one.made.process in
+      let mine : Ended → Bool = λ d. d.made.process == process in
+      let in_both : count (invokes process) lin.completion ≡ count (invokes process) lin.sequence =
+      ap length (sym (invokes_of_process process lin.completion)
+      ∙ (ap (filter (invokes process)) (lin.equivalent process) ∙ invokes_of_process process lin.sequence)) in
+      let in_line : count (invokes process) lin.sequence ≡ length (filter mine all.line) =
+      ap (count (invokes process)) all.events_are ∙ ended_invokes process all.line in
+      let parts : length (filter mine all.line) ≡ length (filter mine (before ++ one ∷ after)) =
+      ap (λ es. length (filter mine es)) whole in
+      let more = longer mine before after one (eq-eqb process process refl) in
       omega arith
 
   -- of two in the line the later has not returned before the earlier was invoked
@@ -290,11 +293,12 @@ module _ (objects : ℕ → Specification) (h : List Numbered) (hist : IsHistory
       let in_later : In later all.line = rw whole' (in_middle later upto after) in
       let cut_p = turn_of before (between ++ later ∷ after) earlier whole in
       let cut_q = turn_of upto after later whole' in
-      let k = call_event h earlier.made (line_op earlier in_earlier) in
-      let cut = in_split k.0 h k.1 in
-      let u : List Numbered = cut.0 in
-      let t : ℕ = k.0.number in
-      let rising : Pairs (λ (x y : Numbered). x.number < y.number) (u ++ k.0 ∷ cut.1) = rw cut.2 at (up h hist) in
+      let call = call_event h earlier.made (line_op earlier in_earlier) in
+      let cut = in_split call.0 h call.1 in
+      let front : List Numbered = cut.0 in
+      let moment : ℕ = call.0.number in
+      let rising : Pairs (λ (x y : Numbered). x.number < y.number) (front ++ call.0 ∷ cut.1) =
+          rw cut.2 at (up h hist) in
       let turn_p : ℕ = length (filter (λ e. e.made.process == p) before) in
       let turn_q : ℕ = length (filter (λ e. e.made.process == q) upto) in
       let turn_p_is : length (ops_of (filter (λ e. e.made.process == p) before)) ≡ turn_p =
@@ -302,57 +306,58 @@ module _ (objects : ℕ → Specification) (h : List Numbered) (hist : IsHistory
       let turn_q_is : length (ops_of (filter (λ e. e.made.process == q) upto)) ≡ turn_q =
       length-map (filter (λ e. e.made.process == q) upto) (λ (e : Ended). e.made) in
       -- the invocations of the earlier one's process before its own
-      let i1 : count (invokes p) (events u) ≡ length (filter (λ m. invokes p m.event) u) =
-      length_filter_events (invokes p) u in
-      let i2 : length (filter (λ m. invokes p m.event) u)
-      ≡ length (filter (λ m. invokes p m.event && nat_lt m.number t) h) =
-      ap length (filter_before (λ m. invokes p m.event) u k.0 cut.1 rising)
-      ∙ ap (λ hs. length (filter (λ m. invokes p m.event && nat_lt m.number t) hs)) (sym cut.2) in
-      let i3 = invocations_before p t h in
-      let i4 : length (filter (λ e. (e.process == p) && nat_lt (number_of e) t) (calls_in h))
+      let events_p : count (invokes p) (events front) ≡ length (filter (λ m. invokes p m.event) front) =
+      length_filter_events (invokes p) front in
+      let lower_p : length (filter (λ m. invokes p m.event) front)
+      ≡ length (filter (λ m. invokes p m.event && nat_lt m.number moment) h) =
+      ap length (filter_before (λ m. invokes p m.event) front call.0 cut.1 rising)
+      ∙ ap (λ hs. length (filter (λ m. invokes p m.event && nat_lt m.number moment) hs)) (sym cut.2) in
+      let calls_p = invocations_before p moment h in
+      let part_p : length (filter (λ e. (e.process == p) && nat_lt (number_of e) moment) (calls_in h))
       ≡ length (filter (λ e. nat_lt (number_of e) (number_of earlier.made))
       (ops_of (filter (λ e. e.made.process == p) before) ++ earlier.made ∷ cut_p.0)) =
-      ap length (sym (filter-filter (λ e. nat_lt (number_of e) t) (λ e. e.process == p) (calls_in h)))
-      ∙ (ap (λ os. length (filter (λ e. nat_lt (number_of e) t) os)) (sym (calls_in-part p h) ∙ cut_p.1)
+      ap length (sym (filter-filter (λ e. nat_lt (number_of e) moment) (λ e. e.process == p) (calls_in h)))
+      ∙ (ap (λ os. length (filter (λ e. nat_lt (number_of e) moment) os)) (sym (calls_in-part p h) ∙ cut_p.1)
       ∙ ap (λ s. length (filter (λ e. nat_lt (number_of e) s)
-      (ops_of (filter (λ e. e.made.process == p) before) ++ earlier.made ∷ cut_p.0))) k.2) in
-      let i5 = below_one (ops_of (filter (λ e. e.made.process == p) before)) cut_p.0 earlier.made
+      (ops_of (filter (λ e. e.made.process == p) before) ++ earlier.made ∷ cut_p.0))) call.2) in
+      let few_p = below_one (ops_of (filter (λ e. e.made.process == p) before)) cut_p.0 earlier.made
       (rw cut_p.1 at (part_rise h hist p)) in
       -- the responses to the later one's process before that
-      let r1 : count (responds q) (events u) ≡ length (filter (λ m. responds q m.event) u) =
-      length_filter_events (responds q) u in
-      let r2 : length (filter (λ m. responds q m.event) u)
-      ≡ length (filter (λ m. responds q m.event && nat_lt m.number t) h) =
-      ap length (filter_before (λ m. responds q m.event) u k.0 cut.1 rising)
-      ∙ ap (λ hs. length (filter (λ m. responds q m.event && nat_lt m.number t) hs)) (sym cut.2) in
-      let r3 : length (filter (λ m. responds q m.event && nat_lt m.number t) (part q h))
-      ≡ length (filter (λ m. responds q m.event && nat_lt m.number t) h) = ap length (responds_in_part q t h) in
-      let r4 = responses_before q t (part q h) (turn_view h hist q) in
-      let r5 : length (filter (λ e. is_back t e.call.returned) (calls_in (part q h)))
-      ≡ length (filter (λ e. is_back t e.call.returned)
+      let events_q : count (responds q) (events front) ≡ length (filter (λ m. responds q m.event) front) =
+      length_filter_events (responds q) front in
+      let lower_q : length (filter (λ m. responds q m.event) front)
+      ≡ length (filter (λ m. responds q m.event && nat_lt m.number moment) h) =
+      ap length (filter_before (λ m. responds q m.event) front call.0 cut.1 rising)
+      ∙ ap (λ hs. length (filter (λ m. responds q m.event && nat_lt m.number moment) hs)) (sym cut.2) in
+      let part_q : length (filter (λ m. responds q m.event && nat_lt m.number moment) (part q h))
+      ≡ length (filter (λ m. responds q m.event && nat_lt m.number moment) h) =
+      ap length (responds_in_part q moment h) in
+      let back_q = responses_before q moment (part q h) (turn_view h hist q) in
+      let calls_q : length (filter (λ e. is_back moment e.call.returned) (calls_in (part q h)))
+      ≡ length (filter (λ e. is_back moment e.call.returned)
       (ops_of (filter (λ e. e.made.process == q) upto) ++ later.made ∷ cut_q.0)) =
-      ap (λ os. length (filter (λ e. is_back t e.call.returned) os)) cut_q.1 in
+      ap (λ os. length (filter (λ e. is_back moment e.call.returned) os)) cut_q.1 in
       let late : number_of later.made ≤ back.0.at =
       returns_after q (part q h) later.made back.0 (turn_view h hist q) (part_up h hist q)
       (queue_op q later (line_queue later in_later)) back.1 in
-      let k2 = k.2 in
-      let b2 = back.2 in
-      let r6 = back_upto t (ops_of (filter (λ e. e.made.process == q) upto)) cut_q.0 later.made back.0
+      let number_is = call.2 in
+      let less = back.2 in
+      let many_q = back_upto moment (ops_of (filter (λ e. e.made.process == q) upto)) cut_q.0 later.made back.0
       (rw cut_q.1 at (one_after_another q (part q h) (turn_view h hist q) (part_up h hist q))) back.1
       late (omega arith) in
       -- so the later one precedes the other in the history, and then in the sequence
-      let g1 = invocations_all p h in
-      let g2 : length (filter (λ o. o.process == p) (calls_in h))
+      let all_p = invocations_all p h in
+      let own_p : length (filter (λ o. o.process == p) (calls_in h))
       ≡ length (ops_of (filter (λ e. e.made.process == p) before) ++ earlier.made ∷ cut_p.0) =
       ap length (sym (calls_in-part p h) ∙ cut_p.1) in
-      let g3 = length-append (ops_of (filter (λ e. e.made.process == p) before)) (earlier.made ∷ cut_p.0) in
+      let long_p = length-append (ops_of (filter (λ e. e.made.process == p) before)) (earlier.made ∷ cut_p.0) in
       let first : Operation = record { process = p; turn = turn_p } in
       let second : Operation = record { process = q; turn = turn_q } in
-      let moment : Moment (events h) second first =
+      let gap : Moment (events h) second first =
       record {
-        front = events u;
-        rest = events (k.0 ∷ cut.1);
-        whole = ap events cut.2 ∙ map-append (λ (m : Numbered). m.event) u (k.0 ∷ cut.1);
+        front = events front;
+        rest = events (call.0 ∷ cut.1);
+        whole = ap events cut.2 ∙ map-append (λ (m : Numbered). m.event) front (call.0 ∷ cut.1);
         returned = omega arith;
         waiting = omega arith;
         begun = omega arith;
@@ -360,7 +365,7 @@ module _ (objects : ℕ → Specification) (h : List Numbered) (hist : IsHistory
       let then = moment_from lin.sequence second first
       (lin.order second first (in_completion upto after later whole')
       (in_completion before (between ++ later ∷ after) earlier whole)
-      (precedes_from (events h) second first moment)) in
+      (precedes_from (events h) second first gap)) in
       refuted before between after earlier later then.front then.rest
       (sym then.whole ∙ (all.events_are ∙ (ap ended_events whole' ∙ flat_map-append two_events upto (later ∷ after))))
       then.returned then.waiting
