@@ -66,7 +66,7 @@ order_named calls (entry ∷ order) h = go (call_with_number calls entry) refl (
         → Pairs (λ (a b : Call). ReturnsBefore b a → ⊥) (named calls order)
         → Pairs (λ (a b : Call). ReturnsBefore b a → ⊥) (cons_option r (named calls order))
     go None q rest = rest
-    go (Some c) q rest = (λ d i before. let y = in_named calls o d i in h.0 y.0 y.1 c d q y.2 before, rest)
+    go (Some c) q rest = (λ d i before. let y = in_named calls order d i in h.0 y.0 y.1 c d q y.2 before, rest)
 
 -- a recorded reply that is the one given
 said : (e : Call) (r : Option Return) (reply : AnyReply) → e.returned ≡ r → ReplyIs e reply

@@ -77,8 +77,7 @@ first_in_first_out : (calls : List Call) (put take : Call) (value : ℤ) (taken 
     → ((e : Call) → In e calls → (e ≡ put) ⊎ ReturnsBefore put e)
     → ((e : Call) → In e calls → (e ≡ take) ⊎ IsEnqueue e.op) → IsValidOrder Queue calls order
     → taken.reply ≡ Value (Some value)
-first_in_first_out calls put take value taken stored order put_op stores take_op takes put_in take_in first other valid
-=
+first_in_first_out calls put take value taken stored order put_op stores take_op takes put_in take_in first rest valid =
     let known : (e : Call) → In e valid.entries → In e calls =
     λ e i. in_from_contains calls e (all_at (Contains calls) valid.entries valid.known e i) in
     let stands : (e : Call) (r : Return) → In e calls → e.returned ≡ Some r → In e valid.entries =
@@ -87,12 +86,12 @@ first_in_first_out calls put take value taken stored order put_op stores take_op
     let front = first_is put valid.entries (stands put stored put_in stores) (λ e i. first e (known e i))
     (pairs_from_all (λ (a b : Call). ReturnsBefore b a → ⊥) valid.entries valid.in_order) in
     let along : RepliesAlong (queue []) (put ∷ front.0) = rw front.1 at valid.replies in
-    let made = step (queue []) put.op (Enqueue value) (queue (value ∷ []), Value (Some value)) put_op along.0 along.1
-        along.2 refl in
+    let made = step (queue []) put.op (Enqueue value) (queue (value ∷ []), Value (Some value))
+        put_op along.0 along.1 along.2 refl in
     let take_later : In take (put ∷ front.0) = rw front.1 at (stands take taken take_in takes) in
     elim take_later [
       | inl q ↦ absurd cc
-      | inr j ↦ first_out value [] front.0 take taken take_op takes (λ e i. other e (known e (rw front.1 (inr i)))) j
+      | inr j ↦ first_out value [] front.0 take taken take_op takes (λ e i. rest e (known e (rw front.1 (inr i)))) j
           (rw made.0 at along.4)
     ]
 
