@@ -26,30 +26,33 @@ use Rattle.checker.specs.Refusals.{RefusesOrder, HasCertificate, AreValid, IsRef
 use Rattle.checker.specs.Checking.{IsCertificatePlace, AreCertificatePlaces, AreAllPlaces, IsFine, IsRefused}
 use Rattle.checker.specs.Checking.{AreForThese, IsLeastBesides, IsLeastPlaced}
 
--- one more certificate has its place
-pub one_placed : (certificates : List Certificate) (m n : NumberMap ℕ) (k : ℕ) (d : Certificate)
-    → k < length certificates
-    → d ≡ get_or certificates k d → AreCertificatePlaces m certificates
-    → ((c : Certificate) → In c (take k certificates) → IsSome (value_of m c.object))
-    → value_of n d.object ≡ Some k → ((x : ℕ) → x ≢ d.object → value_of n x ≡ value_of m x)
-    → AreCertificatePlaces n certificates
-    × ((c : Certificate) → In c (take (k + 1) certificates) → IsSome (value_of n c.object))
-one_placed certificates m n k d l is places some own others = (
-  λ x j q. elim (cases_eq x d.object) [
+-- a certificate that is put in the table has its place, and so have those before it
+pub one_placed : (certificates : List Certificate) (places more : NumberMap ℕ) (place : ℕ) (certificate : Certificate)
+    → place < length certificates
+    → certificate ≡ get_or certificates place certificate → AreCertificatePlaces places certificates
+    → ((c : Certificate) → In c (take place certificates) → IsSome (value_of places c.object))
+    → value_of more certificate.object ≡ Some place
+    → ((x : ℕ) → x ≢ certificate.object → value_of more x ≡ value_of places x)
+    → AreCertificatePlaces more certificates
+    × ((c : Certificate) → In c (take (place + 1) certificates) → IsSome (value_of more c.object))
+one_placed certificates places more place certificate inside is right some own others = (
+  λ x j q. elim (cases_eq x certificate.object) [
     | inl e ↦
-        let same : k ≡ j = same_Some k j (sym own ∙ (ap (value_of n) (sym e) ∙ q)) in
+        let same : place ≡ j = same_Some place j (sym own ∙ (ap (value_of more) (sym e) ∙ q)) in
         rw (← same) (record {
-          inside = l;
+          inside = inside;
           for_object =
-              λ c. ap (λ (z : Certificate). z.object) (get_or_default certificates k c d l ∙ sym is) ∙ sym e;
+              λ c. ap (λ (z : Certificate). z.object) (get_or_default certificates place c certificate inside ∙ sym is)
+              ∙ sym e;
         })
-    | inr ne ↦ places x j (sym (others x ne) ∙ q)
+    | inr ne ↦ right x j (sym (others x ne) ∙ q)
   ],
-  λ c i. elim (cases_eq c.object d.object) [
+  λ other i. elim (cases_eq other.object certificate.object) [
     | inl e ↦ rw (e, own) refl
-    | inr ne ↦ rw (others c.object ne) (elim (in_append c (take k certificates) (get_or certificates k d ∷ [])
-        (rw (take_more certificates k d l) at i)) [
-          | inl j ↦ some c j
+    | inr ne ↦ rw (others other.object ne)
+        (elim (in_append other (take place certificates) (get_or certificates place certificate ∷ [])
+        (rw (take_more certificates place certificate inside) at i)) [
+          | inl j ↦ some other j
           | inr j ↦ elim j [
             | inl e ↦ absurd (ne (ap (λ (z : Certificate). z.object) (e ∙ sym is)))
             | inr z ↦ absurd z
@@ -89,37 +92,38 @@ pub record AreLeft (certificates : List Certificate) (os : List ObjectCalls) (le
 
 -- ---- the next object
 
-abbrev pub has_here : (certificates : List Certificate) (x k : ℕ) (d : Certificate)
-    → IsCertificatePlace certificates x k
-    → d ≡ get_or certificates k d → HasCertificate certificates x
-has_here certificates x k d p is = record {
-  certificate = d;
-  stands = contains_from_in certificates d (rw is (in_from_get certificates k d p.inside));
-  for_object = ap (λ (c : Certificate). c.object) is ∙ p.for_object d;
+abbrev pub has_here : (certificates : List Certificate) (object place : ℕ) (found : Certificate)
+    → IsCertificatePlace certificates object place
+    → found ≡ get_or certificates place found → HasCertificate certificates object
+has_here certificates object place found at is = record {
+  certificate = found;
+  stands = contains_from_in certificates found (rw is (in_from_get certificates place found at.inside));
+  for_object = ap (λ (c : Certificate). c.object) is ∙ at.for_object found;
 }
 
 -- an order that was found valid for the object has no fault
-pub fine_here : (kind : Kind) (calls : List Call) (certificates : List Certificate) (x k : ℕ) (d : Certificate)
-    (r : Result (Unit {0}) Refusal) → IsCertificatePlace certificates x k → d ≡ get_or certificates k d
-    → OnOk r (IsValidOrder kind calls d.order.items)
-    → OnOk r ((f : OrderFault) → IsFirstFault kind calls d.order.items f → ⊥)
-    → OnOk r (IsFine kind calls certificates x)
-fine_here kind calls certificates x k d (Ok u) p is v h =
-    record { certificate = has_here certificates x k d p is; valid = v; faultless = h }
-fine_here kind calls certificates x k d (Err e) p is v h = tt
+pub fine_here : (kind : Kind) (calls : List Call) (certificates : List Certificate) (object place : ℕ)
+    (certificate : Certificate) (answer : Result (Unit {0}) Refusal) → IsCertificatePlace certificates object place
+    → certificate ≡ get_or certificates place certificate
+    → OnOk answer (IsValidOrder kind calls certificate.order.items)
+    → OnOk answer ((f : OrderFault) → IsFirstFault kind calls certificate.order.items f → ⊥)
+    → OnOk answer (IsFine kind calls certificates object)
+fine_here kind calls certificates object place certificate (Ok u) at is valid faultless =
+    record { certificate = has_here certificates object place certificate at is; valid = valid; faultless = faultless }
+fine_here kind calls certificates object place certificate (Err e) at is valid faultless = tt
 
 -- an object whose order was refused is refused, and its certificate is not valid
-pub refused_here : (kind : Kind) (calls : List Call) (certificates : List Certificate) (x k : ℕ) (d : Certificate)
-    (r : Result (Unit {0}) Refusal)
-    → IsCertificatePlace certificates x k → d ≡ get_or certificates k d
-    → IfErr r (RefusesOrder x kind calls d.order.items)
-    → (IsValidOrder kind calls d.order.items → IfErr r (λ e. e ≡ NoMemory))
-    → IfErr r (IsRefused kind calls certificates x)
-refused_here kind calls certificates x k d (Ok u) p is h exact = tt
-refused_here kind calls certificates x k d (Err (BadOrder y f)) p is h exact =
-    (h.0, has_here certificates x k d p is, h.1, λ v. let e = exact v in cc e)
-refused_here kind calls certificates x k d (Err NoMemory) p is h exact = tt
-refused_here kind calls certificates x k d (Err e) p is h exact = absurd h
+pub refused_here : (kind : Kind) (calls : List Call) (certificates : List Certificate) (object place : ℕ)
+    (certificate : Certificate) (answer : Result (Unit {0}) Refusal)
+    → IsCertificatePlace certificates object place → certificate ≡ get_or certificates place certificate
+    → IfErr answer (RefusesOrder object kind calls certificate.order.items)
+    → (IsValidOrder kind calls certificate.order.items → IfErr answer (λ e. e ≡ NoMemory))
+    → IfErr answer (IsRefused kind calls certificates object)
+refused_here kind calls certificates object place certificate (Ok u) at is refused exact = tt
+refused_here kind calls certificates object place certificate (Err (BadOrder other fault)) at is refused exact =
+    (refused.0, has_here certificates object place certificate at is, refused.1, λ v. let e = exact v in cc e)
+refused_here kind calls certificates object place certificate (Err NoMemory) at is refused exact = tt
+refused_here kind calls certificates object place certificate (Err e) at is refused exact = absurd refused
 
 has_some : (o : Option ℕ) → o ≡ None → IsSome o → ⊥
 has_some None q s = cc s
@@ -135,11 +139,11 @@ no_certificate certificates m x h none c =
 
 -- ---- one after the other
 
--- one more object has a valid certificate
-pub one_more_fine : (es : List Event) (certificates : List Certificate) (os : List ObjectCalls) (o : ObjectCalls)
+-- with the next object, which has a valid certificate too, all these have one
+pub fine_with_next : (es : List Event) (certificates : List Certificate) (os : List ObjectCalls) (o : ObjectCalls)
     → AreFine es certificates os
     → IsFineAt es certificates o.object → AreFine es certificates (os ++ o ∷ [])
-one_more_fine es certificates os o h fine = λ p i. elim (in_append p os (o ∷ []) i) [
+fine_with_next es certificates os o h fine = λ p i. elim (in_append p os (o ∷ []) i) [
   | inl j ↦ h p j
   | inr j ↦ elim j [
     | inl e ↦ rw e fine
@@ -278,19 +282,19 @@ same_certificate (c ∷ cs) d a b i j q = elim i [
 -- an object has one certificate, if no two certificates are of one object
 pub same_orders : (certificates : List Certificate) → AllPairs (λ a b. a.object ≢ b.object) certificates
     → (x : ℕ) (a b : HasCertificate certificates x) → a.certificate ≡ b.certificate
-same_orders certificates d x a b =
+same_orders certificates apart x a b =
     same_certificate certificates
-    (pairs_from_all (λ a b. a.object ≢ b.object) certificates d) a.certificate b.certificate
+    (pairs_from_all (λ a b. a.object ≢ b.object) certificates apart) a.certificate b.certificate
     (in_from_contains certificates a.certificate a.stands) (in_from_contains certificates b.certificate b.stands)
     (a.for_object ∙ sym b.for_object)
 
 no_refusal : (es : List Event) (certificates : List Certificate) → AllPairs (λ a b. a.object ≢ b.object) certificates
     → (x : ℕ)
     → IsFineAt es certificates x → (r : Refusal) → IsRefusalAt es certificates x r → ⊥
-no_refusal es certificates d x h (NoCertificate y) s = s.1 h.certificate
-no_refusal es certificates d x h (BadOrder y f) s =
-    h.faultless f (rw (same_orders certificates d x s.1 h.certificate) at s.2)
-no_refusal es certificates d x h r s = s
+no_refusal es certificates apart x fine (NoCertificate y) s = s.1 fine.certificate
+no_refusal es certificates apart x fine (BadOrder y f) s =
+    fine.faultless f (rw (same_orders certificates apart x s.1 fine.certificate) at s.2)
+no_refusal es certificates apart x fine r s = s
 
 -- if each object has a valid certificate, and each certificate is for one of them, the certificates are valid
 pub all_valid : (es : List Event) (certificates : List Certificate) (os : List ObjectCalls) → AreObjects es os
@@ -307,14 +311,14 @@ all_valid es certificates os objects h besides = record {
 pub least_strange : (es : List Event) (certificates : List Certificate) (os : List ObjectCalls) (x : ℕ)
     → AllPairs (λ a b. a.object ≢ b.object) certificates → AreObjects es os → AreFine es certificates os
     → IsLeastBesides (map (λ o. o.object) os) certificates x → IsLeastStrange es certificates x
-least_strange es certificates os x d objects h s = record {
-  certified = s.certified;
-  not_named = λ named. s.besides ((objects.named x).1 named);
+least_strange es certificates os x apart objects fine besides = record {
+  certified = besides.certified;
+  not_named = λ named. besides.besides ((objects.named x).1 named);
   least = all_from_in (λ (c : Certificate). c.object < x → IsNamed es c.object) certificates
       (λ c i l. (objects.named c.object).0
-      (all_at (λ (c : Certificate). c.object < x → Contains (map (λ o. o.object) os) c.object) certificates s.least
-      c i l));
-  none = λ y r named t. no_refusal es certificates d y (fine_at es certificates os objects h y named) r t;
+      (all_at (λ (c : Certificate). c.object < x → Contains (map (λ o. o.object) os) c.object)
+      certificates besides.least c i l));
+  none = λ y r named t. no_refusal es certificates apart y (fine_at es certificates os objects fine y named) r t;
 }
 
 -- ---- where the next object is refused
@@ -331,13 +335,14 @@ already (q ∷ os) o later r p i l = elim i [
   | inr j ↦ inr (already os o later r.1 p j l)
 ]
 
+-- The objects before this one have valid certificates, and this one is refused: then that is the first refusal.
 first_refusal : (es : List Event) (certificates : List Certificate) (all os : List ObjectCalls) (o : ObjectCalls)
     (later : List ObjectCalls)
     (r : Refusal) → AllPairs (λ a b. a.object ≢ b.object) certificates → AreObjects es all
     → all ≡ os ++ o ∷ later → AreFine es certificates os
     → IsRefused (kind_of_object es o.object) (calls_on o.object (denoted es)) certificates o.object r
     → IsFirstRefusal es certificates r
-first_refusal es certificates all os o later r d objects split h refused = go r refused
+first_refusal es certificates all os o later r apart objects split fine refused = go r refused
   where
     up : Pairs (λ a b. a.object < b.object) (os ++ o ∷ later)
     up = rw split at (pairs_from_all (λ a b. a.object < b.object) all objects.rising)
@@ -349,7 +354,7 @@ first_refusal es certificates all os o later r d objects split h refused = go r 
     least y s l named stands =
         let p = object_named es all objects y named in
         let i = already os o later up p.0 (subst (In p.0) split p.1) (rw p.2 at l) in
-        no_refusal es certificates d y (rw p.2 (h p.0 i)) s stands
+        no_refusal es certificates apart y (rw p.2 (fine p.0 i)) s stands
 
     go : (r : Refusal) → IsRefused (kind_of_object es o.object) (calls_on o.object (denoted es)) certificates o.object r
         → IsFirstRefusal es certificates r
@@ -365,8 +370,8 @@ refused_are_not_valid : (es : List Event) (certificates : List Certificate) (all
     → all ≡ os ++ o ∷ later → AreFine es certificates os
     → IsRefused (kind_of_object es o.object) (calls_on o.object (denoted es)) certificates o.object r
     → AreValid es certificates → r ≡ NoMemory
-refused_are_not_valid es certificates all os o later r d objects split h refused valid =
-    go r (first_refusal es certificates all os o later r d objects split h refused) refused
+refused_are_not_valid es certificates all os o later r apart objects split fine refused valid =
+    go r (first_refusal es certificates all os o later r apart objects split fine refused) refused
   where
     go : (r : Refusal) → IsFirstRefusal es certificates r
         → IsRefused (kind_of_object es o.object) (calls_on o.object (denoted es)) certificates o.object r → r ≡ NoMemory
@@ -374,7 +379,7 @@ refused_are_not_valid es certificates all os o later r d objects split h refused
     go (StrangeObject y) f s = absurd s
     go (BadOrder y g) f s =
         let each = valid.each o.object (rw (sym f.stands.0 ∙ s.0) at f.named) in
-        absurd (s.3 (rw (same_orders certificates d o.object each.0 s.1) at each.1))
+        absurd (s.3 (rw (same_orders certificates apart o.object each.0 s.1) at each.1))
     go NoMemory f s = refl
 
 -- certificates are not valid if one is for an object that is not in the history

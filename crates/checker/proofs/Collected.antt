@@ -87,28 +87,31 @@ pub no_answers : {A : Type 0} (es : List Event) (Is : ℕ → Kind → List Call
 no_answers {A} es Is objects answers h none =
     rw none (record { objects_are = h; numbers = refl; each = λ i d l. absurd (omega (arith, l)) })
 
--- one more answer, on the next object
-pub one_more_answer : {A : Type 0} (es : List Event) (Is : ℕ → Kind → List Call → A → Type 0)
-    (objects : List ObjectCalls) (k : ℕ) (o : ObjectCalls)
-    (old new : List (ℕ × A)) (n : ℕ) (s : A) → k < length objects → o ≡ get_or objects k o → n ≡ o.object
-    → new ≡ old ++ (n, s) ∷ []
-    → Is o.object o.kind (calls_of o.ops) s → AreAnswers es Is objects k old → AreAnswers es Is objects (k + 1) new
-one_more_answer {A} es Is objects k o old new n s l is en ex h are = record {
+-- an answer on the next object is put after those on the objects before
+pub answer_to_next : {A : Type 0} (es : List Event) (Is : ℕ → Kind → List Call → A → Type 0)
+    (objects : List ObjectCalls) (place : ℕ) (next : ObjectCalls) (old new : List (ℕ × A)) (number : ℕ) (answer : A)
+    → place < length objects → next ≡ get_or objects place next → number ≡ next.object
+    → new ≡ old ++ (number, answer) ∷ []
+    → Is next.object next.kind (calls_of next.ops) answer → AreAnswers es Is objects place old
+    → AreAnswers es Is objects (place + 1) new
+answer_to_next {A} es Is objects place next old new number answer inside is numbered put right are = record {
   objects_are = are.objects_are;
   numbers =
-      ap (map (λ a. a.0)) ex ∙ map-append (λ (a : ℕ × A). a.0) old ((n, s) ∷ []) ∙ ap (λ xs. xs ++ n ∷ []) are.numbers
-      ∙ ap (λ (x : ℕ). map number (take k objects) ++ x ∷ []) (en ∙ ap number is)
-      ∙ sym (ap (map number) (take_more objects k o l) ∙ map-append number (take k objects) (get_or objects k o ∷ []));
-  each = rw ex (All-push (λ (a : ℕ × A). Is a.0 (kind_of_object es a.0) (calls_on a.0 (denoted es)) a.1) old (n, s)
-      are.each
-      (rw en here));
+      ap (map (λ a. a.0)) put ∙ map-append (λ (a : ℕ × A). a.0) old ((number, answer) ∷ [])
+      ∙ ap (λ xs. xs ++ number ∷ []) are.numbers
+      ∙ ap (λ (x : ℕ). map object_of (take place objects) ++ x ∷ []) (numbered ∙ ap object_of is)
+      ∙ sym (ap (map object_of) (take_more objects place next inside)
+      ∙ map-append object_of (take place objects) (get_or objects place next ∷ []));
+  each = rw put (All-push (λ (a : ℕ × A). Is a.0 (kind_of_object es a.0) (calls_on a.0 (denoted es)) a.1) old
+      (number, answer) are.each (rw numbered here));
 }
   where
-    number : ObjectCalls → ℕ
-    number o = o.object
+    object_of : ObjectCalls → ℕ
+    object_of o = o.object
 
-    here : Is o.object (kind_of_object es o.object) (calls_on o.object (denoted es)) s
-    here = next_is es objects k o (λ kind calls. Is o.object kind calls s) are.objects_are l is h
+    here : Is next.object (kind_of_object es next.object) (calls_on next.object (denoted es)) answer
+    here = next_is es objects place next (λ kind calls. Is next.object kind calls answer)
+        are.objects_are inside is right
 
 -- the answers on all objects, in rising number
 pub record AreOnAll {A : Type 0} (es : List Event) (Is : ℕ → Kind → List Call → A → Type 0)

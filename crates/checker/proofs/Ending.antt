@@ -33,127 +33,122 @@ use Rattle.checker.proofs.Steps.{call_at_place, place_of_call, one_call, all_ear
 use Rattle.model.proofs.Orders.{same_pos}
 
 -- a refusal that names the first fault
-pub refused_by : (n : ℕ) (kind : Kind) (calls : List Call) (order : List ℤ) (fault : OrderFault)
-    (r : Result (Unit {0}) Refusal)
-    → r ≡ Err (BadOrder n fault) → IsFirstFault kind calls order fault → IfErr r (RefusesOrder n kind calls order)
-refused_by n kind calls order fault r e f = rw e (refl, f)
+pub refused_by : (number : ℕ) (kind : Kind) (calls : List Call) (order : List ℤ) (fault : OrderFault)
+    (answer : Result (Unit {0}) Refusal) → answer ≡ Err (BadOrder number fault) → IsFirstFault kind calls order fault
+    → IfErr answer (RefusesOrder number kind calls order)
+refused_by number kind calls order fault answer is first = rw is (refl, first)
 
--- what a read of `xs[k]` gives
-pub read_at : (xs : List Bool) (k : ℕ) (r b : Bool) → k < length xs → r ≡ get_or xs k r → r ≡ b → get_or xs k false ≡ b
-read_at xs k r b l e q = get_or_default xs k false r l ∙ (sym e ∙ q)
+-- what a read of `marks[k]` gives
+pub read_at : (marks : List Bool) (k : ℕ) (read mark : Bool) → k < length marks → read ≡ get_or marks k read
+    → read ≡ mark → get_or marks k false ≡ mark
+read_at marks k read mark inside is same = get_or_default marks k false read inside ∙ (sym is ∙ same)
 
 -- ---- at an entry
 
--- the walk is at an entry whose operation is at place k, and it has not been there
+-- the walk is at an entry whose operation is at this place, and it has not been there
 pub record IsHere (kind : Kind) (ops : List Invocation) (order : List ℤ) (i : ℕ) (seen : List Bool)
-    (content : Content) (greatest : Option ℕ) (z : ℤ) (k : ℕ) (c : Call) : Type 0 where
+    (content : Content) (greatest : Option ℕ) (entry : ℤ) (place : ℕ) (call : Call) : Type 0 where
   pub walk : Walk kind ops (take i order) seen content greatest
-  pub at : slice_get order i ≡ Some z
-  pub hand : AtHand ops z k c
-  pub fresh : get_or seen k false ≡ false
-
-reaches : (kind : Kind) (ops : List Invocation) (order : List ℤ) (i : ℕ) (seen : List Bool) (content : Content)
-    (greatest : Option ℕ) (z : ℤ) (k : ℕ)
-    (c : Call) (d : Invocation) → IsHere kind ops order i seen content greatest z k c
-    → Reaches kind (calls_of ops) order i z c content
-reaches kind ops order i seen content greatest z k c d h = record {
-  so_far = h.walk.so_far;
-  here = h.at;
-  named = h.hand.found;
-  fresh = away kind ops (take i order) seen content greatest z k c d h.walk h.hand h.fresh;
-}
-
-in_time : (kind : Kind) (ops : List Invocation) (order : List ℤ) (i : ℕ) (seen : List Bool) (content : Content)
-    (greatest : Option ℕ) (z : ℤ) (k : ℕ)
-    (c : Call) (d : Invocation) → IsHere kind ops order i seen content greatest z k c
-    → IsEarly (get_or ops k d).«end» greatest → IsInTime order i c
-in_time kind ops order i seen content greatest z k c d h early r q y j =
-    all_early greatest (take i order) (get_or ops k d).«end» r h.walk.top early
-    ((call_parts (get_or ops k d) c (h.hand.is d)).2 ∙ q) y j
-
-pub repeated_at : (kind : Kind) (ops : List Invocation) (order : List ℤ) (i : ℕ) (seen : List Bool)
-    (content : Content) (greatest : Option ℕ) (z : ℤ)
-    (k : ℕ) (c : Call) (d : Invocation) → Walk kind ops (take i order) seen content greatest
-    → slice_get order i ≡ Some z → AtHand ops z k c
-    → get_or seen k false ≡ true → IsFirstAtPlace kind (calls_of ops) order (Repeated z)
-repeated_at kind ops order i seen content greatest z k c d w at h twice =
-    let stands : In z (take i order) = rw (number_at ops z k c d h)
-    (stands_true (get_or ops k d).number (take i order) (sym (w.marks k d h.within) ∙ twice)) in
-    repeated_first kind (calls_of ops) order i z c content w.so_far at h.found stands
-
-pub late_at : (kind : Kind) (ops : List Invocation) (order : List ℤ) (i : ℕ) (seen : List Bool) (content : Content)
-    (greatest : Option ℕ) (z : ℤ)
-    (k : ℕ) (c : Call) (d : Invocation) (by : ℕ) → IsHere kind ops order i seen content greatest z k c
-    → greatest ≡ Some by
-    → IsLate (get_or ops k d).«end» by → IsFirstAtPlace kind (calls_of ops) order (TooLate z by)
-late_at kind ops order i seen content greatest z k c d by h g late =
-    let parts = call_parts (get_or ops k d) c (h.hand.is d) in
-    let top : IsGreatest (pos by) (take i order) = top_of greatest by (take i order) h.walk g in
-    late_first kind (calls_of ops) order i z c content late.0
-    by (reaches kind ops order i seen content greatest z k c d h) (sym parts.2 ∙ late.1) late.2 top
-  where
-    top_of : (g : Option ℕ) (by : ℕ) (o : List ℤ) → Walk kind ops o seen content g → g ≡ Some by → IsGreatest (pos by) o
-    top_of None by o w e = absurd (cc e)
-    top_of (Some t) by o w e = subst (λ k. IsGreatest (pos k) o) (same_Some t by e) w.top
-
--- the operation of the entry as the walk reads it, and that of the call
-op_is : (ops : List Invocation) (z : ℤ) (k : ℕ) (c : Call) (d : Invocation) → AtHand ops z k c
-    → (get_or ops k d).op ≡ c.op
-op_is ops z k c d h = (call_parts (get_or ops k d) c (h.is d)).1
+  pub at : slice_get order i ≡ Some entry
+  pub hand : AtHand ops entry place call
+  pub fresh : get_or seen place false ≡ false
 
 none_from : (o : Option (Content × AnyReply)) → (IsSome o → ⊥) → o ≡ None
 none_from None h = refl
 none_from (Some x) h = absurd (h refl)
 
-pub impossible_at : (kind : Kind) (ops : List Invocation) (order : List ℤ) (i : ℕ) (seen : List Bool)
-    (content : Content) (greatest : Option ℕ)
-    (z : ℤ) (k : ℕ) (c : Call) (d : Invocation) (op : AnyOp) (can : Bool)
-    → IsHere kind ops order i seen content greatest z k c
-    → IsEarly (get_or ops k d).«end» greatest → op ≡ (get_or ops k d).op → (IsTrue can ↔ IsSome (next content op))
-    → can ≡ false → IsFirstAtPlace kind (calls_of ops) order (NotPossible z)
-impossible_at kind ops order i seen content greatest z k c d op can h early is tells not =
-    let never : next content op ≡ None = none_from (next content op) (λ some. refute can not (tells.1 some)) in
-    impossible_first kind (calls_of ops) order i z c content
-    (reaches kind ops order i seen content greatest z k c d h)
-    (in_time kind ops order i seen content greatest z k c d h early)
-    (ap (next content) (sym (is ∙ op_is ops z k c d h.hand)) ∙ never)
-  where
-    refute : (b : Bool) → b ≡ false → IsTrue b → ⊥
-    refute b e t = let is : b ≡ true = t in absurd (cc (e, is))
+-- The walk is at entry i of the order, which names the call of the operation at this place.
+module _ (kind : Kind) (ops : List Invocation) (order : List ℤ) (i : ℕ) (seen : List Bool) (content : Content)
+    (greatest : Option ℕ) (entry : ℤ) (place : ℕ) (call : Call) (default : Invocation) where
+  reaches : IsHere kind ops order i seen content greatest entry place call
+      → Reaches kind (calls_of ops) order i entry call content
+  reaches here = record {
+    so_far = here.walk.so_far;
+    here = here.at;
+    named = here.hand.found;
+    fresh = away kind ops (take i order) seen content greatest entry place call default here.walk here.hand here.fresh;
+  }
 
-pub wrong_at : (kind : Kind) (ops : List Invocation) (order : List ℤ) (i : ℕ) (seen : List Bool)
-    (content after : Content) (greatest : Option ℕ)
-    (z : ℤ) (k : ℕ) (c : Call) (d : Invocation) (op : AnyOp) (gives : AnyReply)
-    → IsHere kind ops order i seen content greatest z k c
-    → IsEarly (get_or ops k d).«end» greatest → op ≡ (get_or ops k d).op → next content op ≡ Some (after, gives)
-    → ReplyDiffers (return_of (get_or ops k d).«end») gives
-    → IsFirstAtPlace kind (calls_of ops) order (WrongReply z gives)
-wrong_at kind ops order i seen content after greatest z k c d op gives h early is can differs =
-    let parts = call_parts (get_or ops k d) c (h.hand.is d) in
-    wrong_first kind (calls_of ops) order i z c content after differs.0 gives
-    (reaches kind ops order i seen content greatest z k c d h)
-    (in_time kind ops order i seen content greatest z k c d h early)
-    (sym parts.2 ∙ differs.1) (ap (next content) (sym (is ∙ parts.1)) ∙ can) differs.2
+  -- an operation that returned after the greatest invocation so far is in time
+  in_time : IsHere kind ops order i seen content greatest entry place call
+      → IsEarly (get_or ops place default).«end» greatest → IsInTime order i call
+  in_time here early r back y j =
+      all_early greatest (take i order) (get_or ops place default).«end» r here.walk.top early
+      ((call_parts (get_or ops place default) call (here.hand.is default)).2 ∙ back) y j
 
-pub next_at : (kind : Kind) (ops : List Invocation) (order : List ℤ) (i : ℕ) (seen : List Bool)
-    (content after : Content) (greatest : Option ℕ)
-    (z : ℤ) (k : ℕ) (c : Call) (d : Invocation) (op : AnyOp) (top : ℕ) (gives : AnyReply)
-    → AllPairs (λ a b. a.number < b.number) ops → IsHere kind ops order i seen content greatest z k c
-    → i < length order → z ≡ get_or order i (pos 0)
-    → IsEarly (get_or ops k d).«end» greatest → op ≡ (get_or ops k d).op → next content op ≡ Some (after, gives)
-    → Agrees (return_of (get_or ops k d).«end») gives → kind_with after ≡ kind_with content
-    → top ≡ option_map_or (λ by. max by (get_or ops k d).number) greatest (get_or ops k d).number
-    → Walk kind ops (take (i + 1) order) (set seen k true) after (Some top)
-next_at kind ops order i seen content after greatest z k c d op top gives up h l at early is can agrees kept new_top =
-    let parts = call_parts (get_or ops k d) c (h.hand.is d) in
-    let step : IsStep content c after =
-    record {
-      reply = gives;
-      possible = ap (next content) (sym (is ∙ parts.1)) ∙ can;
-      replied = λ r q. agrees r (parts.2 ∙ q);
-    } in
-    rw (take_more order i (pos 0) l, ← at) (walk_more kind ops (take i order) seen content after greatest z k c d top
-    up h.walk h.hand h.fresh early step kept new_top)
+  -- an operation that is marked is in the order twice
+  pub repeated_at : Walk kind ops (take i order) seen content greatest → slice_get order i ≡ Some entry
+      → AtHand ops entry place call → get_or seen place false ≡ true
+      → IsFirstAtPlace kind (calls_of ops) order (Repeated entry)
+  repeated_at walk at hand marked =
+      let stands : In entry (take i order) =
+          rw (number_at ops entry place call default hand)
+          (stands_true (get_or ops place default).number (take i order)
+          (sym (walk.marks place default hand.within) ∙ marked)) in
+      repeated_first kind (calls_of ops) order i entry call content walk.so_far at hand.found stands
+
+  -- an operation that returned before the greatest invocation so far is too late
+  pub late_at : (by : ℕ) → IsHere kind ops order i seen content greatest entry place call → greatest ≡ Some by
+      → IsLate (get_or ops place default).«end» by → IsFirstAtPlace kind (calls_of ops) order (TooLate entry by)
+  late_at by here is late =
+      let parts = call_parts (get_or ops place default) call (here.hand.is default) in
+      let top : IsGreatest (pos by) (take i order) = top_of greatest by (take i order) here.walk is in
+      late_first kind (calls_of ops) order i entry call content late.0 by (reaches here) (sym parts.2 ∙ late.1) late.2
+      top
+    where
+      top_of : (g : Option ℕ) (by : ℕ) (o : List ℤ) → Walk kind ops o seen content g → g ≡ Some by
+          → IsGreatest (pos by) o
+      top_of None by o w e = absurd (cc e)
+      top_of (Some t) by o w e = subst (λ k. IsGreatest (pos k) o) (same_Some t by e) w.top
+
+  -- the operation as the walk reads it is that of the call
+  op_is : AtHand ops entry place call → (get_or ops place default).op ≡ call.op
+  op_is hand = (call_parts (get_or ops place default) call (hand.is default)).1
+
+  -- an operation that the content does not allow is not possible
+  pub impossible_at : (op : AnyOp) (can : Bool) → IsHere kind ops order i seen content greatest entry place call
+      → IsEarly (get_or ops place default).«end» greatest → op ≡ (get_or ops place default).op
+      → (IsTrue can ↔ IsSome (next content op)) → can ≡ false
+      → IsFirstAtPlace kind (calls_of ops) order (NotPossible entry)
+  impossible_at op can here early is tells not =
+      let never : next content op ≡ None = none_from (next content op) (λ some. refute can not (tells.1 some)) in
+      impossible_first kind (calls_of ops) order i entry call content (reaches here) (in_time here early)
+      (ap (next content) (sym (is ∙ op_is here.hand)) ∙ never)
+    where
+      refute : (b : Bool) → b ≡ false → IsTrue b → ⊥
+      refute b e t = let is : b ≡ true = t in absurd (cc (e, is))
+
+  -- an operation that returned another reply than it has here has a wrong one
+  pub wrong_at : (after : Content) (op : AnyOp) (gives : AnyReply)
+      → IsHere kind ops order i seen content greatest entry place call
+      → IsEarly (get_or ops place default).«end» greatest → op ≡ (get_or ops place default).op
+      → next content op ≡ Some (after, gives) → ReplyDiffers (return_of (get_or ops place default).«end») gives
+      → IsFirstAtPlace kind (calls_of ops) order (WrongReply entry gives)
+  wrong_at after op gives here early is can differs =
+      let parts = call_parts (get_or ops place default) call (here.hand.is default) in
+      wrong_first kind (calls_of ops) order i entry call content after differs.0 gives (reaches here)
+      (in_time here early) (sym parts.2 ∙ differs.1) (ap (next content) (sym (is ∙ parts.1)) ∙ can) differs.2
+
+  -- an operation that is in time, possible and rightly replied to is passed and marked
+  pub next_at : (after : Content) (op : AnyOp) (top : ℕ) (gives : AnyReply)
+      → AllPairs (λ a b. a.number < b.number) ops → IsHere kind ops order i seen content greatest entry place call
+      → i < length order → entry ≡ get_or order i (pos 0)
+      → IsEarly (get_or ops place default).«end» greatest → op ≡ (get_or ops place default).op
+      → next content op ≡ Some (after, gives) → Agrees (return_of (get_or ops place default).«end») gives
+      → kind_with after ≡ kind_with content
+      → top ≡ option_map_or (λ by. max by (get_or ops place default).number) greatest (get_or ops place default).number
+      → Walk kind ops (take (i + 1) order) (set seen place true) after (Some top)
+  next_at after op top gives rising here inside at early is can agrees kept new_top =
+      let parts = call_parts (get_or ops place default) call (here.hand.is default) in
+      let step : IsStep content call after =
+          record {
+            reply = gives;
+            possible = ap (next content) (sym (is ∙ parts.1)) ∙ can;
+            replied = λ r q. agrees r (parts.2 ∙ q);
+          } in
+      rw (take_more order i (pos 0) inside, ← at)
+      (walk_more kind ops (take i order) seen content greatest entry place call default after top rising here.walk
+      here.hand here.fresh early step kept new_top)
 
 -- ---- at the end
 
@@ -161,32 +156,7 @@ next_at kind ops order i seen content after greatest z k c d op top gives up h l
 pub at_end : (kind : Kind) (ops : List Invocation) (order : List ℤ) (i : ℕ) (seen : List Bool) (content : Content)
     (greatest : Option ℕ)
     → Walk kind ops (take i order) seen content greatest → length order ≤ i → Walk kind ops order seen content greatest
-at_end kind ops order i seen content greatest w l = rw (take_all i order l) at w
-
--- a call that returned and was passed is in the order
-stands_marked : (kind : Kind) (ops : List Invocation) (order : List ℤ) (seen : List Bool) (content : Content)
-    (greatest : Option ℕ) (k : ℕ)
-    (d : Invocation) (c : Call) → Walk kind ops order seen content greatest → k < length ops
-    → call_of (get_or ops k d) ≡ Some c → get_or seen k false ≡ true → In (pos c.number) order
-stands_marked kind ops order seen content greatest k d c w l e m =
-    let parts = call_parts (get_or ops k d) c e in
-    subst (λ n. In (pos n) order) parts.0 (stands_true (get_or ops k d).number order (sym (w.marks k d l) ∙ m))
-
-pub all_marked : (kind : Kind) (ops : List Invocation) (order : List ℤ) (seen : List Bool) (content : Content)
-    (greatest : Option ℕ) (d : Invocation)
-    → AllPairs (λ a b. a.number < b.number) ops → Walk kind ops order seen content greatest
-    → AreMarked ops seen (length ops) → IsValidOrder kind (calls_of ops) order
-all_marked kind ops order seen content greatest d up w marked =
-    valid_from kind (calls_of ops) order content w.so_far (λ c i r.
-    let p = place_of_call ops c i in
-    let parts = call_parts (get_or ops p.0 d) c (p.2 d) in
-    let stands = stands_marked kind ops order seen content greatest p.0 d c w p.1 (p.2 d)
-    (marked p.0 d p.1 (ap is_some parts.2 ∙ r)) in
-    let k = w.so_far.known (pos c.number) stands in
-    let n = found_number (calls_of ops) (pos c.number) k.0 k.1 in
-    let same : k.0 ≡ c = one_call ops k.0 c d up (found_known (calls_of ops) (pos c.number) k.0 k.1) i
-    (same_pos k.0.number c.number (sym n)) in
-    (pos c.number, stands, k.1 ∙ ap Some same))
+at_end kind ops order i seen content greatest walk long = rw (take_all i order long) at walk
 
 returned_call : (o : Invocation) → is_some (return_of o.«end») ≡ true → (c : Call) × (call_of o ≡ Some c)
 returned_call o e = go o.«end» e
@@ -203,37 +173,74 @@ returned_call o e = go o.«end» e
     go Pending q = absurd (cc q)
     go Failed q = absurd (cc q)
 
-pub omitted_at : (kind : Kind) (ops : List Invocation) (order : List ℤ) (seen : List Bool) (content : Content)
-    (greatest : Option ℕ) (n : ℕ)
-    (d : Invocation) → AllPairs (λ a b. a.number < b.number) ops → Walk kind ops order seen content greatest
-    → IsFirstUnmarked ops seen n → IsLeastOmitted kind (calls_of ops) order n
-omitted_at kind ops order seen content greatest n d up w first =
-    let o : Invocation = get_or ops first.place d in
-    let c = returned_call o (first.returned d) in
-    let parts = call_parts o c.0 c.1 in
-    let fresh : In (pos o.number) order → ⊥ =
-    stands_false o.number order (sym (w.marks first.place d first.within) ∙ first.unmarked) in
-    record {
-      places = no_fault kind (calls_of ops) order content w.so_far;
-      call = c.0;
-      known = contains_from_in (calls_of ops) c.0 (call_at_place ops first.place d c.0 first.within c.1);
-      number = sym parts.0 ∙ sym (first.is d);
-      returned = sym (ap is_some parts.2) ∙ first.returned d;
-      left_out = λ i. fresh (subst (λ m. In (pos m) order) (first.is d) (in_from_contains order (pos n) i));
-      least = all_from_in (λ c. IsSome c.returned → c.number < n → Contains order (pos c.number)) (calls_of ops)
-          (λ e i r m.
-          let p = place_of_call ops e i in
-          let q = call_parts (get_or ops p.0 d) e (p.2 d) in
-          let before : p.0 < first.place = earlier p.0 p.1 (omega (arith, first.is d, q.0, m)) in
-          contains_from_in order (pos e.number)
-          (stands_marked kind ops order seen content greatest p.0 d e w p.1 (p.2 d)
-          (first.before p.0 d before (ap is_some q.2 ∙ r))));
-    }
-  where
-    earlier : (j : ℕ) → j < length ops → (get_or ops j d).number < (get_or ops first.place d).number → j < first.place
-    earlier j l m = elim (cases_order j first.place) [
-      | inl s ↦
-          let t : (get_or ops j d).number ≡ (get_or ops first.place d).number = ap (λ i. (get_or ops i d).number) s in
-          absurd (omega arith)
-      | inr t ↦ elim t [ inl u ↦ u | inr u ↦ let g = up first.place j d u l in absurd (omega arith) ]
-    ]
+-- The walk has passed the whole order.
+module _ (kind : Kind) (ops : List Invocation) (order : List ℤ) (seen : List Bool) (content : Content)
+    (greatest : Option ℕ) where
+  -- a call that returned and was passed is in the order
+  stands_marked : (place : ℕ) (default : Invocation) (call : Call) → Walk kind ops order seen content greatest
+      → place < length ops → call_of (get_or ops place default) ≡ Some call → get_or seen place false ≡ true
+      → In (pos call.number) order
+  stands_marked place default call walk inside is marked =
+      let parts = call_parts (get_or ops place default) call is in
+      subst (λ n. In (pos n) order) parts.0
+      (stands_true (get_or ops place default).number order (sym (walk.marks place default inside) ∙ marked))
+
+  -- if all operations that returned are marked, the order is valid
+  pub all_marked : (default : Invocation) → AllPairs (λ a b. a.number < b.number) ops
+      → Walk kind ops order seen content greatest → AreMarked ops seen (length ops)
+      → IsValidOrder kind (calls_of ops) order
+  all_marked default rising walk marked =
+      valid_from kind (calls_of ops) order content walk.so_far (λ c i r.
+      let place = place_of_call ops c i in
+      let parts = call_parts (get_or ops place.0 default) c (place.2 default) in
+      let stands = stands_marked place.0 default c walk place.1 (place.2 default)
+          (marked place.0 default place.1 (ap is_some parts.2 ∙ r)) in
+      let known = walk.so_far.known (pos c.number) stands in
+      let number = found_number (calls_of ops) (pos c.number) known.0 known.1 in
+      let same : known.0 ≡ c =
+          one_call ops known.0 c default rising (found_known (calls_of ops) (pos c.number) known.0 known.1) i
+          (same_pos known.0.number c.number (sym number)) in
+      (pos c.number, stands, known.1 ∙ ap Some same))
+
+  -- the first operation that returned and is not marked is the least that the order leaves out
+  pub omitted_at : (number : ℕ) (default : Invocation) → AllPairs (λ a b. a.number < b.number) ops
+      → Walk kind ops order seen content greatest → IsFirstUnmarked ops seen number
+      → IsLeastOmitted kind (calls_of ops) order number
+  omitted_at number default rising walk first =
+      let made : Invocation = get_or ops first.place default in
+      let call = returned_call made (first.returned default) in
+      let parts = call_parts made call.0 call.1 in
+      let fresh : In (pos made.number) order → ⊥ =
+          stands_false made.number order (sym (walk.marks first.place default first.within) ∙ first.unmarked) in
+      record {
+        places = no_fault kind (calls_of ops) order content walk.so_far;
+        call = call.0;
+        known = contains_from_in (calls_of ops) call.0
+            (call_at_place ops first.place default call.0 first.within call.1);
+        number = sym parts.0 ∙ sym (first.is default);
+        returned = sym (ap is_some parts.2) ∙ first.returned default;
+        left_out =
+            λ i. fresh (subst (λ m. In (pos m) order) (first.is default) (in_from_contains order (pos number) i));
+        least = all_from_in (λ c. IsSome c.returned → c.number < number → Contains order (pos c.number)) (calls_of ops)
+            (λ c i r less.
+            let place = place_of_call ops c i in
+            let its = call_parts (get_or ops place.0 default) c (place.2 default) in
+            let before : place.0 < first.place =
+                earlier place.0 place.1 (omega (arith, first.is default, its.0, less)) in
+            contains_from_in order (pos c.number)
+            (stands_marked place.0 default c walk place.1 (place.2 default)
+            (first.before place.0 default before (ap is_some its.2 ∙ r))));
+      }
+    where
+      earlier : (j : ℕ) → j < length ops → (get_or ops j default).number < (get_or ops first.place default).number
+          → j < first.place
+      earlier j inside less = elim (cases_order j first.place) [
+        | inl same ↦
+            let numbers : (get_or ops j default).number ≡ (get_or ops first.place default).number =
+                ap (λ i. (get_or ops i default).number) same in
+            absurd (omega arith)
+        | inr apart ↦ elim apart [
+          | inl below ↦ below
+          | inr above ↦ let more = rising first.place j default above inside in absurd (omega arith)
+        ]
+      ]

@@ -30,12 +30,13 @@ index_rises : (a b : ℕ) (z : ℤ) → a ≤ b → ordering_index (int_cmp (pos
 index_rises a b z l = grind (arith, ints)
 
 -- so operations whose numbers rise can be searched
-pub search_rises : (ops : List Invocation) (z : ℤ) → AllPairs (λ a b. a.number < b.number) ops
-    → IsNonDecreasingBy (λ o. ordering_index (int_cmp (pos o.number) z)) ops
-search_rises ops z up i j d l m = elim (cases_order i j) [
+pub search_rises : (ops : List Invocation) (entry : ℤ) → AllPairs (λ a b. a.number < b.number) ops
+    → IsNonDecreasingBy (λ o. ordering_index (int_cmp (pos o.number) entry)) ops
+search_rises ops entry rising i j d l m = elim (cases_order i j) [
   | inl s ↦ rw s (omega arith)
   | inr r ↦ elim r [
-    | inl t ↦ let g = up i j d t m in index_rises (get_or ops i d).number (get_or ops j d).number z (omega arith)
+    | inl t ↦ let g = rising i j d t m in index_rises (get_or ops i d).number (get_or ops j d).number entry
+        (omega arith)
     | inr t ↦ absurd (omega arith)
   ]
 ]
@@ -49,7 +50,11 @@ rising_calls (o ∷ ops) h = go (call_of o) refl (rising_calls ops h.1)
     above c q e i = below (operation_of ops e i)
       where
         below : ((p : Invocation) × In p ops × (p.number ≡ e.number)) → c.number < e.number
-        below p = let g = h.0 p.0 p.1 in let n = (call_parts o c q).0 in let m = p.2 in omega arith
+        below p =
+            let g = h.0 p.0 p.1 in
+            let n = (call_parts o c q).0 in
+            let m = p.2 in
+            omega arith
 
         operation_of : (os : List Invocation) (e : Call) → In e (calls_of os)
             → (p : Invocation) × In p os × (p.number ≡ e.number)
@@ -74,68 +79,75 @@ abbrev pub placeholder_operation : Invocation
 placeholder_operation = record { number = 0; op = Enqueue (pos 0); «end» = Returned 0 (Value None) }
 
 -- a number that no call's operation has names no call
-pub not_named : (ops : List Invocation) (z : ℤ) (d : Invocation)
-    → ((k : ℕ) (c : Call) → k < length ops → pos (get_or ops k d).number ≡ z → call_of (get_or ops k d) ≡ Some c → ⊥)
-    → call_with_number (calls_of ops) z ≡ None
-not_named ops z d h = go (call_with_number (calls_of ops) z) refl
+pub not_named : (ops : List Invocation) (entry : ℤ) (default : Invocation)
+    → ((k : ℕ) (c : Call) → k < length ops → pos (get_or ops k default).number ≡ entry
+    → call_of (get_or ops k default) ≡ Some c → ⊥) → call_with_number (calls_of ops) entry ≡ None
+not_named ops entry default h = go (call_with_number (calls_of ops) entry) refl
   where
-    go : (r : Option Call) → call_with_number (calls_of ops) z ≡ r → r ≡ None
+    go : (r : Option Call) → call_with_number (calls_of ops) entry ≡ r → r ≡ None
     go None q = refl
     go (Some c) q =
-        let p = place_of_call ops c (found_known (calls_of ops) z c q) in
-        let n : pos (get_or ops p.0 d).number ≡ z =
-        ap pos (call_parts (get_or ops p.0 d) c (p.2 d)).0 ∙ sym (found_number (calls_of ops) z c q) in
-        absurd (h p.0 c p.1 n (p.2 d))
+        let p = place_of_call ops c (found_known (calls_of ops) entry c q) in
+        let n : pos (get_or ops p.0 default).number ≡ entry =
+        ap pos (call_parts (get_or ops p.0 default) c (p.2 default)).0 ∙ sym (found_number (calls_of ops) entry c q) in
+        absurd (h p.0 c p.1 n (p.2 default))
 
 -- what the search found names the call
-pub found_by_number : (ops : List Invocation) (z : ℤ) (k : ℕ) (d : Invocation)
-    → AllPairs (λ a b. a.number < b.number) ops → k < length ops
-    → pos (get_or ops k d).number ≡ z → (get_or ops k d).«end» ≢ Failed → (c : Call) × AtHand ops z k c
-found_by_number ops z k d up l n ne =
-    let o : Invocation = get_or ops k d in
-    let c = call_from o ne in
-    let m : pos c.0.number ≡ z = ap pos (sym (call_parts o c.0 c.1).0) ∙ n in
-    let own = names_itself (calls_of ops) c.0 (rising_calls ops (pairs_from_all (λ a b. a.number < b.number) ops up))
-    (call_at_place ops k d c.0 l c.1) in (
-      c.0,
+pub found_by_number : (ops : List Invocation) (entry : ℤ) (place : ℕ) (default : Invocation)
+    → AllPairs (λ a b. a.number < b.number) ops → place < length ops
+    → pos (get_or ops place default).number ≡ entry → (get_or ops place default).«end» ≢ Failed
+    → (call : Call) × AtHand ops entry place call
+found_by_number ops entry place default rising inside is done =
+    let made : Invocation = get_or ops place default in
+    let call = call_from made done in
+    let number : pos call.0.number ≡ entry = ap pos (sym (call_parts made call.0 call.1).0) ∙ is in
+    let own = names_itself (calls_of ops) call.0
+        (rising_calls ops (pairs_from_all (λ a b. a.number < b.number) ops rising))
+        (call_at_place ops place default call.0 inside call.1) in (
+      call.0,
       record {
-        within = l;
-        found = ap (call_with_number (calls_of ops)) (sym m) ∙ own;
-        is = λ e. ap call_of (get_or_default ops k e d l) ∙ c.1;
+        within = inside;
+        found = ap (call_with_number (calls_of ops)) (sym number) ∙ own;
+        is = λ e. ap call_of (get_or_default ops place e default inside) ∙ call.1;
       },
     )
 
-pub found_here : (ops : List Invocation) (z : ℤ) (k : ℕ) (d : Invocation) → AllPairs (λ a b. a.number < b.number) ops
-    → k < length ops
-    → int_cmp (pos (get_or ops k d).number) z ≡ Equal → (get_or ops k d).«end» ≢ Failed → (c : Call) × AtHand ops z k c
-found_here ops z k d up l eq ne =
-    found_by_number ops z k d up l (int_ranked (pos (get_or ops k d).number) z Equal (sym eq)) ne
+pub found_here : (ops : List Invocation) (entry : ℤ) (place : ℕ) (default : Invocation)
+    → AllPairs (λ a b. a.number < b.number) ops → place < length ops
+    → int_cmp (pos (get_or ops place default).number) entry ≡ Equal → (get_or ops place default).«end» ≢ Failed
+    → (c : Call) × AtHand ops entry place c
+found_here ops entry place default rising inside eq done =
+    found_by_number ops entry place default rising inside
+    (int_ranked (pos (get_or ops place default).number) entry Equal (sym eq)) done
 
 -- what failed names no call
-pub failed_here : (ops : List Invocation) (z : ℤ) (k : ℕ) (d : Invocation) → AllPairs (λ a b. a.number < b.number) ops
-    → k < length ops
-    → int_cmp (pos (get_or ops k d).number) z ≡ Equal → call_of (get_or ops k d) ≡ None
-    → call_with_number (calls_of ops) z ≡ None
-failed_here ops z k d up l eq none = not_named ops z d (λ j c m n q.
-    let here : pos (get_or ops k d).number ≡ z = int_ranked (pos (get_or ops k d).number) z Equal (sym eq) in
-    let same : (get_or ops k d).number ≡ (get_or ops j d).number =
-    same_pos (get_or ops k d).number (get_or ops j d).number (here ∙ sym n) in
-    elim (cases_order k j) [
-      | inl s ↦ let t : None ≡ Some c = sym none ∙ (ap (λ i. call_of (get_or ops i d)) s ∙ q) in absurd (cc (t))
-      | inr r ↦ numbers_apart ops k j d d up l m (λ s. elim r [ inl a ↦ omega arith | inr a ↦ omega arith ]) same
+pub failed_here : (ops : List Invocation) (entry : ℤ) (place : ℕ) (default : Invocation)
+    → AllPairs (λ a b. a.number < b.number) ops → place < length ops
+    → int_cmp (pos (get_or ops place default).number) entry ≡ Equal → call_of (get_or ops place default) ≡ None
+    → call_with_number (calls_of ops) entry ≡ None
+failed_here ops entry place default rising inside eq none = not_named ops entry default (λ j c m n q.
+    let here : pos (get_or ops place default).number ≡ entry =
+        int_ranked (pos (get_or ops place default).number) entry Equal (sym eq) in
+    let same : (get_or ops place default).number ≡ (get_or ops j default).number =
+        same_pos (get_or ops place default).number (get_or ops j default).number (here ∙ sym n) in
+    elim (cases_order place j) [
+      | inl s ↦ let t : None ≡ Some c = sym none ∙ (ap (λ i. call_of (get_or ops i default)) s ∙ q) in absurd (cc t)
+      | inr r ↦ numbers_apart ops place j default default rising inside m
+          (λ s. elim r [ inl a ↦ omega arith | inr a ↦ omega arith ]) same
     ])
 
 -- a search that found nothing says that no operation has the number
-pub none_here : (ops : List Invocation) (z : ℤ) (i : ℕ) (d : Invocation)
-    → IsPartitionPoint (λ o. int_cmp (pos o.number) z ≡ Less) (λ o. int_cmp (pos o.number) z ≡ Greater) ops i
-    → call_with_number (calls_of ops) z ≡ None
-none_here ops z i d h =
-    not_named ops z d (λ k c l n q. apart k (int_ranked (pos (get_or ops k d).number) z) l n (cases_order k i))
+pub none_here : (ops : List Invocation) (entry : ℤ) (i : ℕ) (default : Invocation)
+    → IsPartitionPoint (λ o. int_cmp (pos o.number) entry ≡ Less) (λ o. int_cmp (pos o.number) entry ≡ Greater) ops i
+    → call_with_number (calls_of ops) entry ≡ None
+none_here ops entry i default h =
+    not_named ops entry default (λ k c l n q. apart k (int_ranked (pos (get_or ops k default).number) entry) l n
+    (cases_order k i))
   where
-    apart : (k : ℕ) → ((r : Ordering) → r ≡ int_cmp (pos (get_or ops k d).number) z
-        → MatchOrdering r (pos (get_or ops k d).number <ℤ z) (pos (get_or ops k d).number ≡ z)
-        (z <ℤ pos (get_or ops k d).number)) → k < length ops
-        → pos (get_or ops k d).number ≡ z → (k ≡ i) ⊎ ((k < i) ⊎ (i < k)) → ⊥
-    apart k rank l n (inl s) = let g = rank Greater (sym (h.1 k d (omega arith) l)) in omega (arith, ints)
-    apart k rank l n (inr (inl t)) = let g = rank Less (sym (h.0 k d (omega arith) t)) in omega (arith, ints)
-    apart k rank l n (inr (inr t)) = let g = rank Greater (sym (h.1 k d (omega arith) l)) in omega (arith, ints)
+    apart : (k : ℕ) → ((r : Ordering) → r ≡ int_cmp (pos (get_or ops k default).number) entry
+        → MatchOrdering r (pos (get_or ops k default).number <ℤ entry) (pos (get_or ops k default).number ≡ entry)
+        (entry <ℤ pos (get_or ops k default).number)) → k < length ops
+        → pos (get_or ops k default).number ≡ entry → (k ≡ i) ⊎ ((k < i) ⊎ (i < k)) → ⊥
+    apart k rank l n (inl s) = let g = rank Greater (sym (h.1 k default (omega arith) l)) in omega (arith, ints)
+    apart k rank l n (inr (inl t)) = let g = rank Less (sym (h.0 k default (omega arith) t)) in omega (arith, ints)
+    apart k rank l n (inr (inr t)) = let g = rank Greater (sym (h.1 k default (omega arith) l)) in omega (arith, ints)

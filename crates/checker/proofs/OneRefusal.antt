@@ -31,9 +31,12 @@ module _ (kind : Kind) (calls : List Call) (order : List ℤ) (i : ℕ) where
   same_entry : (z y : ℤ) → slice_get order i ≡ Some z → slice_get order i ≡ Some y → z ≡ y
   same_entry z y at at' = same_Some z y (sym at ∙ at')
 
-  same_named : (z y : ℤ) (c e : Call) → HasNumberAt calls order i z c → HasNumberAt calls order i y e → c ≡ e
-  same_named z y c e a b =
-      same_Some c e (sym a.named ∙ (ap (call_with_number calls) (same_entry z y a.here b.here) ∙ b.named))
+  -- one place names one call
+  same_named : (entry other : ℤ) (call called : Call) → HasNumberAt calls order i entry call
+      → HasNumberAt calls order i other called → call ≡ called
+  same_named entry other call called here there =
+      same_Some call called (sym here.named
+      ∙ (ap (call_with_number calls) (same_entry entry other here.here there.here) ∙ there.named))
 
   same_greatest : (by k : ℕ) → IsGreatest (pos by) (take i order) → IsGreatest (pos k) (take i order) → by ≡ k
   same_greatest by k g h =
@@ -43,15 +46,16 @@ module _ (kind : Kind) (calls : List Call) (order : List ℤ) (i : ℕ) where
       all_at (λ z. z ≤ℤ pos k) (take i order) h.above (pos by) (in_from_contains (take i order) (pos by) g.stands) in
       omega (arith, ints)
 
-  same_reply : (c e : Call) (d f after later : Content) (gives says : AnyReply) → c ≡ e
-      → content_at kind calls order i ≡ Some d
-      → content_at kind calls order i ≡ Some f → next d c.op ≡ Some (after, gives) → next f e.op ≡ Some (later, says)
-      → gives ≡ says
-  same_reply c e d f after later gives says same at at' n m =
-      let there : d ≡ f = same_Some d f (sym at ∙ at') in
-      let both : next d c.op ≡ next f e.op =
-      ap (λ (x : Content). next x c.op) there ∙ ap (λ (x : Call). next f x.op) same in
-      ap (λ (p : Content × AnyReply). p.1) (same_Some (after, gives) (later, says) (sym n ∙ (both ∙ m)))
+  -- one call in one content has one reply
+  same_reply : (call called : Call) (content there after after' : Content) (gives says : AnyReply) → call ≡ called
+      → content_at kind calls order i ≡ Some content
+      → content_at kind calls order i ≡ Some there → next content call.op ≡ Some (after, gives)
+      → next there called.op ≡ Some (after', says) → gives ≡ says
+  same_reply call called content there after after' gives says same at at' gives_it says_it =
+      let contents : content ≡ there = same_Some content there (sym at ∙ at') in
+      let both : next content call.op ≡ next there called.op =
+      ap (λ (x : Content). next x call.op) contents ∙ ap (λ (x : Call). next there x.op) same in
+      ap (λ (p : Content × AnyReply). p.1) (same_Some (after, gives) (after', says) (sym gives_it ∙ (both ∙ says_it)))
 
   -- two faults of one place and one rank are one
   same_at : (f g : OrderFault) → IsFaultAt kind calls order i f → IsFaultAt kind calls order i g

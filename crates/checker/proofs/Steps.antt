@@ -31,20 +31,19 @@ at_most n z e = omega (arith, ints)
 at_most_of : (n top : ℕ) (z : ℤ) → z ≡ pos n → n ≤ top → z ≤ℤ pos top
 at_most_of n top z e l = omega (arith, ints)
 
-pub numbers_apart : (ops : List Invocation) (k j : ℕ) (d e : Invocation) → AllPairs (λ a b. a.number < b.number) ops
-    → k < length ops → j < length ops
-    → k ≢ j → (get_or ops k d).number ≢ (get_or ops j e).number
-numbers_apart ops k j d e up l m ne q = elim (cases_order k j) [
-  | inl s ↦ ne s
-  | inr r ↦ elim r [
-    | inl t ↦
-        let g = up k j d t m in let s = ap (λ (y : Invocation). y.number) (get_or_default ops j d e m) in
-        absurd (omega arith)
-    | inr t ↦
-        let g = up j k d t l in let s = ap (λ (y : Invocation). y.number) (get_or_default ops j d e m) in
-        absurd (omega arith)
-  ]
-]
+-- operations at different places have different numbers, whichever default each read has
+pub numbers_apart : (ops : List Invocation) (k j : ℕ) (default other : Invocation)
+    → AllPairs (λ a b. a.number < b.number) ops → k < length ops → j < length ops → k ≢ j
+    → (get_or ops k default).number ≢ (get_or ops j other).number
+numbers_apart ops k j default other rising l m apart same =
+    let read = ap (λ (y : Invocation). y.number) (get_or_default ops j default other m) in
+    elim (cases_order k j) [
+      | inl s ↦ apart s
+      | inr r ↦ elim r [
+        | inl t ↦ let up = rising k j default t m in absurd (omega arith)
+        | inr t ↦ let up = rising j k default t l in absurd (omega arith)
+      ]
+    ]
 
 -- ---- which numbers an order has
 
@@ -88,14 +87,14 @@ TopIs (Some g) o = IsGreatest (pos g) o
 
 -- ---- what the walk knows
 
--- what is known after the entries o
-pub record Walk (kind : Kind) (ops : List Invocation) (o : List ℤ) (seen : List Bool) (content : Content)
+-- what is known after the entries of the order
+pub record Walk (kind : Kind) (ops : List Invocation) (order : List ℤ) (seen : List Bool) (content : Content)
     (greatest : Option ℕ) : Type 0 where
-  pub so_far : SoFar kind (calls_of ops) o content
+  pub so_far : SoFar kind (calls_of ops) order content
   pub of_kind : kind_with content ≡ kind
   pub long : length seen ≡ length ops
-  pub marks : (k : ℕ) (d : Invocation) → k < length ops → get_or seen k false ≡ stands_in (get_or ops k d).number o
-  pub top : TopIs greatest o
+  pub marks : (k : ℕ) (d : Invocation) → k < length ops → get_or seen k false ≡ stands_in (get_or ops k d).number order
+  pub top : TopIs greatest order
 
 -- ---- operations and their calls
 
@@ -141,19 +140,19 @@ call_at_place (o ∷ ops) (suc k) d c l e = behind (call_of o) (call_at_place op
     behind (Some e) i = inr i
 
 -- a call is the one that its number names
-pub one_call : (ops : List Invocation) (a b : Call) (d : Invocation) → AllPairs (λ a b. a.number < b.number) ops
+pub one_call : (ops : List Invocation) (a b : Call) (default : Invocation) → AllPairs (λ a b. a.number < b.number) ops
     → In a (calls_of ops) → In b (calls_of ops) → a.number ≡ b.number → a ≡ b
-one_call ops a b d up i j e =
+one_call ops a b default rising i j same =
     let p = place_of_call ops a i in
     let q = place_of_call ops b j in
-    let x = call_parts (get_or ops p.0 d) a (p.2 d) in
-    let y = call_parts (get_or ops q.0 d) b (q.2 d) in
+    let x = call_parts (get_or ops p.0 default) a (p.2 default) in
+    let y = call_parts (get_or ops q.0 default) b (q.2 default) in
     elim (cases_order p.0 q.0) [
-      | inl s ↦ same_Some a b (sym (p.2 d) ∙ (ap (λ k. call_of (get_or ops k d)) s ∙ q.2 d))
-      | inr r ↦ absurd (numbers_apart ops p.0 q.0 d d up p.1 q.1 (λ s. elim r [
+      | inl s ↦ same_Some a b (sym (p.2 default) ∙ (ap (λ k. call_of (get_or ops k default)) s ∙ q.2 default))
+      | inr r ↦ absurd (numbers_apart ops p.0 q.0 default default rising p.1 q.1 (λ s. elim r [
         | inl l ↦ omega arith
         | inr l ↦ omega arith
-      ]) (x.0 ∙ (e ∙ sym y.0)))
+      ]) (x.0 ∙ (same ∙ sym y.0)))
     ]
 
 -- ---- the greatest number
@@ -182,7 +181,8 @@ top_more (Some g) o n top t e = record {
   ]);
   above = all_from_in (λ z. z ≤ℤ pos top) (o ++ pos n ∷ []) (λ z i. elim (in_append z o (pos n ∷ []) i) [
     | inl j ↦
-        let a : z ≤ℤ pos g = all_at (λ z. z ≤ℤ pos g) o t.above z j in let m : g ≤ top = omega arith in
+        let a : z ≤ℤ pos g = all_at (λ z. z ≤ℤ pos g) o t.above z j in
+        let m : g ≤ top = omega arith in
         omega (arith, ints)
     | inr j ↦ elim j [ inl q ↦ let m : n ≤ top = omega arith in at_most_of n top z q m | inr k ↦ absurd k ]
   ]);
@@ -190,68 +190,76 @@ top_more (Some g) o n top t e = record {
 
 -- ---- one entry more
 
--- the entry at hand is that of the operation at place k
-pub record AtHand (ops : List Invocation) (z : ℤ) (k : ℕ) (c : Call) : Type 0 where
-  pub within : k < length ops
-  pub found : call_with_number (calls_of ops) z ≡ Some c
-  pub is : (d : Invocation) → call_of (get_or ops k d) ≡ Some c
+-- the entry at hand is that of the operation at this place
+pub record AtHand (ops : List Invocation) (entry : ℤ) (place : ℕ) (call : Call) : Type 0 where
+  pub within : place < length ops
+  pub found : call_with_number (calls_of ops) entry ≡ Some call
+  pub is : (d : Invocation) → call_of (get_or ops place d) ≡ Some call
 
-pub number_at : (ops : List Invocation) (z : ℤ) (k : ℕ) (c : Call) (d : Invocation) → AtHand ops z k c
-    → z ≡ pos (get_or ops k d).number
-number_at ops z k c d h =
-    found_number (calls_of ops) z c h.found ∙ ap pos (sym (call_parts (get_or ops k d) c (h.is d)).0)
+-- the entry is the number of that operation
+pub number_at : (ops : List Invocation) (entry : ℤ) (place : ℕ) (call : Call) (default : Invocation)
+    → AtHand ops entry place call → entry ≡ pos (get_or ops place default).number
+number_at ops entry place call default hand =
+    found_number (calls_of ops) entry call hand.found
+    ∙ ap pos (sym (call_parts (get_or ops place default) call (hand.is default)).0)
 
-pub away : (kind : Kind) (ops : List Invocation) (o : List ℤ) (seen : List Bool) (content : Content)
-    (greatest : Option ℕ) (z : ℤ) (k : ℕ) (c : Call)
-    (d : Invocation) → Walk kind ops o seen content greatest → AtHand ops z k c → get_or seen k false ≡ false
-    → In z o → ⊥
-away kind ops o seen content greatest z k c d w h fresh i =
-    stands_false (get_or ops k d).number o (sym (w.marks k d h.within) ∙ fresh) (rw (number_at ops z k c d h) at i)
+-- The entries of the order are passed, and the next is that of the operation at this place, which is not marked.
+module _ (kind : Kind) (ops : List Invocation) (order : List ℤ) (seen : List Bool) (content : Content)
+    (greatest : Option ℕ) (entry : ℤ) (place : ℕ) (call : Call) (default : Invocation) where
+  -- the order does not have the entry yet
+  pub away : Walk kind ops order seen content greatest → AtHand ops entry place call → get_or seen place false ≡ false
+      → In entry order → ⊥
+  away walk hand fresh i =
+      stands_false (get_or ops place default).number order (sym (walk.marks place default hand.within) ∙ fresh)
+      (rw (number_at ops entry place call default hand) at i)
 
--- one more entry
-pub walk_more : (kind : Kind) (ops : List Invocation) (o : List ℤ) (seen : List Bool) (content after : Content)
-    (greatest : Option ℕ) (z : ℤ) (k : ℕ) (c : Call) (d : Invocation) (top : ℕ)
-    → AllPairs (λ a b. a.number < b.number) ops → Walk kind ops o seen content greatest → AtHand ops z k c
-    → get_or seen k false ≡ false
-    → IsEarly (get_or ops k d).«end» greatest → IsStep content c after → kind_with after ≡ kind_with content
-    → top ≡ option_map_or (λ by. max by (get_or ops k d).number) greatest (get_or ops k d).number
-    → Walk kind ops (o ++ z ∷ []) (set seen k true) after (Some top)
-walk_more kind ops o seen content after greatest z k c d top up w h fresh early step kept new_top =
-    let x : Invocation = get_or ops k d in
-    let parts = call_parts x c (h.is d) in
-    let is_z : z ≡ pos x.number = number_at ops z k c d h in
-    record {
-      so_far = more kind (calls_of ops) o content after z c w.so_far h.found
-          (away kind ops o seen content greatest z k c d w h fresh)
-          (λ r q y i. all_early greatest o x.«end» r w.top early (parts.2 ∙ q) y i) step;
-      of_kind = kept ∙ w.of_kind;
-      long = length-set seen k true ∙ w.long;
-      marks = λ j e m. rw is_z (mark j e m);
-      top = rw is_z (top_more greatest o x.number top w.top new_top);
-    }
-  where
-    nothing : (a b : Bool) → b ≡ false → (a || b) ≡ a
-    nothing a b e = grind arith
+  -- an entry that came in time, is possible and gave its reply is passed too, and its operation marked
+  pub walk_more : (after : Content) (top : ℕ) → AllPairs (λ a b. a.number < b.number) ops
+      → Walk kind ops order seen content greatest → AtHand ops entry place call → get_or seen place false ≡ false
+      → IsEarly (get_or ops place default).«end» greatest → IsStep content call after
+      → kind_with after ≡ kind_with content
+      → top ≡ option_map_or (λ by. max by (get_or ops place default).number) greatest (get_or ops place default).number
+      → Walk kind ops (order ++ entry ∷ []) (set seen place true) after (Some top)
+  walk_more after top rising walk hand fresh early step kept new_top =
+      let made : Invocation = get_or ops place default in
+      let parts = call_parts made call (hand.is default) in
+      let its_number : entry ≡ pos made.number = number_at ops entry place call default hand in
+      record {
+        so_far = more kind (calls_of ops) order content after entry call walk.so_far hand.found (away walk hand fresh)
+            (λ r q y i. all_early greatest order made.«end» r walk.top early (parts.2 ∙ q) y i) step;
+        of_kind = kept ∙ walk.of_kind;
+        long = length-set seen place true ∙ walk.long;
+        marks = λ j e m. rw its_number (mark j e m);
+        top = rw its_number (top_more greatest order made.number top walk.top new_top);
+      }
+    where
+      nothing : (a b : Bool) → b ≡ false → (a || b) ≡ a
+      nothing a b e = grind arith
 
-    mark : (j : ℕ) (e : Invocation) → j < length ops
-        → get_or (set seen k true) j false ≡ stands_in (get_or ops j e).number (o ++ pos (get_or ops k d).number ∷ [])
-    mark j e m = elim (cases_eq j k) [
-      | inl q ↦
-          let same : (get_or ops j e).number ≡ (get_or ops k d).number =
-          ap (λ i. (get_or ops i e).number) q
-          ∙ ap (λ (y : Invocation). y.number) (get_or_default ops k e d h.within) in
-          let len = w.long in
-          let l = h.within in
-          let here : get_or (set seen k true) j false ≡ true =
-          rw (q, get_or-set_same seen k true false (omega arith)) in
-          here ∙ sym (stands_push (get_or ops j e).number (get_or ops k d).number o
-          ∙ or_right (stands_in (get_or ops j e).number o) ((get_or ops k d).number == (get_or ops j e).number)
-          (eq-eqb (get_or ops k d).number (get_or ops j e).number (sym same)))
-      | inr ne ↦
-          let other : (get_or ops k d).number ≢ (get_or ops j e).number =
-          numbers_apart ops k j d e up h.within m (λ q. ne (sym q)) in
-          get_or-set_other seen k j true false ne
-          ∙ (w.marks j e m ∙ sym (stands_push (get_or ops j e).number (get_or ops k d).number o
-          ∙ nothing (stands_in (get_or ops j e).number o) ((get_or ops k d).number == (get_or ops j e).number)
-          (ne_eqb (get_or ops k d).number (get_or ops j e).number other)))
-    ]
+      -- each mark says whether the number of its operation is in the order
+      mark : (j : ℕ) (other : Invocation) → j < length ops
+          → get_or (set seen place true) j false
+          ≡ stands_in (get_or ops j other).number (order ++ pos (get_or ops place default).number ∷ [])
+      mark j other inside = elim (cases_eq j place) [
+        | inl is ↦
+            let same : (get_or ops j other).number ≡ (get_or ops place default).number =
+                ap (λ i. (get_or ops i other).number) is
+                ∙ ap (λ (y : Invocation). y.number) (get_or_default ops place other default hand.within) in
+            let long = walk.long in
+            let within = hand.within in
+            let here : get_or (set seen place true) j false ≡ true =
+                rw (is, get_or-set_same seen place true false (omega arith)) in
+            here ∙ sym (stands_push (get_or ops j other).number (get_or ops place default).number order
+            ∙ or_right (stands_in (get_or ops j other).number order)
+            ((get_or ops place default).number == (get_or ops j other).number)
+            (eq-eqb (get_or ops place default).number (get_or ops j other).number (sym same)))
+        | inr ne ↦
+            let apart : (get_or ops place default).number ≢ (get_or ops j other).number =
+                numbers_apart ops place j default other rising hand.within inside (λ q. ne (sym q)) in
+            get_or-set_other seen place j true false ne
+            ∙ (walk.marks j other inside
+            ∙ sym (stands_push (get_or ops j other).number (get_or ops place default).number order
+            ∙ nothing (stands_in (get_or ops j other).number order)
+            ((get_or ops place default).number == (get_or ops j other).number)
+            (ne_eqb (get_or ops place default).number (get_or ops j other).number apart)))
+      ]

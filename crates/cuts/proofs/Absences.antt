@@ -221,81 +221,87 @@ abbrev IsSpent : ℤ → ℕ → Content → List Call → Type 0
 IsSpent v number c es = kept_size (int_eq v) c + tally (is_put_before v number) es ≤ tally (is_taken_before v number) es
 
 -- where nothing is taken early, the value is not there, and all stays
-all_stay : (v : ℤ) (number : ℕ) (es : List Call) (c d : Content) → IsOthers v c d → RepliesAlong c es
-    → IsSpent v number c es
-    → tally (is_taken_before v number) es ≡ 0 → RepliesAlong d (filter (stays v number) es)
-all_stay v number es c d s h spent none =
-    let put : tally (is_put_before v number) es ≡ 0 = omega arith in
-    let same = same_content v c d s (omega arith) in
-    let whole = filter_all (stays v number) es
+all_stay : (value : ℤ) (number : ℕ) (calls : List Call) (whole part : Content) → IsOthers value whole part
+    → RepliesAlong whole calls → IsSpent value number whole calls
+    → tally (is_taken_before value number) calls ≡ 0 → RepliesAlong part (filter (stays value number) calls)
+all_stay value number calls whole part others along spent none =
+    let put : tally (is_put_before value number) calls ≡ 0 = omega arith in
+    let same = same_content value whole part others (omega arith) in
+    let all = filter_all (stays value number) calls
     (λ e i.
-    let no_put = none_tallied (is_put_before v number) es put e i in
-    let no_removal = none_tallied (is_taken_before v number) es none e i in
+    let no_put = none_tallied (is_put_before value number) calls put e i in
+    let no_removal = none_tallied (is_taken_before value number) calls none e i in
     grind arith) in
-    subst (λ (z : Content). RepliesAlong z (filter (stays v number) es)) (sym same)
-    (subst (RepliesAlong c) (sym whole) h)
+    subst (λ (z : Content). RepliesAlong z (filter (stays value number) calls)) (sym same)
+    (subst (RepliesAlong whole) (sym all) along)
 
 -- how an early call changes what is there
-early_spent : (v : ℤ) (number : ℕ) (e : Call) (es : List Call) (c after : Content) (reply : AnyReply)
-    → Turn (int_eq v) e c after reply
-    → (is_put_before v number e || is_taken_before v number e) ≡ true → IsSpent v number c (e ∷ es)
-    → IsSpent v number after es
-early_spent v number e es c after reply t early spent =
-    elim (or_true (is_put_before v number e) (is_taken_before v number e) early) [
+early_spent : (value : ℤ) (number : ℕ) (call : Call) (later : List Call) (content after : Content) (reply : AnyReply)
+    → Turn (int_eq value) call content after reply
+    → (is_put_before value number call || is_taken_before value number call) ≡ true
+    → IsSpent value number content (call ∷ later) → IsSpent value number after later
+early_spent value number call later content after reply turned early spent =
+    elim (or_true (is_put_before value number call) (is_taken_before value number call) early) [
       | inl put ↦
-          let puts = ap one (early_put v number e put).0 in
+          let puts = ap one (early_put value number call put).0 in
           let here = ap one put in
-          let no_take = ap one (no_put_takes (int_eq v) e.op (Some reply) (early_put v number e put).0) in
-          let none_here = and_le (takes_out (int_eq v) e.op (reply_of e.returned)) (ended_before number e.returned) in
-          let none_told = ap one (no_put_takes (int_eq v) e.op (reply_of e.returned) (early_put v number e put).0) in
+          let no_take = ap one (no_put_takes (int_eq value) call.op (Some reply) (early_put value number call put).0) in
+          let none_here = and_le (takes_out (int_eq value) call.op (reply_of call.returned))
+              (ended_before number call.returned) in
+          let none_told = ap one (no_put_takes (int_eq value) call.op (reply_of call.returned)
+              (early_put value number call put).0) in
           omega arith
       | inr taken ↦
-          let told = ap one (early_removal v number e taken).0 in
+          let told = ap one (early_removal value number call taken).0 in
           let here = ap one taken in
-          let fewer = and_le (puts_in (int_eq v) e.op) (nat_lt e.number number) in
-          let none_put = no_put e.op (reply_of e.returned) (early_removal v number e taken).0 in
+          let fewer = and_le (puts_in (int_eq value) call.op) (nat_lt call.number number) in
+          let none_put = no_put call.op (reply_of call.returned) (early_removal value number call taken).0 in
           omega arith
     ]
   where
-    no_put : (op : AnyOp) (r : Option AnyReply) → takes_out (int_eq v) op r ≡ true → one (puts_in (int_eq v) op) ≡ 0
-    no_put op r k = let never = no_put_takes (int_eq v) op r in grind arith
+    no_put : (op : AnyOp) (r : Option AnyReply) → takes_out (int_eq value) op r ≡ true
+        → one (puts_in (int_eq value) op) ≡ 0
+    no_put op r k = let never = no_put_takes (int_eq value) op r in grind arith
 
-without_early : (v : ℤ) (number : ℕ) (es : List Call) (c d : Content) → IsOthers v c d → RepliesAlong c es
-    → Pairs (λ x y. ReturnsBefore y x → ⊥) es
-    → IsSpent v number c es → RepliesAlong d (filter (stays v number) es)
-without_early v number [] c d s h p spent = tt
-without_early v number (e ∷ es) c d s h p spent =
-    let t = turn (int_eq v) e c h.0 h.1 h.2 h.3 in
-    elim (true_or_false (is_put_before v number e || is_taken_before v number e)) [
+-- without the calls on the value the others have their replies, from what is there besides it
+without_early : (value : ℤ) (number : ℕ) (calls : List Call) (whole part : Content) → IsOthers value whole part
+    → RepliesAlong whole calls → Pairs (λ x y. ReturnsBefore y x → ⊥) calls
+    → IsSpent value number whole calls → RepliesAlong part (filter (stays value number) calls)
+without_early value number [] whole part others along in_time spent = tt
+without_early value number (call ∷ calls) whole part others along in_time spent =
+    let turned = turn (int_eq value) call whole along.0 along.1 along.2 along.3 in
+    elim (true_or_false (is_put_before value number call || is_taken_before value number call)) [
       | inl early ↦
-          let skipped = subst (λ z. IfSome z (λ p. Touches v e.op p.1 → IsOthers v p.0 d)) h.2 (skips v c d e.op s)
-          (touched h.1 early t.fewer) in
-          subst (RepliesAlong d) (sym (filter_away (stays v number) e es (ap not early)))
-          (without_early v number es h.0 d skipped h.4 p.1 (early_spent v number e es c h.0 h.1 t early spent))
+          let skipped = subst (λ z. IfSome z (λ p. Touches value call.op p.1 → IsOthers value p.0 part)) along.2
+              (skips value whole part call.op others) (touched along.1 early turned.fewer) in
+          subst (RepliesAlong part) (sym (filter_away (stays value number) call calls (ap not early)))
+          (without_early value number calls along.0 part skipped along.4 in_time.1
+          (early_spent value number call calls whole along.0 along.1 turned early spent))
       | inr late ↦
-          let no_early = or_parts (is_put_before v number e) (is_taken_before v number e) late in
-          elim (true_or_false (puts_in (int_eq v) e.op)) [
+          let no_early = or_parts (is_put_before value number call) (is_taken_before value number call) late in
+          elim (true_or_false (puts_in (int_eq value) call.op)) [
             | inl put ↦
-                let later = latter (puts_in (int_eq v) e.op) (nat_lt e.number number) put no_early.0 in
+                let later = latter (puts_in (int_eq value) call.op) (nat_lt call.number number) put no_early.0 in
                 let none_here = ap one no_early.1 in
-                let none_later = none_after v number e es later p.0 in
-                all_stay v number (e ∷ es) c d s h spent (omega arith)
-            | inr no_put ↦ elim (true_or_false (takes_out (int_eq v) e.op (Some h.1))) [
+                let none_later = none_after value number call calls later in_time.0 in
+                all_stay value number (call ∷ calls) whole part others along spent (omega arith)
+            | inr no_put ↦ elim (true_or_false (takes_out (int_eq value) call.op (Some along.1))) [
               | inl took ↦
                   let some_took = ap one took in
                   let none_put = ap one no_put in
                   let none_here = ap one no_early.1 in
-                  let owing = owed v number es h.0 h.4 p.1 in
+                  let owing = owed value number calls along.0 along.4 in_time.1 in
                   absurd (omega arith)
               | inr no_take ↦
-                  let g = subst (λ z. IfSome z (λ p. IsApart v e.op p.1 → Goes v e.op d p.0 p.1)) h.2
-                  (goes v c d e.op s) (no_put, no_take) in
+                  let g = subst
+                      (λ z. IfSome z (λ p. IsApart value call.op p.1 → Goes value call.op part p.0 p.1)) along.2
+                      (goes value whole part call.op others) (no_put, no_take) in
                   let none_took = ap one no_take in
                   let none_put = ap one no_put in
                   let none_here = ap one no_early.1 in
-                  let still : IsSpent v number h.0 es = omega arith in
-                  subst (RepliesAlong d) (sym (filter_here (stays v number) e es (ap not late)))
-                  (g.0, h.1, g.1, h.3, without_early v number es h.0 g.0 g.2 h.4 p.1 still)
+                  let still : IsSpent value number along.0 calls = omega arith in
+                  subst (RepliesAlong part) (sym (filter_here (stays value number) call calls (ap not late)))
+                  (g.0, along.1, g.1, along.3, without_early value number calls along.0 g.0 g.2 along.4 in_time.1 still)
             ]
           ]
     ]
@@ -303,13 +309,15 @@ without_early v number (e ∷ es) c d s h p spent =
     latter : (a b : Bool) → a ≡ true → (a && b) ≡ false → b ≡ false
     latter a b p e = grind arith
 
-    touched : (reply : AnyReply) → (is_put_before v number e || is_taken_before v number e) ≡ true
-        → one (takes_out (int_eq v) e.op (reply_of e.returned)) ≤ one (takes_out (int_eq v) e.op (Some reply))
-        → Touches v e.op reply
-    touched reply early fewer = elim (or_true (is_put_before v number e) (is_taken_before v number e) early) [
-      | inl put ↦ inl (early_put v number e put).0
-      | inr taken ↦ inr (more (takes_out (int_eq v) e.op (reply_of e.returned))
-          (takes_out (int_eq v) e.op (Some reply)) (early_removal v number e taken).0 fewer)
+    touched : (reply : AnyReply) → (is_put_before value number call || is_taken_before value number call) ≡ true
+        → one (takes_out (int_eq value) call.op (reply_of call.returned))
+        ≤ one (takes_out (int_eq value) call.op (Some reply))
+        → Touches value call.op reply
+    touched reply early fewer = elim
+        (or_true (is_put_before value number call) (is_taken_before value number call) early) [
+      | inl put ↦ inl (early_put value number call put).0
+      | inr taken ↦ inr (more (takes_out (int_eq value) call.op (reply_of call.returned))
+          (takes_out (int_eq value) call.op (Some reply)) (early_removal value number call taken).0 fewer)
     ]
       where
         more : (a b : Bool) → a ≡ true → one a ≤ one b → b ≡ true

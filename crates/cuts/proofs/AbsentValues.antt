@@ -67,7 +67,10 @@ pub absent_from : (v : ℤ) (before : ℕ) (ops : List Invocation) (put taken : 
     → taken ≡ count_by (λ o. op_is_taken_before v before o.op o.«end») ops → nat_le put taken ≡ true
     → IsAbsent v before (calls_of ops)
 absent_from v before ops put taken e f le = record {
-  taken = let p = put_counts v before ops in let t = taken_counts v before ops in grind (arith, nat_tests);
+  taken =
+      let puts = put_counts v before ops in
+      let takes = taken_counts v before ops in
+      grind (arith, nat_tests);
 }
 
 pub absent_to : (v : ℤ) (before : ℕ) (ops : List Invocation) (put taken : ℕ)

@@ -53,10 +53,14 @@ record Shown (op : AnyOp) (o : Option Return) (at : ℕ) (found : Option ℤ) : 
   pub returned : o ≡ Some (record { at = at; reply = reply })
   pub value : reply ≡ Value found
 
-pub pair_first : (a b : ℕ) (x y : Option ℤ) → ◌≡◌ {A = Option (ℕ × Option ℤ)} (Some (a, x)) (Some (b, y))
-    → (a ≡ b) × (x ≡ y)
-pair_first a b x y e = let p : ℕ × Option ℤ = (a, x) in let q : ℕ × Option ℤ = (b, y) in let s = same_Some p
-    q e in (ap (λ (z : ℕ × Option ℤ). z.0) s, ap (λ (z : ℕ × Option ℤ). z.1) s)
+-- the parts of two findings that are equal are equal
+pub pair_first : (at at' : ℕ) (found found' : Option ℤ)
+    → ◌≡◌ {A = Option (ℕ × Option ℤ)} (Some (at, found)) (Some (at', found')) → (at ≡ at') × (found ≡ found')
+pair_first at at' found found' same =
+    let pair : ℕ × Option ℤ = (at, found) in
+    let pair' : ℕ × Option ℤ = (at', found') in
+    let pairs = same_Some pair pair' same in
+    (ap (λ (z : ℕ × Option ℤ). z.0) pairs, ap (λ (z : ℕ × Option ℤ). z.1) pairs)
 
 shown_by : (op : AnyOp) (o : Option Return) (at : ℕ) (found : Option ℤ) → found_by op o ≡ Some (at, found)
     → Shown op o at found
@@ -96,46 +100,48 @@ not_put keeps op t p = grind arith
 -- ---- the order, split at the removal
 
 -- the removal in an order, and what is before and after it
-record Split (kind : Kind) (calls : List Call) (n : Call) : Type 0 where
+record Split (kind : Kind) (calls : List Call) (removal : Call) : Type 0 where
   pub earlier : List Call
   pub later : List Call
-  pub replies : RepliesAlong (empty kind) (earlier ++ n ∷ later)
-  pub in_time : Pairs (λ x y. ReturnsBefore y x → ⊥) (earlier ++ n ∷ later)
-  pub apart : Pairs (λ x y. x.number ≢ y.number) (earlier ++ n ∷ later)
+  pub replies : RepliesAlong (empty kind) (earlier ++ removal ∷ later)
+  pub in_time : Pairs (λ x y. ReturnsBefore y x → ⊥) (earlier ++ removal ∷ later)
+  pub apart : Pairs (λ x y. x.number ≢ y.number) (earlier ++ removal ∷ later)
   pub distinct : Pairs (λ x y. x ≢ y) calls
   pub known : (e : Call) → In e earlier → In e calls
-  pub whole : (e : Call) → In e calls → IsSome e.returned → In e (earlier ++ n ∷ later)
+  pub whole : (e : Call) → In e calls → IsSome e.returned → In e (earlier ++ removal ∷ later)
 
-split_at : (kind : Kind) (calls : List Call) (order : List ℤ) (n : Call)
-    → AllPairs (λ a b. a.number < b.number) calls → Contains calls n → IsSome n.returned
-    → IsValidOrder kind calls order → Split kind calls n
-split_at kind calls order n rising stands ended v =
-    let s = in_split n v.entries (in_entries v n (in_from_contains calls n stands) ended) in
+split_at : (kind : Kind) (calls : List Call) (order : List ℤ) (removal : Call)
+    → AllPairs (λ a b. a.number < b.number) calls → Contains calls removal → IsSome removal.returned
+    → IsValidOrder kind calls order → Split kind calls removal
+split_at kind calls order removal rising stands ended valid =
+    let split = in_split removal valid.entries (in_entries valid removal (in_from_contains calls removal stands)
+        ended) in
     record {
-      earlier = s.0;
-      later = s.1;
-      replies = subst (RepliesAlong (empty kind)) s.2 v.replies;
-      in_time = subst (Pairs (λ x y. ReturnsBefore y x → ⊥)) s.2 (in_time_order v);
-      apart = subst (Pairs (λ x y. x.number ≢ y.number)) s.2 (numbers_apart v);
+      earlier = split.0;
+      later = split.1;
+      replies = subst (RepliesAlong (empty kind)) split.2 valid.replies;
+      in_time = subst (Pairs (λ x y. ReturnsBefore y x → ⊥)) split.2 (in_time_order valid);
+      apart = subst (Pairs (λ x y. x.number ≢ y.number)) split.2 (numbers_apart valid);
       distinct = calls_apart calls rising;
-      known = λ e i. in_calls v e (subst (In e) (sym s.2) (in_left e s.0 (n ∷ s.1) i));
-      whole = λ e i q. subst (In e) s.2 (in_entries v e i q);
+      known = λ e i. in_calls valid e (subst (In e) (sym split.2) (in_left e split.0 (removal ∷ split.1) i));
+      whole = λ e i q. subst (In e) split.2 (in_entries valid e i q);
     }
 
 -- a put that returned before the removal was invoked is before it
-early : (kind : Kind) (calls : List Call) (n : Call) (s : Split kind calls n) (keeps : ℤ → Bool)
-    (from before : ℕ) → is_removal n.op ≡ true → before ≤ n.number
-    → (e : Call) → In e calls → is_put_ahead keeps from before e ≡ true → In e s.earlier
-early kind calls n s keeps from before removal l e i p =
-    let q = put_parts keeps from before e p in
-    let t = ended before e.returned q.1 in
-    elim (in_append e s.earlier (n ∷ s.later) (s.whole e i (subst IsSome (sym t.1) refl))) [
+early : (kind : Kind) (calls : List Call) (removal : Call) (split : Split kind calls removal) (keeps : ℤ → Bool)
+    (from before : ℕ) → is_removal removal.op ≡ true → before ≤ removal.number
+    → (put : Call) → In put calls → is_put_ahead keeps from before put ≡ true → In put split.earlier
+early kind calls removal split keeps from before removes invoked put among counts =
+    let parts = put_parts keeps from before put counts in
+    let back = ended before put.returned parts.1 in
+    elim (in_append put split.earlier (removal ∷ split.later)
+    (split.whole put among (subst IsSome (sym back.1) refl))) [
       | inl j ↦ j
       | inr j ↦ elim j [
-        | inl w ↦ absurd (not_put keeps n.op removal (ap (λ (z : Call). puts_in keeps z.op) (sym w) ∙ q.0))
+        | inl w ↦ absurd (not_put keeps removal.op removes (ap (λ (z : Call). puts_in keeps z.op) (sym w) ∙ parts.0))
         | inr k ↦ absurd
-            (pairs_beyond (λ x y. ReturnsBefore y x → ⊥) s.earlier n s.later s.in_time e k
-            (t.0, t.1, reach t.0.at before n.number t.2 l))
+            (pairs_beyond (λ x y. ReturnsBefore y x → ⊥) split.earlier removal split.later split.in_time put k
+            (back.0, back.1, reach back.0.at before removal.number back.2 invoked))
       ]
     ]
   where
@@ -143,22 +149,24 @@ early kind calls n s keeps from before removal l e i p =
     reach a before number l m = omega arith
 
 -- What may take one out before the removal is another call, and was not invoked after its response.
-taken_early : (kind : Kind) (calls : List Call) (n : Call) (s : Split kind calls n) (keeps : ℤ → Bool)
-    (r : Return) → n.returned ≡ Some r
-    → tally (may_by keeps) s.earlier ≤ count_by (may_precede keeps n.number r.at) calls
-taken_early kind calls n s keeps r returned =
-    let late : (e : Call) → In e s.earlier → may_by keeps e ≡ true → may_precede keeps n.number r.at e ≡ true =
+taken_early : (kind : Kind) (calls : List Call) (removal : Call) (split : Split kind calls removal) (keeps : ℤ → Bool)
+    (response : Return) → removal.returned ≡ Some response
+    → tally (may_by keeps) split.earlier ≤ count_by (may_precede keeps removal.number response.at) calls
+taken_early kind calls removal split keeps response returned =
+    let late : (e : Call) → In e split.earlier → may_by keeps e ≡ true → may_precede keeps removal.number response.at e
+        ≡ true =
     λ e i p.
-    let other = pairs_to (λ x y. x.number ≢ y.number) s.earlier n s.later s.apart e i in
-    let in_time = pairs_to (λ x y. ReturnsBefore y x → ⊥) s.earlier n s.later s.in_time e i in
-    and_from (may_by keeps e) (not (e.number == n.number || nat_lt r.at e.number)) p
-    (elsewhere e.number n.number r.at other (λ w. in_time (r, returned, w))) in
-    let front = pairs_weaker (λ x y. x.number ≢ y.number) (λ x y. x ≢ y) s.earlier
+    let other = pairs_to (λ x y. x.number ≢ y.number) split.earlier removal split.later split.apart e i in
+    let in_time = pairs_to (λ x y. ReturnsBefore y x → ⊥) split.earlier removal split.later split.in_time e i in
+    and_from (may_by keeps e) (not (e.number == removal.number || nat_lt response.at e.number)) p
+    (elsewhere e.number removal.number response.at other (λ w. in_time (response, returned, w))) in
+    let front = pairs_weaker (λ x y. x.number ≢ y.number) (λ x y. x ≢ y) split.earlier
     (λ x y i j ne e. ne (ap (λ (z : Call). z.number) e))
-    (pairs_front (λ x y. x.number ≢ y.number) s.earlier (n ∷ s.later) s.apart) in
-    let a = tally_le (may_by keeps) (may_precede keeps n.number r.at) s.earlier late in
-    let b = count_among (may_precede keeps n.number r.at) s.earlier calls front (λ e i p. s.known e i) in
-    let d = count_tally (may_precede keeps n.number r.at) calls in
+    (pairs_front (λ x y. x.number ≢ y.number) split.earlier (removal ∷ split.later) split.apart) in
+    let may = tally_le (may_by keeps) (may_precede keeps removal.number response.at) split.earlier late in
+    let few = count_among (may_precede keeps removal.number response.at) split.earlier calls front
+        (λ e i p. split.known e i) in
+    let counted = count_tally (may_precede keeps removal.number response.at) calls in
     omega arith
   where
     elsewhere : (a number at : ℕ) → a ≢ number → (at < a → ⊥) → not (a == number || nat_lt at a) ≡ true
@@ -166,47 +174,54 @@ taken_early kind calls n s keeps r returned =
 
 -- ---- the general case, a queue and a stack
 
-plain_case : (kind : Kind) (calls : List Call) (n : Call) (s : Split kind calls n) (r : Return)
-    (o : Option ℤ) (from before : ℕ) → is_removal n.op ≡ true → n.returned ≡ Some r → r.reply ≡ Value o
-    → (n.op ≡ Dequeue → o ≡ None) → (n.op ≡ Pop → o ≡ None) → before ≤ n.number
-    → count_by (is_put_ahead (is_value_ahead o n.op) from before) calls ≤ tally
-    (may_by (is_value_ahead o n.op)) s.earlier
-plain_case kind calls n s r o from before removal returned value d u l =
-    let keeps = is_value_ahead o n.op in
-    let more = count_among (is_put_ahead keeps from before) calls s.earlier s.distinct
-    (early kind calls n s keeps from before removal l) in
-    let puts = tally_le (is_put_ahead keeps from before) (put_by keeps) s.earlier
+-- in general, what was ahead of the removal was taken out before it, since where it is done nothing ahead of it is left
+plain_case : (kind : Kind) (calls : List Call) (removal : Call) (split : Split kind calls removal) (response : Return)
+    (found : Option ℤ) (from before : ℕ) → is_removal removal.op ≡ true → removal.returned ≡ Some response
+    → response.reply ≡ Value found
+    → (removal.op ≡ Dequeue → found ≡ None) → (removal.op ≡ Pop → found ≡ None) → before ≤ removal.number
+    → count_by (is_put_ahead (is_value_ahead found removal.op) from before) calls ≤ tally
+    (may_by (is_value_ahead found removal.op)) split.earlier
+plain_case kind calls removal split response found from before removes returned gave dequeued popped invoked =
+    let keeps = is_value_ahead found removal.op in
+    let more = count_among (is_put_ahead keeps from before) calls split.earlier split.distinct
+    (early kind calls removal split keeps from before removes invoked) in
+    let puts = tally_le (is_put_ahead keeps from before) (put_by keeps) split.earlier
     (λ e i p. (put_parts keeps from before e p).0) in
-    let here = spent n r o s.earlier s.later kind removal returned value d u s.replies in
+    let here = spent removal response found split.earlier split.later kind removes returned gave dequeued popped
+        split.replies in
     let counted = count_tally (is_put_ahead keeps from before) calls in
     omega arith
 
-queue_case : (kind : Kind) (calls : List Call) (n : Call) (s : Split kind calls n) (r : Return) (b : ℤ)
-    (from before : ℕ) → kind ≡ variant.Queue → n.op ≡ Dequeue → n.returned ≡ Some r → r.reply ≡ Value (Some b)
-    → before ≤ n.number → ((p : Call) → In p calls → puts_in (int_eq b) p.op ≡ true → before ≤ p.number)
+-- what was put into a queue before the value that it gave was taken out before that
+queue_case : (kind : Kind) (calls : List Call) (removal : Call) (split : Split kind calls removal) (response : Return)
+    (found : ℤ) (from before : ℕ) → kind ≡ variant.Queue → removal.op ≡ Dequeue → removal.returned ≡ Some response
+    → response.reply ≡ Value (Some found)
+    → before ≤ removal.number → ((p : Call) → In p calls → puts_in (int_eq found) p.op ≡ true → before ≤ p.number)
     → All (λ e. (r : Return) → e.returned ≡ Some r → e.number < r.at) calls
-    → count_by (is_put_ahead every from before) calls ≤ tally (may_by every) s.earlier
-queue_case kind calls n s r b from before is_queue dequeue returned value l first ends =
-    let removal : is_removal n.op ≡ true = ap is_removal dequeue in
-    let gives : (reply : AnyReply) → IfSome n.returned (λ r. r.reply ≡ reply) → reply ≡ Value (Some b) =
-    λ reply h. sym (subst (λ z. IfSome z (λ r. r.reply ≡ reply)) returned h) ∙ value in
-    let replies : RepliesAlong (queue []) (s.earlier ++ n ∷ s.later) = subst
-    (λ (k : Kind). RepliesAlong (empty k) (s.earlier ++ n ∷ s.later)) is_queue s.replies in
-    let here = queue_spent b s.earlier n s.later [] dequeue gives replies in
-    let in_time = pairs_front (λ x y. ReturnsBefore y x → ⊥) s.earlier (n ∷ s.later) s.in_time in
-    let ahead : (e : Call) → In e calls → is_put_ahead every from before e ≡ true → In e (until_put b s.earlier) =
+    → count_by (is_put_ahead every from before) calls ≤ tally (may_by every) split.earlier
+queue_case kind calls removal split response found from before is_queue dequeue returned gave invoked first ends =
+    let removes : is_removal removal.op ≡ true = ap is_removal dequeue in
+    let gives : (reply : AnyReply) → IfSome removal.returned (λ r. r.reply ≡ reply) → reply ≡ Value (Some found) =
+    λ reply h. sym (subst (λ z. IfSome z (λ r. r.reply ≡ reply)) returned h) ∙ gave in
+    let replies : RepliesAlong (queue []) (split.earlier ++ removal ∷ split.later) = subst
+    (λ (k : Kind). RepliesAlong (empty k) (split.earlier ++ removal ∷ split.later)) is_queue split.replies in
+    let here = queue_spent found split.earlier removal split.later [] dequeue gives replies in
+    let in_time = pairs_front (λ x y. ReturnsBefore y x → ⊥) split.earlier (removal ∷ split.later) split.in_time in
+    let ahead : (e : Call) → In e calls → is_put_ahead every from before e ≡ true
+        → In e (until_put found split.earlier) =
     λ e i p.
     let q = put_parts every from before e p in
     let t = ended before e.returned q.1 in
-    in_until b s.earlier e (early kind calls n s every from before removal l e i p) in_time
-    (λ z j w. (t.0, t.1, reach t.0.at before z.number t.2 (first z (s.known z j) w)))
+    in_until found split.earlier e (early kind calls removal split every from before removes invoked e i p) in_time
+    (λ z j w. (t.0, t.1, reach t.0.at before z.number t.2 (first z (split.known z j) w)))
     (λ w. turned e.number w.0.at
     (all_at (λ e. (r : Return) → e.returned ≡ Some r → e.number < r.at) calls ends e i w.0 w.1) w.2) in
-    let more = count_among (is_put_ahead every from before) calls (until_put b s.earlier) s.distinct ahead in
-    let puts = tally_le (is_put_ahead every from before) (put_by every) (until_put b s.earlier)
+    let more = count_among (is_put_ahead every from before) calls (until_put found split.earlier)
+        split.distinct ahead in
+    let puts = tally_le (is_put_ahead every from before) (put_by every) (until_put found split.earlier)
     (λ e i p. (put_parts every from before e p).0) in
     let counted = count_tally (is_put_ahead every from before) calls in
-    let fresh = fresh_until b s.earlier in
+    let fresh = fresh_until found split.earlier in
     omega arith
   where
     reach : (a before number : ℕ) → a < before → before ≤ number → a < number
@@ -215,36 +230,41 @@ queue_case kind calls n s r b from before is_queue dequeue returned value l firs
     turned : (a b : ℕ) → a < b → b < a → ⊥
     turned a b l m = omega arith
 
-stack_case : (kind : Kind) (calls : List Call) (n : Call) (s : Split kind calls n) (r : Return) (b : ℤ)
-    (from before : ℕ) → kind ≡ variant.Stack → n.op ≡ Pop → n.returned ≡ Some r → r.reply ≡ Value (Some b)
-    → before ≤ n.number → list_all (λ e. not (puts_in (int_eq b) e.op) || ended_before from e.returned)
+-- what was put on a stack after the value that it gave was taken off before that
+stack_case : (kind : Kind) (calls : List Call) (removal : Call) (split : Split kind calls removal) (response : Return)
+    (found : ℤ) (from before : ℕ) → kind ≡ variant.Stack → removal.op ≡ Pop → removal.returned ≡ Some response
+    → response.reply ≡ Value (Some found)
+    → before ≤ removal.number → list_all (λ e. not (puts_in (int_eq found) e.op) || ended_before from e.returned)
     calls ≡ true → All (λ e. (r : Return) → e.returned ≡ Some r → e.number < r.at) calls
-    → count_by (is_put_ahead every from before) calls ≤ tally (may_by every) s.earlier
-stack_case kind calls n s r b from before is_stack pop returned value l settled ends =
-    let removal : is_removal n.op ≡ true = ap is_removal pop in
-    let gives : (reply : AnyReply) → IfSome n.returned (λ r. r.reply ≡ reply) → reply ≡ Value (Some b) =
-    λ reply h. sym (subst (λ z. IfSome z (λ r. r.reply ≡ reply)) returned h) ∙ value in
-    let replies : RepliesAlong (stack []) (s.earlier ++ n ∷ s.later) = subst
-    (λ (k : Kind). RepliesAlong (empty k) (s.earlier ++ n ∷ s.later)) is_stack s.replies in
-    let since = since_along b s.earlier n s.later [] replies in
-    let here = stack_spent b (since_put b s.earlier) n s.later since.0 pop gives (since_none b s.earlier) since.1 in
-    let in_time = pairs_front (λ x y. ReturnsBefore y x → ⊥) s.earlier (n ∷ s.later) s.in_time in
-    let above : (e : Call) → In e calls → is_put_ahead every from before e ≡ true → In e (since_put b s.earlier) =
+    → count_by (is_put_ahead every from before) calls ≤ tally (may_by every) split.earlier
+stack_case kind calls removal split response found from before is_stack pop returned gave invoked settled ends =
+    let removes : is_removal removal.op ≡ true = ap is_removal pop in
+    let gives : (reply : AnyReply) → IfSome removal.returned (λ r. r.reply ≡ reply) → reply ≡ Value (Some found) =
+    λ reply h. sym (subst (λ z. IfSome z (λ r. r.reply ≡ reply)) returned h) ∙ gave in
+    let replies : RepliesAlong (stack []) (split.earlier ++ removal ∷ split.later) = subst
+    (λ (k : Kind). RepliesAlong (empty k) (split.earlier ++ removal ∷ split.later)) is_stack split.replies in
+    let since = since_along found split.earlier removal split.later [] replies in
+    let here = stack_spent found (since_put found split.earlier) removal split.later since.0 pop gives
+        (since_none found split.earlier) since.1 in
+    let in_time = pairs_front (λ x y. ReturnsBefore y x → ⊥) split.earlier (removal ∷ split.later) split.in_time in
+    let above : (e : Call) → In e calls → is_put_ahead every from before e ≡ true
+        → In e (since_put found split.earlier) =
     λ e i p.
     let q = put_parts every from before e p in
-    in_since b s.earlier e (early kind calls n s every from before removal l e i p) in_time
+    in_since found split.earlier e (early kind calls removal split every from before removes invoked e i p) in_time
     (λ z j w.
     let t = ended from z.returned
-    (either (puts_in (int_eq b) z.op) (ended_before from z.returned) w
-    (each_passes (λ (e : Call). not (puts_in (int_eq b) e.op) || ended_before from e.returned) calls settled
-    z (s.known z j))) in
+    (either (puts_in (int_eq found) z.op) (ended_before from z.returned) w
+    (each_passes (λ (e : Call). not (puts_in (int_eq found) e.op) || ended_before from e.returned) calls settled
+    z (split.known z j))) in
     (t.0, t.1, reach t.0.at from e.number t.2 q.2))
     (λ w. turned e.number w.0.at
     (all_at (λ e. (r : Return) → e.returned ≡ Some r → e.number < r.at) calls ends e i w.0 w.1) w.2) in
-    let more = count_among (is_put_ahead every from before) calls (since_put b s.earlier) s.distinct above in
-    let puts = tally_le (is_put_ahead every from before) (put_by every) (since_put b s.earlier)
+    let more = count_among (is_put_ahead every from before) calls (since_put found split.earlier)
+        split.distinct above in
+    let puts = tally_le (is_put_ahead every from before) (put_by every) (since_put found split.earlier)
     (λ e i p. (put_parts every from before e p).0) in
-    let fewer = since_tally (may_by every) b s.earlier in
+    let fewer = since_tally (may_by every) found split.earlier in
     let counted = count_tally (is_put_ahead every from before) calls in
     omega arith
   where
@@ -268,55 +288,59 @@ removal_cases (Some b) Dequeue = inr (inl (b, refl, refl))
 removal_cases (Some b) Pop = inr (inr (b, refl, refl))
 removal_cases (Some b) op = inl (λ e. absurd (cc e), λ e. absurd (cc e))
 
-abbrev Bounded : (kind : Kind) (calls : List Call) (n : Call) (s : Split kind calls n) (from : ℕ)
-    (op : AnyOp) (o : Option ℤ) → Type 0
-Bounded kind calls n s from op o = count_by
-    (is_put_ahead (is_value_ahead o op) from (ahead_before o op n.number calls)) calls ≤ tally
-    (may_by (is_value_ahead o op)) s.earlier
+abbrev Bounded : (kind : Kind) (calls : List Call) (removal : Call) (split : Split kind calls removal) (from : ℕ)
+    (op : AnyOp) (found : Option ℤ) → Type 0
+Bounded kind calls removal split from op found = count_by
+    (is_put_ahead (is_value_ahead found op) from (ahead_before found op removal.number calls)) calls ≤ tally
+    (may_by (is_value_ahead found op)) split.earlier
 
-moved : (kind : Kind) (calls : List Call) (n : Call) (s : Split kind calls n) (from : ℕ) (op own : AnyOp)
-    (o : Option ℤ) (b : ℤ) → op ≡ own → o ≡ Some b → Bounded kind calls n s from own (Some b)
-    → Bounded kind calls n s from op o
-moved kind calls n s from op own o b e f h =
-    subst (λ (o : Option ℤ). Bounded kind calls n s from op o) (sym f)
-    (subst (λ (op : AnyOp). Bounded kind calls n s from op (Some b)) (sym e) h)
+-- a bound that holds of the operation and of the value that was found holds of the removal
+moved : (kind : Kind) (calls : List Call) (removal : Call) (split : Split kind calls removal) (from : ℕ)
+    (op own : AnyOp) (found : Option ℤ) (value : ℤ) → op ≡ own → found ≡ Some value
+    → Bounded kind calls removal split from own (Some value) → Bounded kind calls removal split from op found
+moved kind calls removal split from op own found value same is bounded =
+    subst (λ (found : Option ℤ). Bounded kind calls removal split from op found) (sym is)
+    (subst (λ (op : AnyOp). Bounded kind calls removal split from op (Some value)) (sym same) bounded)
 
 -- What definitely was ahead of what a removal found was taken out before it.
-pub ahead_bounded : (kind : Kind) (calls : List Call) (n : Call) (at from : ℕ) (found : Option ℤ)
+pub ahead_bounded : (kind : Kind) (calls : List Call) (removal : Call) (at from : ℕ) (found : Option ℤ)
     (order : List ℤ) → All (λ e. kind_of e.op ≡ kind) calls → AllPairs (λ a b. a.number < b.number) calls
-    → All (λ e. (r : Return) → e.returned ≡ Some r → e.number < r.at) calls → Contains calls n
-    → found_by n.op n.returned ≡ Some (at, found) → is_settled found n.op from calls ≡ true
+    → All (λ e. (r : Return) → e.returned ≡ Some r → e.number < r.at) calls → Contains calls removal
+    → found_by removal.op removal.returned ≡ Some (at, found) → is_settled found removal.op from calls ≡ true
     → IsValidOrder kind calls order
-    → count_by (is_put_ahead (is_value_ahead found n.op) from (ahead_before found n.op n.number calls))
-    calls ≤ count_by (may_precede (is_value_ahead found n.op) n.number at) calls
-ahead_bounded kind calls n at from found order of_kind rising ends stands told settled v =
-    let w = shown_by n.op n.returned at found told in
-    let r : Return = record { at = at; reply = w.reply } in
-    let s = split_at kind calls order n rising stands (subst IsSome (sym w.returned) refl) v in
-    let of_op : (op : AnyOp) → n.op ≡ op → kind ≡ kind_of op = λ op e. sym
-    (all_at (λ e. kind_of e.op ≡ kind) calls of_kind n (in_from_contains calls n stands)) ∙ ap kind_of e in
-    let here : Bounded kind calls n s from n.op found =
-    elim (removal_cases found n.op) [
-      | inl d ↦ plain_case kind calls n s r found from (ahead_before found n.op n.number calls) w.removal
-          w.returned w.value d.0 d.1 (before_removal found n.op n.number calls)
+    → count_by (is_put_ahead (is_value_ahead found removal.op) from
+    (ahead_before found removal.op removal.number calls))
+    calls ≤ count_by (may_precede (is_value_ahead found removal.op) removal.number at) calls
+ahead_bounded kind calls removal at from found order of_kind rising ends stands told settled valid =
+    let shows = shown_by removal.op removal.returned at found told in
+    let response : Return = record { at = at; reply = shows.reply } in
+    let split = split_at kind calls order removal rising stands (subst IsSome (sym shows.returned) refl) valid in
+    let of_op : (op : AnyOp) → removal.op ≡ op → kind ≡ kind_of op = λ op e. sym
+    (all_at (λ e. kind_of e.op ≡ kind) calls of_kind removal (in_from_contains calls removal stands)) ∙ ap kind_of e in
+    let here : Bounded kind calls removal split from removal.op found =
+    elim (removal_cases found removal.op) [
+      | inl d ↦ plain_case kind calls removal split response found from
+          (ahead_before found removal.op removal.number calls) shows.removal
+          shows.returned shows.value d.0 d.1 (before_removal found removal.op removal.number calls)
       | inr c ↦ elim c [
         | inl c ↦
-            let q = queue_case kind calls n s r c.0 from (min n.number (first_put c.0 calls))
-            (of_op Dequeue c.2) c.2 w.returned
-            (w.value ∙ ap Value c.1) (least_of n.number (first_put c.0 calls)).0
+            let q = queue_case kind calls removal split response c.0 from (min removal.number (first_put c.0 calls))
+            (of_op Dequeue c.2) c.2 shows.returned
+            (shows.value ∙ ap Value c.1) (least_of removal.number (first_put c.0 calls)).0
             (λ p i e.
-            let below = (least_of n.number (first_put c.0 calls)).1 in
+            let below = (least_of removal.number (first_put c.0 calls)).1 in
             let first = first_least c.0 calls (pairs_from_all (λ a b. a.number < b.number) calls rising) p i e in
             omega arith) ends in
-            moved kind calls n s from n.op Dequeue found c.0 c.2 c.1 q
+            moved kind calls removal split from removal.op Dequeue found c.0 c.2 c.1 q
         | inr c ↦
             let all : is_settled (Some c.0) Pop from calls ≡ true = subst
             (λ (o : Option ℤ). is_settled o Pop from calls ≡ true) c.1
             (subst (λ (op : AnyOp). is_settled found op from calls ≡ true) c.2 settled) in
-            let q = stack_case kind calls n s r c.0 from n.number (of_op Pop c.2) c.2 w.returned
-            (w.value ∙ ap Value c.1) (omega arith) all ends in
-            moved kind calls n s from n.op Pop found c.0 c.2 c.1 q
+            let q = stack_case kind calls removal split response c.0 from removal.number (of_op Pop c.2)
+                c.2 shows.returned
+            (shows.value ∙ ap Value c.1) (omega arith) all ends in
+            moved kind calls removal split from removal.op Pop found c.0 c.2 c.1 q
       ]
     ] in
-    let taken = taken_early kind calls n s (is_value_ahead found n.op) r w.returned in
+    let taken = taken_early kind calls removal split (is_value_ahead found removal.op) response shows.returned in
     omega arith

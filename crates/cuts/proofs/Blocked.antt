@@ -75,17 +75,17 @@ is_settled-calls : (found : Option ℤ) (op : AnyOp) (from : ℕ) (ops : List In
 is_settled-calls None op from ops = refl
 is_settled-calls (Some b) Pop from ops = each ops
   where
-    one_more : (o : Invocation) (es : List Call) (e : End) (t : Bool)
+    with_operation : (o : Invocation) (es : List Call) (e : End) (t : Bool)
         → t ≡ list_all (λ e. not (puts_in (int_eq b) e.op) || ended_before from e.returned) es
         → ((not (is_put (int_eq b) o.op e) || is_over from e) && t) ≡ list_all
         (λ e. not (puts_in (int_eq b) e.op) || ended_before from e.returned)
         (cons_option (call_with o.number o.op e) es)
-    one_more o es e t h = grind arith
+    with_operation o es e t h = grind arith
 
     each : (ops : List Invocation) → list_all (op_is_settled b from) ops ≡ list_all
         (λ e. not (puts_in (int_eq b) e.op) || ended_before from e.returned) (calls_of ops)
     each [] = refl
-    each (o ∷ os) = one_more o (calls_of os) o.«end» (list_all (op_is_settled b from) os) (each os)
+    each (o ∷ os) = with_operation o (calls_of os) o.«end» (list_all (op_is_settled b from) os) (each os)
 is_settled-calls (Some b) op from ops = refl
 
 -- ---- a blocked removal as an operation
@@ -124,8 +124,8 @@ blocked_from ops number from op at found t settled l =
           (calls_of ops)) (sym t.same) here;
     }
   where
-    less : (a b c d : ℕ) → a ≡ b → c ≡ d → a < c → b < d
-    less a b c d e f l = omega arith
+    less : (few few' many many' : ℕ) → few ≡ few' → many ≡ many' → few < many → few' < many'
+    less few few' many many' e f l = omega arith
 
 -- the removal of a blocked number, as an operation
 pub blocked_operation : (ops : List Invocation) (number from : ℕ) (b : IsBlocked number from (calls_of ops))
@@ -141,20 +141,22 @@ blocked_operation ops number from b =
       told = found_return b.removal.op o.0.«end» ∙ ap (found_by b.removal.op) (sym k.2) ∙ b.told;
     }
 
+-- two removals with one number are one
 one_removal : (ops : List Invocation) (number : ℕ) (op op' : AnyOp) (at at' : ℕ) (found found' : Option ℤ)
     → AllPairs (λ a b. a.number < b.number) ops → IsRemoval ops number op at found
     → IsRemoval ops number op' at' found'
     → (op ≡ op') × (at ≡ at') × (found ≡ found')
-one_removal ops number op op' at at' found found' rising t u =
-    let own : t.operation ≡ u.operation = one_number (λ (z : Invocation). z.number) t.operation u.operation
+one_removal ops number op op' at at' found found' rising one other =
+    let own : one.operation ≡ other.operation = one_number (λ (z : Invocation). z.number) one.operation other.operation
     ops (pairs_from_all (λ a b. a.number < b.number) ops rising)
-    (in_from_contains ops t.operation t.known) (in_from_contains ops u.operation u.known) (t.named ∙ sym u.named) in
-    let ops_same : op ≡ op' = sym t.same ∙ ap (λ (z : Invocation). z.op) own ∙ u.same in
+    (in_from_contains ops one.operation one.known) (in_from_contains ops other.operation other.known)
+    (one.named ∙ sym other.named) in
+    let ops_same : op ≡ op' = sym one.same ∙ ap (λ (z : Invocation). z.op) own ∙ other.same in
     let told : ◌≡◌ {A = Option (ℕ × Option ℤ)} (Some (at, found)) (Some (at', found')) =
-    sym t.told ∙ ap (λ (z : AnyOp). op_found z t.operation.«end») ops_same
-    ∙ ap (λ (z : Invocation). op_found op' z.«end») own ∙ u.told in
-    let p = pair_first at at' found found' told in
-    (ops_same, p.0, p.1)
+    sym one.told ∙ ap (λ (z : AnyOp). op_found z one.operation.«end») ops_same
+    ∙ ap (λ (z : Invocation). op_found op' z.«end») own ∙ other.told in
+    let parts = pair_first at at' found found' told in
+    (ops_same, parts.0, parts.1)
 
 -- ---- the test decides
 
@@ -169,11 +171,11 @@ ahead_decided : (h : ObjectCalls) (number from : ℕ) (op : AnyOp) (at : ℕ) (f
 ahead_decided h number from op at found ahead takes is t e f = go (are_settled found op from h.ops)
     (nat_lt takes ahead) refl refl
   where
-    less : (a b c d : ℕ) → a ≡ b → c ≡ d → nat_lt a c ≡ true → b < d
-    less a b c d e f l = grind (arith, nat_tests)
+    less : (few few' many many' : ℕ) → few ≡ few' → many ≡ many' → nat_lt few many ≡ true → few' < many'
+    less few few' many many' e f l = grind (arith, nat_tests)
 
-    not_less : (a b c d : ℕ) → a ≡ b → c ≡ d → nat_lt a c ≡ false → b < d → ⊥
-    not_less a b c d e f l m = grind (arith, nat_tests)
+    not_less : (few few' many many' : ℕ) → few ≡ few' → many ≡ many' → nat_lt few many ≡ false → few' < many' → ⊥
+    not_less few few' many many' e f l m = grind (arith, nat_tests)
 
     go : (y z : Bool) → are_settled found op from h.ops ≡ y → nat_lt takes ahead ≡ z
         → MatchBool (y && z) (IsBlocked number from (calls_of h.ops)) (IsBlocked number from (calls_of h.ops) → ⊥)

@@ -52,19 +52,23 @@ Bounded what op c after r = there what after + one (takes what op (Some r)) ≤ 
 -- ---- one step
 
 -- a replacement takes away what was there
-swapped : (v a w : ℤ) (x after : Option ℤ) (own : Bool) → after ≡ cond own (Some w) x
-    → (own ≡ true → contains_value x a ≡ true)
-    → one (contains_value after v) + one (own && int_eq a v) ≤ one (contains_value x v) + one (own && int_eq w v)
-swapped v a w None after true e h = absurd (cc (h refl))
-swapped v a w (Some u) after true e h = let there = h refl in rw e (grind (arith, ints))
-swapped v a w x after false e h = rw e (omega arith)
+swapped : (value old new : ℤ) (before after : Option ℤ) (own : Bool) → after ≡ cond own (Some new) before
+    → (own ≡ true → contains_value before old ≡ true) → one (contains_value after value) + one (own && int_eq old value)
+    ≤ one (contains_value before value) + one (own && int_eq new value)
+swapped value old new None after true is has = absurd (cc (has refl))
+swapped value old new (Some had) after true is has = let there = has refl in rw is (grind (arith, ints))
+swapped value old new before after false is has = rw is (omega arith)
 
-replaced : (k v q a w : ℤ) (m : map.FinMap int_cmp ℤ) (t : Bool) → has_value m q a ≡ t
-    → Bounded (Entry k v) (Replace q a w) (table m) (table (inserted_if t m q w)) (reply.Flag t)
-replaced k v q a w m true h = swapped v a w (map.get m k) (map.get (map.insert m q w) k) (int_eq q k)
-    (get-insert m q w k)
-    (λ e. ap (λ z. contains_value (map.get m z) a) (sym (same_by_test q k e)) ∙ h)
-replaced k v q a w m false h = omega arith
+-- and so does a replacement in a map
+replaced : (key value changed old new : ℤ) (before : map.FinMap int_cmp ℤ) (took : Bool)
+    → has_value before changed old ≡ took
+    → Bounded (Entry key value) (Replace changed old new) (table before) (table (inserted_if took before changed new))
+    (reply.Flag took)
+replaced key value changed old new before true has =
+    swapped value old new (map.get before key) (map.get (map.insert before changed new) key) (int_eq changed key)
+    (get-insert before changed new key)
+    (λ e. ap (λ z. contains_value (map.get before z) old) (sym (same_by_test changed key e)) ∙ has)
+replaced key value changed old new before false has = omega arith
 
 bounded : (what : Counted) (c : Content) (op : AnyOp) → IfSome (next c op) (λ p. Bounded what op c p.0 p.1)
 bounded (Value v) c op = grind (arith, ints, size_after, size_cons, size_with_value)
@@ -89,20 +93,22 @@ set_by what e = sets what e.op (reply_of e.returned)
 abbrev taken_by : Counted → Call → Bool
 taken_by what e = takes what e.op (reply_of e.returned)
 
-turn : (what : Counted) (e : Call) (c after : Content) (r : AnyReply) → next c e.op ≡ Some (after, r)
-    → IfSome e.returned (λ t. t.reply ≡ r)
-    → there what after + one (taken_by what e) ≤ there what c + one (set_by what e)
-turn what e c after r does agrees = go e.returned agrees
+-- a call takes the content away only where it is there, or is set by the call
+turn : (what : Counted) (call : Call) (before after : Content) (given : AnyReply)
+    → next before call.op ≡ Some (after, given) → IfSome call.returned (λ t. t.reply ≡ given)
+    → there what after + one (taken_by what call) ≤ there what before + one (set_by what call)
+turn what call before after given does agrees = go call.returned agrees
   where
-    here : Bounded what e.op c after r
-    here = subst (λ z. IfSome z (λ p. Bounded what e.op c p.0 p.1)) does (bounded what c e.op)
+    here : Bounded what call.op before after given
+    here = subst (λ z. IfSome z (λ p. Bounded what call.op before p.0 p.1)) does (bounded what before call.op)
 
-    go : (o : Option Return) → IfSome o (λ t. t.reply ≡ r)
-        → there what after + one (takes what e.op (reply_of o)) ≤ there what c + one (sets what e.op (reply_of o))
+    go : (o : Option Return) → IfSome o (λ t. t.reply ≡ given)
+        → there what after + one (takes what call.op (reply_of o))
+        ≤ there what before + one (sets what call.op (reply_of o))
     go None h =
         let step = here in
-        let told = ap one (none_taken what e.op) in
-        let may = one_le (sets what e.op (Some r)) (sets what e.op None) (may_set what e.op r) in
+        let told = ap one (none_taken what call.op) in
+        let may = one_le (sets what call.op (Some given)) (sets what call.op None) (may_set what call.op given) in
         omega arith
     go (Some t) h = rw h here
 
@@ -111,6 +117,7 @@ conserved : (what : Counted) (es : List Call) (c : Content) → RepliesAlong c e
 conserved what [] c h = omega arith
 conserved what (e ∷ es) c h = sums _ _ _ _ _ _ (turn what e c h.0 h.1 h.2 h.3) (conserved what es h.0 h.4)
   where
+    -- the balances of a call and of the others, added up
     sums : (after took size put gone more : ℕ) → after + took ≤ size + put → gone ≤ after + more
         → took + gone ≤ size + (put + more)
     sums after took size put gone more a b = omega arith

@@ -70,42 +70,48 @@ Takes keeps op reply d after = (behind : Content) × (next d op ≡ Some (behind
 abbrev Step : (ℤ → Bool) → AnyOp → Bool → Bool → AnyReply → Content → Content → Type 0
 Step keeps op kept b reply d after = Stepped (IsShadow keeps) op kept b reply d after
 
-by_same : (keeps : ℤ → Bool) (op : AnyOp) (kept b : Bool) (reply : AnyReply) (d after : Content) (k : Bool)
-    → is_same kept k ≡ true
-    → (k ≡ true → Takes keeps op reply d after) → (k ≡ false → IsShadow keeps after d)
-    → Step keeps op kept b reply d after
-by_same keeps op true b reply d after true f take skip = let t = take refl in inr (refl, t.0, t.1, t.2)
-by_same keeps op true b reply d after false f take skip = absurd (false_is_not_true f)
-by_same keeps op false b reply d after true f take skip = absurd (false_is_not_true f)
-by_same keeps op false b reply d after false f take skip = inl (inl refl, skip refl)
+-- an operation that the part keeps exactly if it keeps its value
+by_same : (keeps : ℤ → Bool) (op : AnyOp) (kept told : Bool) (reply : AnyReply) (part after : Content) (own : Bool)
+    → is_same kept own ≡ true
+    → (own ≡ true → Takes keeps op reply part after) → (own ≡ false → IsShadow keeps after part)
+    → Step keeps op kept told reply part after
+by_same keeps op true told reply part after true fit take skip = let t = take refl in inr (refl, t.0, t.1, t.2)
+by_same keeps op true told reply part after false fit take skip = absurd (false_is_not_true fit)
+by_same keeps op false told reply part after true fit take skip = absurd (false_is_not_true fit)
+by_same keeps op false told reply part after false fit take skip = inl (inl refl, skip refl)
 
-by_free : (keeps : ℤ → Bool) (op : AnyOp) (kept b : Bool) (reply : AnyReply) (d after : Content)
-    → Takes keeps op reply d after → IsShadow keeps after d → Step keeps op kept b reply d after
-by_free keeps op true b reply d after t skip = inr (refl, t.0, t.1, t.2)
-by_free keeps op false b reply d after t skip = inl (inl refl, skip)
+-- an operation that the part may keep or leave out
+by_free : (keeps : ℤ → Bool) (op : AnyOp) (kept told : Bool) (reply : AnyReply) (part after : Content)
+    → Takes keeps op reply part after → IsShadow keeps after part → Step keeps op kept told reply part after
+by_free keeps op true told reply part after taken skip = inr (refl, taken.0, taken.1, taken.2)
+by_free keeps op false told reply part after taken skip = inl (inl refl, skip)
 
-by_removal : (keeps : ℤ → Bool) (op : AnyOp) (kept b : Bool) (v : ℤ) (d after : Content) (k : Bool) → keeps v ≡ k
-    → fits_removal keeps kept (shown b (Value (Some v))) ≡ true → (b ≡ false → kept ≡ false → keeps v ≡ false)
-    → (k ≡ true → Takes keeps op (Value (Some v)) d after) → (k ≡ false → IsShadow keeps after d)
-    → Step keeps op kept b (Value (Some v)) d after
-by_removal keeps op kept true v d after k e f g take skip =
-    by_same keeps op kept true (Value (Some v)) d after k (sym (ap (is_same kept) e) ∙ f) take skip
-by_removal keeps op true false v d after true e f g take skip = let t = take refl in inr (refl, t.0, t.1, t.2)
-by_removal keeps op true false v d after false e f g take skip = inl (inr refl, skip refl)
-by_removal keeps op false false v d after k e f g take skip = inl (inl refl, skip (sym e ∙ g refl refl))
+-- a removal, which the part may leave out only if it took no kept value
+by_removal : (keeps : ℤ → Bool) (op : AnyOp) (kept told : Bool) (value : ℤ) (part after : Content) (own : Bool)
+    → keeps value ≡ own → fits_removal keeps kept (shown told (Value (Some value))) ≡ true
+    → (told ≡ false → kept ≡ false → keeps value ≡ false)
+    → (own ≡ true → Takes keeps op (Value (Some value)) part after) → (own ≡ false → IsShadow keeps after part)
+    → Step keeps op kept told (Value (Some value)) part after
+by_removal keeps op kept true value part after own is fit none take skip =
+    by_same keeps op kept true (Value (Some value)) part after own (sym (ap (is_same kept) is) ∙ fit) take skip
+by_removal keeps op true false value part after true is fit none take skip =
+    let t = take refl in inr (refl, t.0, t.1, t.2)
+by_removal keeps op true false value part after false is fit none take skip = inl (inr refl, skip refl)
+by_removal keeps op false false value part after own is fit none take skip =
+    inl (inl refl, skip (sym is ∙ none refl refl))
 
 -- a change that replies whether it took place
-by_change : (keeps : ℤ → Bool) (op : AnyOp) (k : ℤ) (kept b t : Bool) (d after : Content)
-    → fits_change keeps kept k (shown b (Flag t)) ≡ true
-    → (keeps k ≡ true → Takes keeps op (Flag t) d after) → (keeps k ≡ false → IsShadow keeps after d)
-    → (t ≡ false → IsShadow keeps after d)
-    → Step keeps op kept b (Flag t) d after
-by_change keeps op k kept false t d after f take skip same =
-    by_same keeps op kept false (Flag t) d after (keeps k) f take skip
-by_change keeps op k kept true true d after f take skip same =
-    by_same keeps op kept true (Flag true) d after (keeps k) f take skip
-by_change keeps op k true true false d after f take skip same = let t = take f in inr (refl, t.0, t.1, t.2)
-by_change keeps op k false true false d after f take skip same = inl (inl refl, same refl)
+by_change : (keeps : ℤ → Bool) (op : AnyOp) (key : ℤ) (kept told took : Bool) (part after : Content)
+    → fits_change keeps kept key (shown told (Flag took)) ≡ true
+    → (keeps key ≡ true → Takes keeps op (Flag took) part after) → (keeps key ≡ false → IsShadow keeps after part)
+    → (took ≡ false → IsShadow keeps after part) → Step keeps op kept told (Flag took) part after
+by_change keeps op key kept false took part after fit take skip same =
+    by_same keeps op kept false (Flag took) part after (keeps key) fit take skip
+by_change keeps op key kept true true part after fit take skip same =
+    by_same keeps op kept true (Flag true) part after (keeps key) fit take skip
+by_change keeps op key true true false part after fit take skip same =
+    let took = take fit in inr (refl, took.0, took.1, took.2)
+by_change keeps op key false true false part after fit take skip same = inl (inl refl, same refl)
 
 -- a pending removal that the part leaves out took no value that the part keeps
 abbrev pub TookNone : (ℤ → Bool) → AnyOp → Bool → Bool → AnyReply → Type 0
@@ -182,7 +188,13 @@ pub rising_with_value : (v : ℤ) (ws : List ℤ) → IsRising ws → IsRising (
 rising_with_value v [] h = (λ y i. absurd i, tt)
 rising_with_value v (w ∷ ws) h = elim (true_or_false (int_lt w v)) [
   | inl low ↦ subst IsRising (sym (with_value-more v w ws low))
-      (λ y i. let j = in_with_value v ws y i in let later = h.0 y in grind (arith, ints), rising_with_value v ws h.1)
+      (
+        λ y i.
+            let among = in_with_value v ws y i in
+            let later = h.0 y in
+            grind (arith, ints),
+        rising_with_value v ws h.1,
+      )
   | inr high ↦ subst IsRising (sym (with_value-front v w ws high))
       (λ y i. let later = h.0 y in grind (arith, ints), h)
 ]
@@ -230,212 +242,232 @@ heap_step all keeps vs op r kept b = tt
 
 -- ---- registers
 
-same_cell : (keeps : ℤ → Bool) → ((v : ℤ) → keeps v ≡ true) → (x y : Option ℤ) → IsCellShadow keeps x y → y ≡ x
-same_cell keeps every x y s = grind arith
+same_cell : (keeps : ℤ → Bool) → ((v : ℤ) → keeps v ≡ true) → (whole part : Option ℤ) → IsCellShadow keeps whole part
+    → part ≡ whole
+same_cell keeps every whole part shadow = grind arith
 
-same_expected : (keeps : ℤ → Bool) (a : ℤ) (x y : Option ℤ) → contains_value x a ≡ true → keeps a ≡ true
-    → IsCellShadow keeps x y → y ≡ x
-same_expected keeps a x y h k s = grind (arith, ints)
+same_expected : (keeps : ℤ → Bool) (old : ℤ) (whole part : Option ℤ) → contains_value whole old ≡ true
+    → keeps old ≡ true → IsCellShadow keeps whole part → part ≡ whole
+same_expected keeps old whole part has own shadow = grind (arith, ints)
 
 -- a value that the part leaves out says nothing about the part's content
-any_cell : (keeps : ℤ → Bool) (v : ℤ) (y : Option ℤ) → not (keeps v) ≡ true → IsCellShadow keeps (Some v) y
-any_cell keeps v y f = λ k. absurd (false_is_not_true (sym (ap not k) ∙ f))
+any_cell : (keeps : ℤ → Bool) (value : ℤ) (part : Option ℤ) → not (keeps value) ≡ true
+    → IsCellShadow keeps (Some value) part
+any_cell keeps value part out = λ own. absurd (false_is_not_true (sym (ap not own) ∙ out))
 
-read_step : (keeps : ℤ → Bool) (x y : Option ℤ) (kept b : Bool) → IsCellShadow keeps x y
-    → fits_read keeps kept (shown b (Value x)) ≡ true → Step keeps Read kept b (Value x) (register y) (register x)
-read_step keeps x y false b s f = inl (inl refl, s)
-read_step keeps x y true false s f = inl (inr refl, s)
-read_step keeps None y true true s f = inr (refl, register y, ap (λ (z : Option ℤ). Some (register y, Value z)) s, s)
-read_step keeps (Some v) y true true s f =
-    inr (refl, register y, ap (λ (z : Option ℤ). Some (register y, Value z)) (s f), s)
+read_step : (keeps : ℤ → Bool) (whole part : Option ℤ) (kept told : Bool) → IsCellShadow keeps whole part
+    → fits_read keeps kept (shown told (Value whole)) ≡ true
+    → Step keeps Read kept told (Value whole) (register part) (register whole)
+read_step keeps whole part false told shadow fit = inl (inl refl, shadow)
+read_step keeps whole part true false shadow fit = inl (inr refl, shadow)
+read_step keeps None part true true shadow fit =
+    inr (refl, register part, ap (λ (z : Option ℤ). Some (register part, Value z)) shadow, shadow)
+read_step keeps (Some value) part true true shadow fit =
+    inr (refl, register part, ap (λ (z : Option ℤ). Some (register part, Value z)) (shadow fit), shadow)
 
-swap_step : (all : Bool) (keeps : ℤ → Bool) (x y : Option ℤ) (a c : ℤ) (kept b : Bool) → IsCellShadow keeps x y
-    → contains_value x a ≡ true
-    → fits_cas all keeps kept a c (shown b (Swapped a c)) ≡ true
-    → Step keeps (Cas a c) kept b (Swapped a c) (register y) (register (Some c))
-swap_step all keeps x y a c kept b s h f = go kept b (keeps a) refl f
+-- a compare-and-set that swapped
+swap_step : (all : Bool) (keeps : ℤ → Bool) (whole part : Option ℤ) (old new : ℤ) (kept told : Bool)
+    → IsCellShadow keeps whole part → contains_value whole old ≡ true
+    → fits_cas all keeps kept old new (shown told (Swapped old new)) ≡ true
+    → Step keeps (Cas old new) kept told (Swapped old new) (register part) (register (Some new))
+swap_step all keeps whole part old new kept told shadow has fit = go kept told (keeps old) refl fit
   where
-    take : keeps a ≡ true → Takes keeps (Cas a c) (Swapped a c) (register y) (register (Some c))
-    take k = (
-      register (Some c),
-      ap (λ (z : Option ℤ). next (register z) (Cas a c)) (same_expected keeps a x y h k s)
-          ∙ ap (λ t. cond t (Some (register (Some c), Swapped a c)) (Some (register x, NotSwapped))) h,
-      λ e. refl,
+    take : keeps old ≡ true → Takes keeps (Cas old new) (Swapped old new) (register part) (register (Some new))
+    take own = (
+      register (Some new),
+      ap (λ (z : Option ℤ). next (register z) (Cas old new)) (same_expected keeps old whole part has own shadow)
+          ∙ ap (λ t. cond t (Some (register (Some new), Swapped old new)) (Some (register whole, NotSwapped))) has,
+      λ is. refl,
     )
 
-    go : (kept b k : Bool) → keeps a ≡ k → fits_cas all keeps kept a c (shown b (Swapped a c)) ≡ true
-        → Step keeps (Cas a c) kept b (Swapped a c) (register y) (register (Some c))
-    go false true k e f = inl (inl refl, any_cell keeps c y f)
-    go false false k e f = inl (inl refl, any_cell keeps c y f)
-    go true true k e f = let t = take f in inr (refl, t.0, t.1, t.2)
-    go true false true e f = let t = take e in inr (refl, t.0, t.1, t.2)
-    go true false false e f = inl (inr refl, any_cell keeps c y (sym (ap (λ t. t || not (keeps c)) e) ∙ f))
+    go : (kept told own : Bool) → keeps old ≡ own
+        → fits_cas all keeps kept old new (shown told (Swapped old new)) ≡ true
+        → Step keeps (Cas old new) kept told (Swapped old new) (register part) (register (Some new))
+    go false true own is fit = inl (inl refl, any_cell keeps new part fit)
+    go false false own is fit = inl (inl refl, any_cell keeps new part fit)
+    go true true own is fit = let t = take fit in inr (refl, t.0, t.1, t.2)
+    go true false true is fit = let t = take is in inr (refl, t.0, t.1, t.2)
+    go true false false is fit = inl (inr refl, any_cell keeps new part (sym (ap (λ t. t || not (keeps new)) is) ∙ fit))
 
+-- a compare-and-set that did not swap
 fail_step : (all : Bool) (keeps : ℤ → Bool) → (all ≡ true → (v : ℤ) → keeps v ≡ true)
-    → (x y : Option ℤ) (a c : ℤ) (kept b : Bool)
-    → IsCellShadow keeps x y → contains_value x a ≡ false → fits_cas all keeps kept a c (shown b NotSwapped) ≡ true
-    → Step keeps (Cas a c) kept b NotSwapped (register y) (register x)
-fail_step all keeps every x y a c false b s h f = inl (inl refl, s)
-fail_step all keeps every x y a c true false s h f = inl (inr refl, s)
-fail_step all keeps every x y a c true true s h f =
-    let same = same_cell keeps (every f) x y s in
+    → (whole part : Option ℤ) (old new : ℤ) (kept told : Bool)
+    → IsCellShadow keeps whole part → contains_value whole old ≡ false
+    → fits_cas all keeps kept old new (shown told NotSwapped) ≡ true
+    → Step keeps (Cas old new) kept told NotSwapped (register part) (register whole)
+fail_step all keeps every whole part old new false told shadow differs fit = inl (inl refl, shadow)
+fail_step all keeps every whole part old new true false shadow differs fit = inl (inr refl, shadow)
+fail_step all keeps every whole part old new true true shadow differs fit =
+    let same = same_cell keeps (every fit) whole part shadow in
     inr (
       refl,
-      register x,
-      ap (λ (z : Option ℤ). next (register z) (Cas a c)) same
-          ∙ ap (λ t. cond t (Some (register (Some c), Swapped a c)) (Some (register x, NotSwapped))) h,
-      own x s,
+      register whole,
+      ap (λ (z : Option ℤ). next (register z) (Cas old new)) same
+          ∙ ap (λ t. cond t (Some (register (Some new), Swapped old new)) (Some (register whole, NotSwapped))) differs,
+      own whole shadow,
     )
   where
-    own : (x : Option ℤ) → IsCellShadow keeps x y → IsCellShadow keeps x x
-    own None s = refl
-    own (Some v) s = λ k. refl
+    own : (whole : Option ℤ) → IsCellShadow keeps whole part → IsCellShadow keeps whole whole
+    own None shadow = refl
+    own (Some v) shadow = λ k. refl
 
-create_step : (all : Bool) (keeps : ℤ → Bool) (y : Option ℤ) (v : ℤ) (kept b : Bool) → IsCellShadow keeps None y
-    → fits_create all keeps kept v (shown b (Flag true)) ≡ true
-    → Step keeps (Create v) kept b (Flag true) (register y) (register (Some v))
-create_step all keeps y v true b s f =
-    inr (refl, register (Some v), ap (λ (z : Option ℤ). next (register z) (Create v)) s, λ e. refl)
-create_step all keeps y v false true s f = inl (inl refl, any_cell keeps v y f)
-create_step all keeps y v false false s f = inl (inl refl, any_cell keeps v y f)
+-- a creation in an empty register
+create_step : (all : Bool) (keeps : ℤ → Bool) (part : Option ℤ) (value : ℤ) (kept told : Bool)
+    → IsCellShadow keeps None part → fits_create all keeps kept value (shown told (Flag true)) ≡ true
+    → Step keeps (Create value) kept told (Flag true) (register part) (register (Some value))
+create_step all keeps part value true told shadow fit =
+    inr (refl, register (Some value), ap (λ (z : Option ℤ). next (register z) (Create value)) shadow, λ e. refl)
+create_step all keeps part value false true shadow fit = inl (inl refl, any_cell keeps value part fit)
+create_step all keeps part value false false shadow fit = inl (inl refl, any_cell keeps value part fit)
 
-found_step : (all : Bool) (keeps : ℤ → Bool) → (all ≡ true → (v : ℤ) → keeps v ≡ true)
-    → (w : ℤ) (y : Option ℤ) (v : ℤ) (kept b : Bool)
-    → IsCellShadow keeps (Some w) y → fits_create all keeps kept v (shown b (Flag false)) ≡ true
-    → Step keeps (Create v) kept b (Flag false) (register y) (register (Some w))
-found_step all keeps every w y v false b s f = inl (inl refl, s)
-found_step all keeps every w y v true false s f = inl (inr refl, s)
-found_step all keeps every w y v true true s f =
-    let same = same_cell keeps (every f) (Some w) y s in
-    inr (refl, register (Some w), ap (λ (z : Option ℤ). next (register z) (Create v)) same, λ e. refl)
+-- a creation in a register that contains a value
+found_step : (all : Bool) (keeps : ℤ → Bool) → (all ≡ true → (value : ℤ) → keeps value ≡ true)
+    → (had : ℤ) (part : Option ℤ) (value : ℤ) (kept told : Bool)
+    → IsCellShadow keeps (Some had) part → fits_create all keeps kept value (shown told (Flag false)) ≡ true
+    → Step keeps (Create value) kept told (Flag false) (register part) (register (Some had))
+found_step all keeps every had part value false told shadow fit = inl (inl refl, shadow)
+found_step all keeps every had part value true false shadow fit = inl (inr refl, shadow)
+found_step all keeps every had part value true true shadow fit =
+    let same = same_cell keeps (every fit) (Some had) part shadow in
+    inr (refl, register (Some had), ap (λ (z : Option ℤ). next (register z) (Create value)) same, λ e. refl)
 
-register_step : (all : Bool) (keeps : ℤ → Bool) → (all ≡ true → (v : ℤ) → keeps v ≡ true)
-    → (x y : Option ℤ) (op : AnyOp) → IsCellShadow keeps x y → StepAt all keeps op (register x) (register y)
-register_step all keeps every x y (Write v) s true b = λ f g. inr (refl, register (Some v), refl, λ k. refl)
-register_step all keeps every x y (Write v) s false b = λ f g. inl (inl refl, any_cell keeps v y f)
-register_step all keeps every x y Read s kept b = λ f g. read_step keeps x y kept b s f
-register_step all keeps every x y (Cas a c) s kept b = go (contains_value x a) refl
+register_step : (all : Bool) (keeps : ℤ → Bool) → (all ≡ true → (value : ℤ) → keeps value ≡ true)
+    → (whole part : Option ℤ) (op : AnyOp) → IsCellShadow keeps whole part
+    → StepAt all keeps op (register whole) (register part)
+register_step all keeps every whole part (Write value) shadow true told =
+    λ fit none. inr (refl, register (Some value), refl, λ k. refl)
+register_step all keeps every whole part (Write value) shadow false told =
+    λ fit none. inl (inl refl, any_cell keeps value part fit)
+register_step all keeps every whole part Read shadow kept told =
+    λ fit none. read_step keeps whole part kept told shadow fit
+register_step all keeps every whole part (Cas old new) shadow kept told = go (contains_value whole old) refl
   where
-    go : (t : Bool) → contains_value x a ≡ t
+    go : (t : Bool) → contains_value whole old ≡ t
         → IfSome {T = Content × AnyReply}
-        (cond t (Some (register (Some c), Swapped a c)) (Some (register x, NotSwapped)))
-        (λ p. fits all keeps kept (Cas a c) (shown b p.1) ≡ true → TookNone keeps (Cas a c) b kept p.1
-        → Step keeps (Cas a c) kept b p.1 (register y) p.0)
-    go true h = λ f g. swap_step all keeps x y a c kept b s h f
-    go false h = λ f g. fail_step all keeps every x y a c kept b s h f
-register_step all keeps every x y Clear s true b = λ f g. inr (refl, register None, refl, refl)
-register_step all keeps every x y Clear s false b = λ f g. absurd (false_is_not_true f)
-register_step all keeps every None y (Create v) s kept b = λ f g. create_step all keeps y v kept b s f
-register_step all keeps every (Some w) y (Create v) s kept b = λ f g. found_step all keeps every w y v kept b s f
-register_step all keeps every x y op s kept b = tt
+        (cond t (Some (register (Some new), Swapped old new)) (Some (register whole, NotSwapped)))
+        (λ p. fits all keeps kept (Cas old new) (shown told p.1) ≡ true → TookNone keeps (Cas old new) told kept p.1
+        → Step keeps (Cas old new) kept told p.1 (register part) p.0)
+    go true has = λ fit none. swap_step all keeps whole part old new kept told shadow has fit
+    go false has = λ fit none. fail_step all keeps every whole part old new kept told shadow has fit
+register_step all keeps every whole part Clear shadow true told = λ fit none. inr (refl, register None, refl, refl)
+register_step all keeps every whole part Clear shadow false told = λ fit none. absurd (false_is_not_true fit)
+register_step all keeps every None part (Create value) shadow kept told =
+    λ fit none. create_step all keeps part value kept told shadow fit
+register_step all keeps every (Some had) part (Create value) shadow kept told =
+    λ fit none. found_step all keeps every had part value kept told shadow fit
+register_step all keeps every whole part op shadow kept told = tt
 
 -- ---- maps
 
 abbrev IsTableShadow : (ℤ → Bool) → map.FinMap int_cmp ℤ → map.FinMap int_cmp ℤ → Type 0
-IsTableShadow keeps m n = (k : ℤ) → keeps k ≡ true → map.get n k ≡ map.get m k
+IsTableShadow keeps whole part = (k : ℤ) → keeps k ≡ true → map.get part k ≡ map.get whole k
 
-put_shadow : (keeps : ℤ → Bool) (m n : map.FinMap int_cmp ℤ) (k v : ℤ) → IsTableShadow keeps m n
-    → IsTableShadow keeps (map.insert m k v) (map.insert n k v)
-put_shadow keeps m n k v s q a = let same = s q a in grind (arith, ints, get-insert)
+-- The part has what the whole has at each key that it keeps, and an operation names this key.
+module _ (keeps : ℤ → Bool) (whole part : map.FinMap int_cmp ℤ) (key : ℤ) (shadow : IsTableShadow keeps whole part)
+    where
+  put_shadow : (value : ℤ) → IsTableShadow keeps (map.insert whole key value) (map.insert part key value)
+  put_shadow value q a = let same = shadow q a in grind (arith, ints, get-insert)
 
-put_other : (keeps : ℤ → Bool) (m n : map.FinMap int_cmp ℤ) (k v : ℤ) → keeps k ≡ false → IsTableShadow keeps m n
-    → IsTableShadow keeps (map.insert m k v) n
-put_other keeps m n k v b s q a = let same = s q a in grind (arith, ints, get-insert)
+  put_other : (value : ℤ) → keeps key ≡ false → IsTableShadow keeps (map.insert whole key value) part
+  put_other value out q a = let same = shadow q a in grind (arith, ints, get-insert)
 
-del_shadow : (keeps : ℤ → Bool) (m n : map.FinMap int_cmp ℤ) (k : ℤ) → IsTableShadow keeps m n
-    → IsTableShadow keeps (map.remove m k) (map.remove n k)
-del_shadow keeps m n k s q a = let same = s q a in grind (arith, ints, get-remove)
+  del_shadow : IsTableShadow keeps (map.remove whole key) (map.remove part key)
+  del_shadow q a = let same = shadow q a in grind (arith, ints, get-remove)
 
-del_other : (keeps : ℤ → Bool) (m n : map.FinMap int_cmp ℤ) (k : ℤ) → keeps k ≡ false → IsTableShadow keeps m n
-    → IsTableShadow keeps (map.remove m k) n
-del_other keeps m n k b s q a = let same = s q a in grind (arith, ints, get-remove)
+  del_other : keeps key ≡ false → IsTableShadow keeps (map.remove whole key) part
+  del_other out q a = let same = shadow q a in grind (arith, ints, get-remove)
 
-del_nothing : (keeps : ℤ → Bool) (m n : map.FinMap int_cmp ℤ) (k : ℤ) → map.get m k ≡ None → IsTableShadow keeps m n
-    → IsTableShadow keeps (map.remove m k) n
-del_nothing keeps m n k o s q a = let same = s q a in grind (arith, ints, get-remove)
+  del_nothing : map.get whole key ≡ None → IsTableShadow keeps (map.remove whole key) part
+  del_nothing absent q a = let same = shadow q a in grind (arith, ints, get-remove)
 
-del_step : (keeps : ℤ → Bool) (m n : map.FinMap int_cmp ℤ) (k : ℤ) (kept b : Bool) (o : Option ℤ) → map.get m k ≡ o
-    → IsTableShadow keeps m n
-    → fits_del keeps kept k (shown b (Value o)) ≡ true
-    → Step keeps (Del k) kept b (Value o) (table n) (table (map.remove m k))
-del_step keeps m n k kept b o h s f = go kept b o h f
-  where
-    take : (o : Option ℤ) → map.get m k ≡ o → keeps k ≡ true
-        → Takes keeps (Del k) (Value o) (table n) (table (map.remove m k))
-    take o h a = (
-      table (map.remove n k),
-      ap (λ (z : Option ℤ). Some (table (map.remove n k), Value z)) (s k a ∙ h),
-      del_shadow keeps m n k s,
-    )
+  del_step : (kept told : Bool) (found : Option ℤ) → map.get whole key ≡ found
+      → fits_del keeps kept key (shown told (Value found)) ≡ true
+      → Step keeps (Del key) kept told (Value found) (table part) (table (map.remove whole key))
+  del_step kept told found had fit = go kept told found had fit
+    where
+      take : (found : Option ℤ) → map.get whole key ≡ found → keeps key ≡ true
+          → Takes keeps (Del key) (Value found) (table part) (table (map.remove whole key))
+      take found had own = (
+        table (map.remove part key),
+        ap (λ (z : Option ℤ). Some (table (map.remove part key), Value z)) (shadow key own ∙ had),
+        del_shadow,
+      )
 
-    either : (kept b : Bool) (o : Option ℤ) → map.get m k ≡ o → is_same kept (keeps k) ≡ true
-        → Step keeps (Del k) kept b (Value o) (table n) (table (map.remove m k))
-    either kept b o h f = by_same keeps (Del k) kept b (Value o) (table n) (table (map.remove m k)) (keeps k) f
-        (λ a. take o h a) (λ a. del_other keeps m n k a s)
+      either : (kept told : Bool) (found : Option ℤ) → map.get whole key ≡ found → is_same kept (keeps key) ≡ true
+          → Step keeps (Del key) kept told (Value found) (table part) (table (map.remove whole key))
+      either kept told found had fit =
+          by_same keeps (Del key) kept told (Value found) (table part) (table (map.remove whole key)) (keeps key) fit
+          (λ own. take found had own) (λ out. del_other out)
 
-    go : (kept b : Bool) (o : Option ℤ) → map.get m k ≡ o → fits_del keeps kept k (shown b (Value o)) ≡ true
-        → Step keeps (Del k) kept b (Value o) (table n) (table (map.remove m k))
-    go kept false o h f = either kept false o h f
-    go kept true (Some v) h f = either kept true (Some v) h f
-    go true true None h f = let t = take None h f in inr (refl, t.0, t.1, t.2)
-    go false true None h f = inl (inl refl, del_nothing keeps m n k h s)
+      go : (kept told : Bool) (found : Option ℤ) → map.get whole key ≡ found
+          → fits_del keeps kept key (shown told (Value found)) ≡ true
+          → Step keeps (Del key) kept told (Value found) (table part) (table (map.remove whole key))
+      go kept false found had fit = either kept false found had fit
+      go kept true (Some v) had fit = either kept true (Some v) had fit
+      go true true None had fit = let t = take None had fit in inr (refl, t.0, t.1, t.2)
+      go false true None had fit = inl (inl refl, del_nothing had)
 
-if_shadow : (keeps : ℤ → Bool) (m n : map.FinMap int_cmp ℤ) (k v : ℤ) (t : Bool) → IsTableShadow keeps m n
-    → IsTableShadow keeps (inserted_if t m k v) (inserted_if t n k v)
-if_shadow keeps m n k v true s = put_shadow keeps m n k v s
-if_shadow keeps m n k v false s = s
+  if_shadow : (value : ℤ) (took : Bool)
+      → IsTableShadow keeps (inserted_if took whole key value) (inserted_if took part key value)
+  if_shadow value true = put_shadow value
+  if_shadow value false = shadow
 
-if_other : (keeps : ℤ → Bool) (m n : map.FinMap int_cmp ℤ) (k v : ℤ) (t : Bool) → IsTableShadow keeps m n
-    → keeps k ≡ false
-    → IsTableShadow keeps (inserted_if t m k v) n
-if_other keeps m n k v true s e = put_other keeps m n k v e s
-if_other keeps m n k v false s e = s
+  if_other : (value : ℤ) (took : Bool) → keeps key ≡ false
+      → IsTableShadow keeps (inserted_if took whole key value) part
+  if_other value true out = put_other value out
+  if_other value false out = shadow
 
-if_not : (keeps : ℤ → Bool) (m n : map.FinMap int_cmp ℤ) (k v : ℤ) (t : Bool) → IsTableShadow keeps m n → t ≡ false
-    → IsTableShadow keeps (inserted_if t m k v) n
-if_not keeps m n k v true s e = absurd (false_is_not_true (sym e))
-if_not keeps m n k v false s e = s
+  if_not : (value : ℤ) (took : Bool) → took ≡ false → IsTableShadow keeps (inserted_if took whole key value) part
+  if_not value true e = absurd (false_is_not_true (sym e))
+  if_not value false e = shadow
 
--- a put that takes place only where the table passes a test, which is the same where the key is kept
-if_step : (keeps : ℤ → Bool) (m n : map.FinMap int_cmp ℤ) (op : AnyOp) (k v : ℤ) (test : map.FinMap int_cmp ℤ → Bool)
-    → next (table n) op ≡ Some (table (inserted_if (test n) n k v), Flag (test n)) → (keeps k ≡ true → test n ≡ test m)
-    → IsTableShadow keeps m n → (kept b : Bool) → fits_change keeps kept k (shown b (Flag (test m))) ≡ true
-    → Step keeps op kept b (Flag (test m)) (table n) (table (inserted_if (test m) m k v))
-if_step keeps m n op k v test does same s kept b f =
-    by_change keeps op k kept b (test m) (table n) (table (inserted_if (test m) m k v)) f
-    (λ a. (
-      table (inserted_if (test m) n k v),
-      does ∙ ap (λ (t : Bool). Some (table (inserted_if t n k v), Flag t)) (same a),
-      if_shadow keeps m n k v (test m) s,
-    ))
-    (if_other keeps m n k v (test m) s) (if_not keeps m n k v (test m) s)
+  -- a put that takes place only where the table passes a test, which is the same where the key is kept
+  if_step : (op : AnyOp) (value : ℤ) (test : map.FinMap int_cmp ℤ → Bool)
+      → next (table part) op ≡ Some (table (inserted_if (test part) part key value), Flag (test part))
+      → (keeps key ≡ true → test part ≡ test whole) → (kept told : Bool)
+      → fits_change keeps kept key (shown told (Flag (test whole))) ≡ true
+      → Step keeps op kept told (Flag (test whole)) (table part) (table (inserted_if (test whole) whole key value))
+  if_step op value test does same kept told fit =
+      by_change keeps op key kept told (test whole) (table part) (table (inserted_if (test whole) whole key value)) fit
+      (λ own. (
+        table (inserted_if (test whole) part key value),
+        does ∙ ap (λ (t : Bool). Some (table (inserted_if t part key value), Flag t)) (same own),
+        if_shadow value (test whole),
+      ))
+      (if_other value (test whole)) (if_not value (test whole))
 
-table_step : (all : Bool) (keeps : ℤ → Bool) (m n : map.FinMap int_cmp ℤ) (op : AnyOp) → IsTableShadow keeps m n
-    → StepAt all keeps op (table m) (table n)
-table_step all keeps m n (Put k v) s kept b =
-    λ f g. by_same keeps (Put k v) kept b (Value (map.get m k)) (table n) (table (map.insert m k v)) (keeps k) f
-    (λ a. (
-      table (map.insert n k v),
-      ap (λ (z : Option ℤ). Some (table (map.insert n k v), Value z)) (s k a),
-      put_shadow keeps m n k v s,
-    )) (λ a. put_other keeps m n k v a s)
-table_step all keeps m n (Get k) s true b =
-    λ f g. inr (refl, table n, ap (λ (z : Option ℤ). Some (table n, Value z)) (s k f), s)
-table_step all keeps m n (Get k) s false b = λ f g. inl (inl refl, s)
-table_step all keeps m n (Del k) s kept b = λ f g. del_step keeps m n k kept b (map.get m k) refl s f
-table_step all keeps m n (PutIfAbsent k v) s kept b =
-    λ f g. if_step keeps m n (PutIfAbsent k v) k v (λ x. is_absent x k) refl
-    (λ a. ap (λ (z : Option ℤ). not (is_some z)) (s k a)) s kept b f
-table_step all keeps m n (Replace k v w) s kept b =
-    λ f g. if_step keeps m n (Replace k v w) k w (λ x. has_value x k v) refl
-    (λ a. ap (λ (z : Option ℤ). contains_value z v) (s k a)) s kept b f
-table_step all keeps m n (Assoc k v) s kept b =
-    λ f g. by_same keeps (Assoc k v) kept b (Value None) (table n) (table (map.insert m k v)) (keeps k) f
-    (λ a. (table (map.insert n k v), refl, put_shadow keeps m n k v s)) (λ a. put_other keeps m n k v a s)
-table_step all keeps m n (Dissoc k) s kept b =
-    λ f g. by_same keeps (Dissoc k) kept b (Value None) (table n) (table (map.remove m k)) (keeps k) f
-    (λ a. (table (map.remove n k), refl, del_shadow keeps m n k s)) (λ a. del_other keeps m n k a s)
-table_step all keeps m n op s kept b = tt
+table_step : (all : Bool) (keeps : ℤ → Bool) (whole part : map.FinMap int_cmp ℤ) (op : AnyOp)
+    → IsTableShadow keeps whole part → StepAt all keeps op (table whole) (table part)
+table_step all keeps whole part (Put key value) shadow kept told =
+    λ fit none. by_same keeps (Put key value) kept told (Value (map.get whole key)) (table part)
+    (table (map.insert whole key value)) (keeps key) fit
+    (λ own. (
+      table (map.insert part key value),
+      ap (λ (z : Option ℤ). Some (table (map.insert part key value), Value z)) (shadow key own),
+      put_shadow keeps whole part key shadow value,
+    )) (λ out. put_other keeps whole part key shadow value out)
+table_step all keeps whole part (Get key) shadow true told =
+    λ fit none. inr (refl, table part, ap (λ (z : Option ℤ). Some (table part, Value z)) (shadow key fit), shadow)
+table_step all keeps whole part (Get key) shadow false told = λ fit none. inl (inl refl, shadow)
+table_step all keeps whole part (Del key) shadow kept told =
+    λ fit none. del_step keeps whole part key shadow kept told (map.get whole key) refl fit
+table_step all keeps whole part (PutIfAbsent key value) shadow kept told =
+    λ fit none. if_step keeps whole part key shadow (PutIfAbsent key value) value (λ x. is_absent x key) refl
+    (λ own. ap (λ (z : Option ℤ). not (is_some z)) (shadow key own)) kept told fit
+table_step all keeps whole part (Replace key old new) shadow kept told =
+    λ fit none. if_step keeps whole part key shadow (Replace key old new) new (λ x. has_value x key old) refl
+    (λ own. ap (λ (z : Option ℤ). contains_value z old) (shadow key own)) kept told fit
+table_step all keeps whole part (Assoc key value) shadow kept told =
+    λ fit none. by_same keeps (Assoc key value) kept told (Value None) (table part)
+    (table (map.insert whole key value)) (keeps key) fit
+    (λ own. (table (map.insert part key value), refl, put_shadow keeps whole part key shadow value))
+    (λ out. put_other keeps whole part key shadow value out)
+table_step all keeps whole part (Dissoc key) shadow kept told =
+    λ fit none. by_same keeps (Dissoc key) kept told (Value None) (table part) (table (map.remove whole key))
+    (keeps key) fit
+    (λ own. (table (map.remove part key), refl, del_shadow keeps whole part key shadow))
+    (λ out. del_other keeps whole part key shadow out)
+table_step all keeps whole part op shadow kept told = tt
 
 -- ---- mutexes
 

@@ -74,6 +74,7 @@ overdrawn_shows h count is o order v =
     over : (a b : ℕ) → a < b → b ≤ a → ⊥
     over a b l m = absurd (omega arith)
 
+-- more of the content was taken away than there can have been: it is overdrawn
 overdrawn_from : (kind : Kind) (count : Count) (calls : List Call) (most set taken left : ℕ)
     → Some most ≡ most_before kind count.counted count.from
     → set ≡ set_since count.counted count.from calls → taken ≡ taken_since count.counted count.from calls
@@ -89,6 +90,7 @@ overdrawn_from kind count calls most set taken left before e f g lt =
     more : (set taken s t : ℕ) → set ≡ s → taken ≡ t → left ≡ taken - set → nat_lt most left ≡ true → most + s < t
     more set taken s t e f g lt = grind (arith, nat_tests)
 
+-- the comparison of the two counts decides whether the content is overdrawn
 pub decided : (h : ObjectCalls) (count : Count) (most set taken left : ℕ)
     → Some most ≡ most_before h.kind count.counted count.from
     → set ≡ count_by (λ o. is_set count.counted count.from o.op o.«end») h.ops
@@ -109,6 +111,7 @@ decided h count most set taken left before e f g = go (nat_lt most left) refl
         (e ∙ set_count count.counted count.from h.ops) (f ∙ gone_count count.counted count.from h.ops)
         (same_Some o.most most (sym o.before ∙ sym before)) q o.more
 
+-- an object whose operations take a content away too often has no valid order
 pub count_exceeded : (h : ObjectCalls) (count : Count) (most set taken left : ℕ) → IsObjectHistory h
     → Some most ≡ most_before h.kind count.counted count.from
     → set ≡ count_by (λ o. is_set count.counted count.from o.op o.«end») h.ops

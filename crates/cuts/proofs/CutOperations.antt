@@ -85,8 +85,8 @@ cut_into object kind into ops cut_operation is h = record {
       )));
 }
   where
-    less : (a b c d : ℕ) → a < b → c ≡ a → d ≡ b → c < d
-    less a b c d l e f = omega arith
+    less : (low high low' high' : ℕ) → low < high → low' ≡ low → high' ≡ high → low' < high'
+    less low high low' high' l e f = omega arith
 
     go : (number : ℕ) (e : End) → ((at : ℕ) (reply : AnyReply) → e ≡ Returned at reply → (number < at)
         × All (λ o. o.number ≡ at → ⊥) (filter_map cut_operation ops))
@@ -135,8 +135,8 @@ rising_calls ops h = all_from_pairs (λ a b. a.number < b.number) (calls_of ops)
     (λ x y a b i j l e f. less x.number y.number a.number b.number l (call_cases x a e).0 (call_cases y b f).0)
     (pairs_from_all (λ a b. a.number < b.number) ops h))
   where
-    less : (a b c d : ℕ) → a < b → c ≡ a → d ≡ b → c < d
-    less a b c d l e f = omega arith
+    less : (low high low' high' : ℕ) → low < high → low' ≡ low → high' ≡ high → low' < high'
+    less low high low' high' l e f = omega arith
 
 -- in an object's history each call that returned did so after it was invoked
 pub calls_end : (object : ℕ) (kind : Kind) (ops : List Invocation)

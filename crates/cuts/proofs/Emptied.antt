@@ -114,15 +114,17 @@ emptied (heap (v ∷ vs)) ExtractMin (Some b) s d u t = λ e. least_first v b vs
 emptied c op o s d u t = search rules
 
 -- what is put in before the removal is taken out before it
-pub spent : (n : Call) (r : Return) (o : Option ℤ) (xs ys : List Call) (k : Kind) → is_removal n.op ≡ true
-    → n.returned ≡ Some r → r.reply ≡ Value o → (n.op ≡ Dequeue → o ≡ None) → (n.op ≡ Pop → o ≡ None)
-    → RepliesAlong (empty k) (xs ++ n ∷ ys) → tally (put_by (is_value_ahead o n.op)) xs ≤ tally
-    (may_by (is_value_ahead o n.op)) xs
-spent n r o xs ys k t e f d u h =
-    let keeps = is_value_ahead o n.op in
-    let at = reached keeps xs n ys (empty k) (sound_empty k) h in
-    let gave : r.reply ≡ at.along.1 = subst (λ z. IfSome z (λ r. r.reply ≡ at.along.1)) e at.along.3 in
-    let none = subst (λ z. IfSome z (λ p. p.1 ≡ Value o → kept_size keeps at.content ≡ 0)) at.along.2
-    (emptied at.content n.op o at.sound d u t) (sym gave ∙ f) in
-    let nothing = size_empty keeps k in
+pub spent : (removal : Call) (response : Return) (found : Option ℤ) (earlier later : List Call) (kind : Kind)
+    → is_removal removal.op ≡ true
+    → removal.returned ≡ Some response → response.reply ≡ Value found → (removal.op ≡ Dequeue → found ≡ None)
+    → (removal.op ≡ Pop → found ≡ None) → RepliesAlong (empty kind) (earlier ++ removal ∷ later)
+    → tally (put_by (is_value_ahead found removal.op)) earlier ≤ tally
+    (may_by (is_value_ahead found removal.op)) earlier
+spent removal response found earlier later kind removes back value dequeued popped along =
+    let keeps = is_value_ahead found removal.op in
+    let at = reached keeps earlier removal later (empty kind) (sound_empty kind) along in
+    let gave : response.reply ≡ at.along.1 = subst (λ z. IfSome z (λ r. r.reply ≡ at.along.1)) back at.along.3 in
+    let none = subst (λ z. IfSome z (λ p. p.1 ≡ Value found → kept_size keeps at.content ≡ 0)) at.along.2
+    (emptied at.content removal.op found at.sound dequeued popped removes) (sym gave ∙ value) in
+    let nothing = size_empty keeps kind in
     omega arith

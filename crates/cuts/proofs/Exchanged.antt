@@ -105,7 +105,10 @@ one_late calls xs i p many apart pending known = elim (late p.call.number xs) [
   | inl w ↦ w
   | inr all ↦
       let test : Call → Bool = λ e. is_open e && nat_lt e.number p.call.number in
-      let passes = all_pass test xs (λ x j. let l = all x j in let o = pending x j in grind (arith, nat_tests)) in
+      let passes = all_pass test xs (λ x j.
+          let earlier = all x j in
+          let removes = pending x j in
+          grind (arith, nat_tests)) in
       let fewer = count_among test xs calls (apart_calls xs apart) (λ x j q. known x j) in
       let ranked = p.at in
       absurd (omega arith)
@@ -177,103 +180,106 @@ pub record Exchanged (calls : List Call) (kept : ℕ → Bool) (i : ℕ) (d : Co
   pub whole : (x : Call) → In x es → kept x.number ≡ true → IsSome x.returned → In x entries
 
 -- the part leaves out a call
-leave : (calls : List Call) (kept : ℕ → Bool) (i : ℕ) (d : Content) (e : Call) (es : List Call)
-    → (kept e.number ≡ false)
-    ⊎ (is_some e.returned ≡ false) → Exchanged calls kept i d es → Exchanged calls kept i d (e ∷ es)
-leave calls kept i d e es out m = record {
-  entries = m.entries;
-  replies = m.replies;
-  from = λ y j. elim (m.from y j) [ inl own ↦ inl (inr own.0, own.1) | inr other ↦ inr other ];
-  known = m.known;
-  in_time = m.in_time;
-  apart = m.apart;
+leave : (calls : List Call) (kept : ℕ → Bool) (i : ℕ) (content : Content) (call : Call) (later : List Call)
+    → (kept call.number ≡ false) ⊎ (is_some call.returned ≡ false) → Exchanged calls kept i content later
+    → Exchanged calls kept i content (call ∷ later)
+leave calls kept i content call later out rest = record {
+  entries = rest.entries;
+  replies = rest.replies;
+  from = λ y j. elim (rest.from y j) [ inl own ↦ inl (inr own.0, own.1) | inr other ↦ inr other ];
+  known = rest.known;
+  in_time = rest.in_time;
+  apart = rest.apart;
   whole = λ x j k so. elim j [
     | inl q ↦ absurd (elim out [
       | inl not_kept ↦ false_is_not_true (sym not_kept ∙ ap (λ (z : Call). kept z.number) (sym q) ∙ k)
       | inr pending ↦ false_is_not_true (sym pending ∙ ap (λ (z : Call). is_some z.returned) (sym q) ∙ so)
     ])
-    | inr l ↦ m.whole x l k so
+    | inr l ↦ rest.whole x l k so
   ];
 }
 
 -- a call that is no pending removal is done
-keep_own : (calls : List Call) (kept : ℕ → Bool) (i : ℕ) (d behind : Content) (e : Call) (es : List Call)
+keep_own : (calls : List Call) (kept : ℕ → Bool) (i : ℕ) (content after : Content) (call : Call) (later : List Call)
     (reply : AnyReply)
-    → Pairs (λ a b. a.number < b.number) calls → is_open e ≡ false → kept e.number ≡ true → In e calls
-    → ((y : Call) → In y es → e.number ≢ y.number)
-    → ((y : Call) → In y es → ReturnsBefore y e → ⊥) → next d e.op ≡ Some (behind, reply)
-    → IfSome e.returned (λ r. r.reply ≡ reply)
-    → Exchanged calls kept i behind es → Exchanged calls kept i d (e ∷ es)
-keep_own calls kept i d behind e es reply rising closed k here apart time does agrees m = record {
-  entries = e ∷ m.entries;
-  replies = (behind, reply, does, agrees, m.replies);
+    → Pairs (λ a b. a.number < b.number) calls → is_open call ≡ false → kept call.number ≡ true → In call calls
+    → ((y : Call) → In y later → call.number ≢ y.number)
+    → ((y : Call) → In y later → ReturnsBefore y call → ⊥) → next content call.op ≡ Some (after, reply)
+    → IfSome call.returned (λ r. r.reply ≡ reply)
+    → Exchanged calls kept i after later → Exchanged calls kept i content (call ∷ later)
+keep_own calls kept i content after call later reply rising closed keep here apart time does agrees rest = record {
+  entries = call ∷ rest.entries;
+  replies = (after, reply, does, agrees, rest.replies);
   from = λ y j. elim j [
     | inl q ↦ inl (inl q, ap (λ (z : Call). is_open z) q ∙ closed)
-    | inr l ↦ elim (m.from y l) [ inl own ↦ inl (inr own.0, own.1) | inr other ↦ inr other ]
+    | inr l ↦ elim (rest.from y l) [ inl own ↦ inl (inr own.0, own.1) | inr other ↦ inr other ]
   ];
   known = λ y j. elim j [
-    | inl q ↦ subst (λ (z : Call). In z calls × (kept z.number ≡ true)) (sym q) (here, k)
-    | inr l ↦ m.known y l
+    | inl q ↦ subst (λ (z : Call). In z calls × (kept z.number ≡ true)) (sym q) (here, keep)
+    | inr l ↦ rest.known y l
   ];
   in_time = (
-    λ y j. elim (m.from y j) [
+    λ y j. elim (rest.from y j) [
       | inl own ↦ time y own.0
       | inr other ↦ λ rb. not_returned y rb.0 other.0 rb.1
     ],
-    m.in_time,
+    rest.in_time,
   );
   apart = (
-    λ y j. elim (m.from y j) [
+    λ y j. elim (rest.from y j) [
       | inl own ↦ apart y own.0
       | inr other ↦ λ q. false_is_not_true
           (sym closed ∙ ap (λ (z : Call). is_open z)
-          (one_number (λ (z : Call). z.number) e y calls rising here (m.known y j).0 q) ∙ other.0)
+          (one_number (λ (z : Call). z.number) call y calls rising here (rest.known y j).0 q) ∙ other.0)
     ],
-    m.apart,
+    rest.apart,
   );
-  whole = λ x j kx so. elim j [ inl q ↦ inl q | inr l ↦ inr (m.whole x l kx so) ];
+  whole = λ x j kx so. elim j [ inl q ↦ inl q | inr l ↦ inr (rest.whole x l kx so) ];
 }
 
 -- in place of a pending removal one is done that was invoked no later than some such one so far
-keep_other : (calls : List Call) (kept : ℕ → Bool) (i : ℕ) (d behind : Content) (e x : Call) (es : List Call)
-    (reply : AnyReply) (p : Nth calls i)
-    → Pairs (λ a b. a.number < b.number) calls → is_open e ≡ true → kept p.call.number ≡ true → p.call.number ≤ x.number
-    → ((y : Call) → In y es → ReturnsBefore y x → ⊥) → next d p.call.op ≡ Some (behind, reply)
-    → Exchanged calls kept (i + 1) behind es → Exchanged calls kept i d (e ∷ es)
-keep_other calls kept i d behind e x es reply p rising pending k le time does m = record {
-  entries = p.call ∷ m.entries;
-  replies = (behind, reply, does, agrees p.call.returned (open_returned p.call p.pending), m.replies);
+keep_other : (calls : List Call) (kept : ℕ → Bool) (i : ℕ) (content after : Content) (removal late : Call)
+    (later : List Call) (reply : AnyReply) (chosen : Nth calls i)
+    → Pairs (λ a b. a.number < b.number) calls → is_open removal ≡ true → kept chosen.call.number ≡ true
+    → chosen.call.number ≤ late.number
+    → ((y : Call) → In y later → ReturnsBefore y late → ⊥) → next content chosen.call.op ≡ Some (after, reply)
+    → Exchanged calls kept (i + 1) after later → Exchanged calls kept i content (removal ∷ later)
+keep_other calls kept i content after removal late later reply chosen rising pending keep due time does rest = record {
+  entries = chosen.call ∷ rest.entries;
+  replies = (after, reply, does, agrees chosen.call.returned (open_returned chosen.call chosen.pending), rest.replies);
   from = λ y j. elim j [
-    | inl q ↦ inr (ap (λ (z : Call). is_open z) q ∙ p.pending, ranked y q)
-    | inr l ↦ elim (m.from y l) [
+    | inl q ↦ inr (ap (λ (z : Call). is_open z) q ∙ chosen.pending, ranked y q)
+    | inr l ↦ elim (rest.from y l) [
       | inl own ↦ inl (inr own.0, own.1)
       | inr other ↦ inr (other.0, less (rank calls y.number) other.1)
     ]
   ];
   known = λ y j. elim j [
-    | inl q ↦ subst (λ (z : Call). In z calls × (kept z.number ≡ true)) (sym q) (p.known, k)
-    | inr l ↦ m.known y l
+    | inl q ↦ subst (λ (z : Call). In z calls × (kept z.number ≡ true)) (sym q) (chosen.known, keep)
+    | inr l ↦ rest.known y l
   ];
   in_time = (
-    λ y j. elim (m.from y j) [
-      | inl own ↦ λ rb. time y own.0 (rb.0, rb.1, later rb.0.at rb.2)
+    λ y j. elim (rest.from y j) [
+      | inl own ↦ λ rb. time y own.0 (rb.0, rb.1, before_late rb.0.at rb.2)
       | inr other ↦ λ rb. not_returned y rb.0 other.0 rb.1
     ],
-    m.in_time,
+    rest.in_time,
   );
   apart = (
-    λ y j. elim (m.from y j) [
+    λ y j. elim (rest.from y j) [
       | inl own ↦ λ q. false_is_not_true
           (sym own.1 ∙ ap (λ (z : Call). is_open z)
-          (sym (one_number (λ (z : Call). z.number) p.call y calls rising p.known (m.known y j).0 q)) ∙ p.pending)
-      | inr other ↦ λ q. more (rank calls y.number) (rank calls p.call.number) (ap (rank calls) q) p.at other.1
+          (sym (one_number (λ (z : Call). z.number) chosen.call y calls rising chosen.known (rest.known y j).0 q))
+          ∙ chosen.pending)
+      | inr other ↦ λ q. more (rank calls y.number) (rank calls chosen.call.number)
+          (ap (rank calls) q) chosen.at other.1
     ],
-    m.apart,
+    rest.apart,
   );
   whole = λ z j kz so. elim j [
     | inl q ↦ absurd (false_is_not_true
-        (sym (open_returned e pending) ∙ ap (λ (u : Call). is_some u.returned) (sym q) ∙ so))
-    | inr l ↦ inr (m.whole z l kz so)
+        (sym (open_returned removal pending) ∙ ap (λ (u : Call). is_some u.returned) (sym q) ∙ so))
+    | inr l ↦ inr (rest.whole z l kz so)
   ];
 }
   where
@@ -284,11 +290,11 @@ keep_other calls kept i d behind e x es reply p rising pending k le time does m 
     less : (n : ℕ) → i + 1 ≤ n → i ≤ n
     less n l = omega arith
 
-    ranked : (y : Call) → y ≡ p.call → i ≤ rank calls y.number
-    ranked y q = subst (λ (n : ℕ). i ≤ n) (sym (ap (λ (z : Call). rank calls z.number) q ∙ p.at)) (omega arith)
+    ranked : (y : Call) → y ≡ chosen.call → i ≤ rank calls y.number
+    ranked y q = subst (λ (n : ℕ). i ≤ n) (sym (ap (λ (z : Call). rank calls z.number) q ∙ chosen.at)) (omega arith)
 
-    later : (at : ℕ) → at < p.call.number → at < x.number
-    later at l = omega arith
+    before_late : (at : ℕ) → at < chosen.call.number → at < late.number
+    before_late at l = omega arith
 
     more : (a b : ℕ) → b ≡ a → b ≡ i → i + 1 ≤ a → ⊥
     more a b q r l = absurd (omega arith)
@@ -350,7 +356,10 @@ walk calls kind all keeps kept s (e ∷ es) i xs c d r h t =
       later_known = λ x a. t.later_known x (inr a);
       later_apart = t.later_apart.1;
       in_time = t.in_time.1;
-      owed = let u = turn keeps e c h.0 h.1 h.2 h.3 in let none_told = u.open_call none in omega arith;
+      owed =
+          let u = turn keeps e c h.0 h.1 h.2 h.3 in
+          let none_told = u.open_call none in
+          omega arith;
     }
 
     own_told : is_open e ≡ false
@@ -414,7 +423,7 @@ walk calls kind all keeps kept s (e ∷ es) i xs c d r h t =
 
         turned : IsTurn calls keeps (i + 1) (e ∷ xs) es h.0
         turned = fewer (open_returned e o) (i + 1) (e ∷ xs) long pending known apart cross (λ x y. time y x)
-            (let one_more = ap one took in omega arith)
+            (let counted = ap one took in omega arith)
 
         same_op : p.call.op ≡ e.op
         same_op = same_removal_op p.call.op e.op (open_removal p.call p.pending) (open_removal e o)

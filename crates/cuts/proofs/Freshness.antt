@@ -73,23 +73,26 @@ tells_gone m k =
     at_key (map.remove m k) map.empty k (map.get-empty {X = ℤ} int_cmp k ∙ grind (arith, ints, get-remove))
 
 -- a put that took place, and one that did not
-tells_put : (m : map.FinMap int_cmp ℤ) (k v : ℤ)
-    → Begins (on_key (Some k)) (kind_of (Put k v)) (Some (Put k v, Value None)) (table (map.insert m k v))
-tells_put m k v = (
-  table (map.insert map.empty k v),
-  begun_put k v,
-  at_key (map.insert m k v) (map.insert map.empty k v) k (grind (arith, ints, get-insert)),
+tells_put : (before : map.FinMap int_cmp ℤ) (key value : ℤ)
+    → Begins (on_key (Some key)) (kind_of (Put key value)) (Some (Put key value, Value None))
+    (table (map.insert before key value))
+tells_put before key value = (
+  table (map.insert map.empty key value),
+  begun_put key value,
+  at_key (map.insert before key value) (map.insert map.empty key value) key (grind (arith, ints, get-insert)),
 )
 
-tells_absent : (m : map.FinMap int_cmp ℤ) (k v : ℤ) (t : Bool)
-    → Tells (PutIfAbsent k v) (Flag t) (table (inserted_if t m k v))
-tells_absent m k v true = tells_put m k v
-tells_absent m k v false = tt
+-- a put where the key is absent
+tells_absent : (before : map.FinMap int_cmp ℤ) (key value : ℤ) (took : Bool)
+    → Tells (PutIfAbsent key value) (Flag took) (table (inserted_if took before key value))
+tells_absent before key value true = tells_put before key value
+tells_absent before key value false = tt
 
-tells_replace : (m : map.FinMap int_cmp ℤ) (k v w : ℤ) (t : Bool)
-    → Tells (Replace k v w) (Flag t) (table (inserted_if t m k w))
-tells_replace m k v w true = tells_put m k w
-tells_replace m k v w false = tt
+-- a replacement
+tells_replace : (before : map.FinMap int_cmp ℤ) (key old new : ℤ) (took : Bool)
+    → Tells (Replace key old new) (Flag took) (table (inserted_if took before key new))
+tells_replace before key old new true = tells_put before key new
+tells_replace before key old new false = tt
 
 -- ---- sets
 

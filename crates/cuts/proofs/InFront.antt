@@ -143,6 +143,7 @@ stack_spent b (e ∷ xs) n ys vs q gives none h =
     (subst (λ (c : Content). RepliesAlong c (xs ++ n ∷ ys)) s.1 h.4) in
     sums _ _ _ _ _ _ _ (s.2 (none e (inl refl))) more rest
   where
+    -- the balances of a call and of the others, added up
     sums : (front put after took may puts mays : ℕ) → front + put ≤ after + took → took ≤ may
         → after + puts ≤ mays → front + (put + puts) ≤ may + mays
     sums front put after took may puts mays a b d = omega arith

@@ -226,8 +226,10 @@ closed_calls vs kept ops rising first h = record {
         → is_pending_removal op (return_of e) ≡ true → is_open_removal op e ≡ true
     was number op e c q f = grind arith
 
-    sums : (p q r s m n : ℕ) → p ≡ q → r ≡ s → m ≡ n → p - r ≤ m → q ≤ s + n
-    sums p q r s m n a b d l = omega arith
+    -- what holds of the counts of operations holds of those of calls
+    sums : (put put' taken taken' before before' : ℕ) → put ≡ put' → taken ≡ taken' → before ≡ before'
+        → put - taken ≤ before → put' ≤ taken' + before'
+    sums put put' taken taken' before before' a b d l = omega arith
 
 pub closed_fits : (vs : Values) (kept : ℕ → Bool) (ops : List Invocation)
     → IsClosed (keeps_all vs) (keeps_value vs) kept (calls_of ops)
@@ -257,8 +259,10 @@ pub closed_first : (vs : Values) (kept : ℕ → Bool) (ops : List Invocation) �
 closed_first vs kept ops rising h =
     kept_first kept _ ops (pairs_from_all (λ a b. a.number < b.number) ops rising) (λ o i t n. go o i o.«end» refl t n)
   where
-    sums : (p q r s m n : ℕ) → p ≡ q → r ≡ s → m ≡ n → q ≤ s + n → p - r ≤ m
-    sums p q r s m n a b d l = omega arith
+    -- what holds of the counts of calls holds of those of operations
+    sums : (put put' taken taken' before before' : ℕ) → put ≡ put' → taken ≡ taken' → before ≡ before'
+        → put' ≤ taken' + before' → put - taken ≤ before
+    sums put put' taken taken' before before' a b d l = omega arith
 
     most : ℕ
     most = count_by (λ o. is_put (keeps_value vs) o.op o.«end») ops - count_by

@@ -49,25 +49,28 @@ record AreCalls (kind : Kind) (calls : List Call) : Type 0 where
   ends : (e : Call) (r : Return) → In e calls → e.returned ≡ Some r → e.number < r.at
   kinds : (e : Call) → In e calls → kind_of e.op ≡ kind
 
-recast_kind : (done : AnyOp → AnyReply → Option (AnyOp × AnyReply)) (pending : AnyOp → Option AnyOp) (k : Kind)
-    (y x : Call) → ((reply : AnyReply) → IfSome (done y.op reply) (λ f. kind_of f.0 ≡ k))
-    → IfSome (pending y.op) (λ f. kind_of f ≡ k) → recast done pending y.number y.op y.returned ≡ Some x
-    → kind_of x.op ≡ k
-recast_kind done pending k y x d p e = go y.returned e
+-- what a call becomes is of a kind if what it becomes when it is done, and when it is pending, is
+recast_kind : (done : AnyOp → AnyReply → Option (AnyOp × AnyReply)) (pending : AnyOp → Option AnyOp) (kind : Kind)
+    (call part : Call) → ((reply : AnyReply) → IfSome (done call.op reply) (λ f. kind_of f.0 ≡ kind))
+    → IfSome (pending call.op) (λ f. kind_of f ≡ kind)
+    → recast done pending call.number call.op call.returned ≡ Some part → kind_of part.op ≡ kind
+recast_kind done pending kind call part done_kind pending_kind is = go call.returned is
   where
-    finished : (at : ℕ) (f : Option (AnyOp × AnyReply)) → IfSome f (λ f. kind_of f.0 ≡ k)
-        → option_map (returned_call y.number at) f ≡ Some x → kind_of x.op ≡ k
-    finished at None l e = absurd (cc e)
-    finished at (Some f) l e = subst (λ (z : Call). kind_of z.op ≡ k) (same_Some (returned_call y.number at f) x e) l
+    finished : (at : ℕ) (f : Option (AnyOp × AnyReply)) → IfSome f (λ f. kind_of f.0 ≡ kind)
+        → option_map (returned_call call.number at) f ≡ Some part → kind_of part.op ≡ kind
+    finished at None l is = absurd (cc is)
+    finished at (Some f) l is =
+        subst (λ (z : Call). kind_of z.op ≡ kind) (same_Some (returned_call call.number at f) part is) l
 
-    unfinished : (f : Option AnyOp) → IfSome f (λ f. kind_of f ≡ k) → option_map (pending_call y.number) f ≡ Some x
-        → kind_of x.op ≡ k
-    unfinished None l e = absurd (cc e)
-    unfinished (Some op) l e = subst (λ (z : Call). kind_of z.op ≡ k) (same_Some (pending_call y.number op) x e) l
+    unfinished : (f : Option AnyOp) → IfSome f (λ f. kind_of f ≡ kind)
+        → option_map (pending_call call.number) f ≡ Some part → kind_of part.op ≡ kind
+    unfinished None l is = absurd (cc is)
+    unfinished (Some op) l is =
+        subst (λ (z : Call). kind_of z.op ≡ kind) (same_Some (pending_call call.number op) part is) l
 
-    go : (o : Option Return) → recast done pending y.number y.op o ≡ Some x → kind_of x.op ≡ k
-    go None e = unfinished (pending y.op) p e
-    go (Some r) e = finished r.at (done y.op r.reply) (d r.reply) e
+    go : (o : Option Return) → recast done pending call.number call.op o ≡ Some part → kind_of part.op ≡ kind
+    go None is = unfinished (pending call.op) pending_kind is
+    go (Some r) is = finished r.at (done call.op r.reply) (done_kind r.reply) is
 
 later_kind : (first : Option (AnyOp × AnyReply)) (at : ℕ) (y : Call)
     → kind_of (call_later first at y).op ≡ kind_of y.op
@@ -88,11 +91,12 @@ from_kinds kind from calls part are h x i =
       | inr q ↦ subst (λ (z : Call). kind_of z.op ≡ kind) (sym q.1) (later_kind h.first h.at y.0 ∙ are.kinds y.0 y.1)
     ]
 
+-- what a call becomes at a cell or an entry is of the kind of the part
 kinds_at : (place : Place) (keeps : ℤ → Bool) (other : ℤ) (kept : ℕ → Bool) (kind : Kind) (calls part : List Call)
     → AreCalls kind calls → part ≡ calls_at place keeps other kept calls → (x : Call) → In x part
     → kind_of x.op ≡ kind_of_part place kind
-kinds_at place keeps other kept kind calls part are h x i =
-    let y = in_filter_map (call_at place keeps other kept) x calls (subst (In x) h i) in
+kinds_at place keeps other kept kind calls part are is x i =
+    let y = in_filter_map (call_at place keeps other kept) x calls (subst (In x) is i) in
     let into = into_part place keeps other in
     recast_kind (done_at place keeps other (kept y.0.number)) (opened_at place keeps other)
     (kind_of_part place (kind_of y.0.op)) y.0 x (into.returned (kept y.0.number) y.0.op) (into.unfinished y.0.op) y.2
@@ -126,8 +130,8 @@ after_cut cut kind calls part are h =
       kinds = kinds_named cut kind calls part are h;
     }
   where
-    later : (n m a b : ℕ) → n < a → m ≡ n → a ≡ b → m < b
-    later n m a b l e f = omega arith
+    later : (number number' at at' : ℕ) → number < at → number' ≡ number → at ≡ at' → number' < at'
+    later number number' at at' l e f = omega arith
 
 -- ---- calls with these numbers
 
@@ -221,17 +225,18 @@ later_valid kind first at calls order v =
         let u = (cut_of first at y).returned r.0 r.1 in
         subst (λ (o : Option Return). IsSome o) (sym u.1) refl
 
+-- an order of the calls with these numbers gives one of what becomes of them in a suffix
 from_step : (kind : Kind) (from : ℕ) (calls part : List Call) (kept : ℕ → Bool) (order : List ℤ) → AreCalls kind calls
     → IsSuffix from calls part
     → Covers kept calls part → IsValidOrder kind (kept_calls kept calls) order
     → (o : List ℤ) × IsValidOrder kind (kept_calls kept part) o
-from_step kind from calls part kept order are h covers v = go (kept from) refl
+from_step kind from calls part kept order are suffix covers valid = go (kept from) refl
   where
-    same : filter_map (call_from from h.at h.first) (kept_calls kept calls) ≡ kept_calls kept part
+    same : filter_map (call_from from suffix.at suffix.first) (kept_calls kept calls) ≡ kept_calls kept part
     same =
-        sym (commutes kept (call_from from h.at h.first) calls
-        (λ y x i e. (from_timed from calls part are.rising h y x i e).number))
-        ∙ ap (kept_calls kept) (sym h.named)
+        sym (commutes kept (call_from from suffix.at suffix.first) calls
+        (λ y x i e. (from_timed from calls part are.rising suffix y x i e).number))
+        ∙ ap (kept_calls kept) (sym suffix.named)
 
     in_kept : (e : Call) → In e (kept_calls kept calls) → In e calls
     in_kept e i = in_filter (λ (e : Call). kept e.number) e calls i
@@ -239,12 +244,12 @@ from_step kind from calls part kept order are h covers v = go (kept from) refl
     -- the call with which the suffix begins is one of these
     begins : kept from ≡ true → (o : List ℤ) × IsValidOrder kind (kept_calls kept part) o
     begins q =
-        let s = h.start in
+        let s = suffix.start in
         let here : Contains (kept_calls kept calls) s.call =
         contains_from_in (kept_calls kept calls) s.call
         (in_filter_from (λ (e : Call). kept e.number) s.call calls (in_from_contains calls s.call s.known)
         (ap kept s.number ∙ q)) in
-        let start : IsStart (kept_calls kept calls) from h.at h.first = record {
+        let start : IsStart (kept_calls kept calls) from suffix.at suffix.first = record {
           call = s.call;
           known = here;
           number = s.number;
@@ -254,32 +259,33 @@ from_step kind from calls part kept order are h covers v = go (kept from) refl
           one_key = all_from_in (λ (e : Call). key_of e.op ≡ key_of s.call.op) (kept_calls kept calls)
               (λ e i. all_at (λ (e : Call). key_of e.op ≡ key_of s.call.op) calls s.one_key e (in_kept e i));
         } in
-        let found = start_valid kind (kept_calls kept calls) from h.at h.first order
+        let found = start_valid kind (kept_calls kept calls) from suffix.at suffix.first order
         (all_from_in (λ (e : Call). kind_of e.op ≡ kind) (kept_calls kept calls)
-        (λ e i. are.kinds e (in_kept e i))) start v in
+        (λ e i. are.kinds e (in_kept e i))) start valid in
         (found.0, subst (λ cs. IsValidOrder kind cs found.0) same found.1)
 
     is_later : kept from ≡ false → (e : Call) → In e (kept_calls kept calls)
-        → call_from from h.at h.first e ≡ Some (call_later h.first h.at e)
+        → call_from from suffix.at suffix.first e ≡ Some (call_later suffix.first suffix.at e)
     is_later q e i =
         let chosen = in_filter_passes (λ (e : Call). kept e.number) e calls i in
         let y = covers e (in_kept e i) chosen in
-        let z = in_filter_map (call_from from h.at h.first) y.0 calls (subst (In y.0) h.named y.1) in
+        let z = in_filter_map (call_from from suffix.at suffix.first) y.0 calls (subst (In y.0) suffix.named y.1) in
         let own = one_number (λ (z : Call). z.number) z.0 e calls are.rising z.1 (in_kept e i)
-        (sym (from_timed from calls part are.rising h z.0 y.0 z.1 z.2).number ∙ y.2) in
-        let made : call_from from h.at h.first e ≡ Some y.0 = ap (call_from from h.at h.first) (sym own) ∙ z.2 in
-        elim (call_from_cases from h.at h.first e y.0 made) [
+        (sym (from_timed from calls part are.rising suffix z.0 y.0 z.1 z.2).number ∙ y.2) in
+        let made : call_from from suffix.at suffix.first e ≡ Some y.0 =
+            ap (call_from from suffix.at suffix.first) (sym own) ∙ z.2 in
+        elim (call_from_cases from suffix.at suffix.first e y.0 made) [
           | inl w ↦ absurd (false_is_not_true (sym q ∙ ap kept (sym (ap (λ (z : Call). z.number) w.2) ∙ y.2) ∙ chosen))
           | inr w ↦ made ∙ ap (λ (z : Call). Some z) w.1
         ]
 
     all_later : (cs : List Call) → ((e : Call) → In e cs
-        → call_from from h.at h.first e ≡ Some (call_later h.first h.at e))
-        → filter_map (call_from from h.at h.first) cs ≡ map (call_later h.first h.at) cs
+        → call_from from suffix.at suffix.first e ≡ Some (call_later suffix.first suffix.at e))
+        → filter_map (call_from from suffix.at suffix.first) cs ≡ map (call_later suffix.first suffix.at) cs
     all_later [] f = refl
     all_later (e ∷ cs) f =
-        ap (λ (o : Option Call). cons_option o (filter_map (call_from from h.at h.first) cs)) (f e (inl refl))
-        ∙ ap (λ ds. call_later h.first h.at e ∷ ds) (all_later cs (λ y i. f y (inr i)))
+        ap (λ (o : Option Call). cons_option o (filter_map (call_from from suffix.at suffix.first) cs)) (f e (inl refl))
+        ∙ ap (λ ds. call_later suffix.first suffix.at e ∷ ds) (all_later cs (λ y i. f y (inr i)))
 
     go : (b : Bool) → kept from ≡ b → (o : List ℤ) × IsValidOrder kind (kept_calls kept part) o
     go true q = begins q
@@ -287,57 +293,59 @@ from_step kind from calls part kept order are h covers v = go (kept from) refl
       order,
       subst (λ cs. IsValidOrder kind cs order)
           (sym (all_later (kept_calls kept calls) (is_later q)) ∙ same)
-          (later_valid kind h.first h.at (kept_calls kept calls) order v),
+          (later_valid kind suffix.first suffix.at (kept_calls kept calls) order valid),
     )
 
+-- and of what becomes of them at a cell or an entry
 step_at : (place : Place) (keeps : ℤ → Bool) (other : ℤ) (chosen : ℕ → Bool) (kind : Kind) (calls part : List Call)
     (kept : ℕ → Bool) (order : List ℤ) → part ≡ calls_at place keeps other chosen calls
     → IsValidOrder kind (kept_calls kept calls) order
     → (o : List ℤ) × IsValidOrder (kind_of_part place kind) (kept_calls kept part) o
-step_at place keeps other chosen kind calls part kept order h v =
-    let found = part_valid place kind (kept_calls kept calls) keeps other chosen order v in
+step_at place keeps other chosen kind calls part kept order is valid =
+    let found = part_valid place kind (kept_calls kept calls) keeps other chosen order valid in
     let same : calls_at place keeps other chosen (kept_calls kept calls) ≡ kept_calls kept part =
     sym (commutes kept (call_at place keeps other chosen) calls
     (λ y x i e. (recast_timed (done_at place keeps other (chosen y.number)) (opened_at place keeps other) y x
     e).number))
-    ∙ ap (kept_calls kept) (sym h) in
+    ∙ ap (kept_calls kept) (sym is) in
     (found.0, subst (λ cs. IsValidOrder (kind_of_part place kind) cs found.0) same found.1)
 
+-- and of what a cut makes of them
 step : (cut : Cut) (kind : Kind) (calls part : List Call) (kept : ℕ → Bool) (order : List ℤ) → AreCalls kind calls
     → Names cut calls part
     → Covers kept calls part → IsValidOrder kind (kept_calls kept calls) order
     → (o : List ℤ) × IsValidOrder (kind_cut cut kind) (kept_calls kept part) o
-step (From number) kind calls part kept order are h covers v =
-    from_step kind number calls part kept order are h covers v
-step (Until number) kind calls part kept order are h covers v =
+step (From number) kind calls part kept order are names covers valid =
+    from_step kind number calls part kept order are names covers valid
+step (Until number) kind calls part kept order are names covers valid =
     let cut : Call → Option Call = λ y. cond (nat_lt y.number number) (Some (call_before number y)) None in
     let found = prefix_valid kind (kept_calls kept calls) number order
     (all_from_in (λ (e : Call). (r : Return) → e.returned ≡ Some r → e.number < r.at) (kept_calls kept calls)
-    (λ e i r q. are.ends e r (in_filter (λ (e : Call). kept e.number) e calls i) q)) v in
+    (λ e i r q. are.ends e r (in_filter (λ (e : Call). kept e.number) e calls i) q)) valid in
     let same : calls_before number (kept_calls kept calls) ≡ kept_calls kept part =
     sym (filter_map-filter (λ (y : Call). nat_lt y.number number) (call_before number) (kept_calls kept calls))
     ∙ sym (commutes kept cut calls (λ y x i e. number_kept y x (nat_lt y.number number) e))
     ∙ ap (kept_calls kept) (filter_map-filter (λ (y : Call). nat_lt y.number number) (call_before number) calls
-    ∙ sym h) in
+    ∙ sym names) in
     (found.0, subst (λ cs. IsValidOrder kind cs found.0) same found.1)
   where
     number_kept : (y x : Call) (b : Bool) → cond b (Some (call_before number y)) None ≡ Some x → x.number ≡ y.number
     number_kept y x true e = ap (λ (z : Call). z.number) (sym (same_Some (call_before number y) x e))
     number_kept y x false e = absurd (cc e)
-step (Without value before) kind calls part kept order are h covers v =
+step (Without value before) kind calls part kept order are names covers valid =
     let q : Call → Bool = λ e. not (is_put_before value before e || is_taken_before value before e) in
     let same = same_filtered kept q calls are.rising
-    (λ e i k. let y = covers e i k in (y.0, subst (In y.0) h.1 y.1, y.2)) in
-    (order, subst (λ cs. IsValidOrder kind cs order) (same ∙ ap (kept_calls kept) (sym h.1)) v)
-step (Keep values numbers) kind calls part kept order are h covers v =
+    (λ e i k. let y = covers e i k in (y.0, subst (In y.0) names.1 y.1, y.2)) in
+    (order, subst (λ cs. IsValidOrder kind cs order) (same ∙ ap (kept_calls kept) (sym names.1)) valid)
+step (Keep values numbers) kind calls part kept order are names covers valid =
     let q : Call → Bool = λ e. keeps_number numbers e.number in
     let same = same_filtered kept q calls are.rising
-    (λ e i k. let y = covers e i k in (y.0, subst (In y.0) h.1 y.1, y.2)) in
-    (order, subst (λ cs. IsValidOrder kind cs order) (same ∙ ap (kept_calls kept) (sym h.1)) v)
-step (Cell values other numbers) kind calls part kept order are h covers v =
-    step_at OfRegister (keeps_value values) other (keeps_number numbers) kind calls part kept order h v
-step (Entry key values other numbers) kind calls part kept order are h covers v =
-    step_at (OfKey key) (keeps_value values) other (keeps_number numbers) kind calls part kept order h v
+    (λ e i k. let y = covers e i k in (y.0, subst (In y.0) names.1 y.1, y.2)) in
+    (order, subst (λ cs. IsValidOrder kind cs order) (same ∙ ap (kept_calls kept) (sym names.1)) valid)
+step (Cell values other numbers) kind calls part kept order are names covers valid =
+    step_at OfRegister (keeps_value values) other (keeps_number numbers) kind calls part kept order names valid
+step (Entry key values other numbers) kind calls part kept order are names covers valid =
+    step_at (OfKey key) (keeps_value values) other (keeps_number numbers) kind calls part kept order names valid
 
 -- ---- cuts
 
@@ -351,26 +359,27 @@ numbers_named (cut ∷ cuts) kind calls part are h x i =
     let y = in_filter_map t.becomes z.0 calls (subst (In z.0) t.named z.1) in
     (y.0, y.1, z.2 ∙ (t.timed y.0 z.0 y.1 y.2).number)
 
+-- and of what the cuts make of them, one after the other
 steps : (cuts : List Cut) (kind : Kind) (calls part : List Call) (kept : ℕ → Bool) (order : List ℤ)
     → AreCalls kind calls → NamesPart cuts calls part
     → Covers kept calls part → IsValidOrder kind (kept_calls kept calls) order
     → (o : List ℤ) × IsValidOrder (part_kind cuts kind) (kept_calls kept part) o
-steps [] kind calls part kept order are h covers v =
-    (order, subst (λ cs. IsValidOrder kind (kept_calls kept cs) order) (sym h) v)
-steps (cut ∷ cuts) kind calls part kept order are h covers v =
-    let next = after_cut cut kind calls h.0 are h.1 in
-    let t = timed_named cut calls h.0 are.rising h.1 in
-    let first : Covers kept calls h.0 = λ e i q.
+steps [] kind calls part kept order are names covers valid =
+    (order, subst (λ cs. IsValidOrder kind (kept_calls kept cs) order) (sym names) valid)
+steps (cut ∷ cuts) kind calls part kept order are names covers valid =
+    let next = after_cut cut kind calls names.0 are names.1 in
+    let t = timed_named cut calls names.0 are.rising names.1 in
+    let first : Covers kept calls names.0 = λ e i q.
     let y = covers e i q in
-    let z = numbers_named cuts (kind_cut cut kind) h.0 part next h.2 y.0 y.1 in
+    let z = numbers_named cuts (kind_cut cut kind) names.0 part next names.2 y.0 y.1 in
     (z.0, z.1, sym z.2 ∙ y.2) in
-    let rest : Covers kept h.0 part = λ e i q.
+    let rest : Covers kept names.0 part = λ e i q.
     let z = in_filter_map t.becomes e calls (subst (In e) t.named i) in
     let same = (t.timed z.0 e z.1 z.2).number in
     let y = covers z.0 z.1 (ap kept (sym same) ∙ q) in
     (y.0, y.1, y.2 ∙ sym same) in
-    let o = step cut kind calls h.0 kept order are h.1 first v in
-    steps cuts (kind_cut cut kind) h.0 part kept o.0 next h.2 rest o.1
+    let o = step cut kind calls names.0 kept order are names.1 first valid in
+    steps cuts (kind_cut cut kind) names.0 part kept o.0 next names.2 rest o.1
 
 with_number : (part : List Call) (n : ℕ) → has_number part n ≡ true → (y : Call) × In y part × (y.number ≡ n)
 with_number [] n e = absurd (cc e)

@@ -25,8 +25,10 @@ StepOf R (Some f) d after = ((f.returned ≡ None) × R after d)
 
 pub record Maps (R : Content → Content → Type 0) (cut : Call → Option Call) : Type 0 where
   pub own : (y x : Call) → cut y ≡ Some x → IsTimed x y
-  pub step : (e : Call) (c d after : Content) (reply : AnyReply) → R c d → next c e.op ≡ Some (after, reply)
-      → IfSome e.returned (λ r. r.reply ≡ reply) → StepOf R (cut e) d after
+  -- the part follows a step of the whole
+  pub step : (call : Call) (whole part after : Content) (reply : AnyReply) → R whole part
+      → next whole call.op ≡ Some (after, reply) → IfSome call.returned (λ r. r.reply ≡ reply)
+      → StepOf R (cut call) part after
 
 record Picked (d : Content) (xs : List Call) : Type 0 where
   flags : List Bool

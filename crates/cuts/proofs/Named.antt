@@ -139,8 +139,8 @@ rising_timed calls part t rising = subst AreRising (sym t.named)
     (λ x y a b i j l e f. less x.number y.number a.number b.number l (t.timed x a i e).number
     (t.timed y b j f).number) rising)
   where
-    less : (a b c d : ℕ) → a < b → c ≡ a → d ≡ b → c < d
-    less a b c d l e f = omega arith
+    less : (low high low' high' : ℕ) → low < high → low' ≡ low → high' ≡ high → low' < high'
+    less low high low' high' l e f = omega arith
 
 one_named : (cut : Cut) (calls a b : List Call) → AreRising calls → Names cut calls a → Names cut calls b → a ≡ b
 one_named (From number) calls a b rising h k = one_suffix number calls a b rising h k

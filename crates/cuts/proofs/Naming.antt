@@ -49,19 +49,20 @@ left : (cuts : List Cut) (i : ℕ) (d : Cut) → i < length cuts → drop i cuts
 left cuts i d lt =
     let e : suc i ≡ i + 1 = omega arith in drop-cons cuts i d lt ∙ ap (λ (n : ℕ). get_or cuts i d ∷ drop n cuts) e
 
-pub cut_further : (cuts : List Cut) (i : ℕ) (d : Cut) (whole now next : List Call) → i < length cuts
-    → IsCutSoFar cuts i whole now
-    → Names (get_or cuts i d) now next → ((part : List Call) → Names (get_or cuts i d) now part → part ≡ next)
+-- once the next cut has named its part, that is the part so far
+pub cut_further : (cuts : List Cut) (i : ℕ) (default : Cut) (whole now next : List Call) → i < length cuts
+    → IsCutSoFar cuts i whole now → Names (get_or cuts i default) now next
+    → ((part : List Call) → Names (get_or cuts i default) now part → part ≡ next)
     → IsCutSoFar cuts (i + 1) whole next
-cut_further cuts i d whole now next lt h named one = record {
-  names = λ part k. h.names part (subst (λ (cs : List Cut). NamesPart cs now part) (sym split) (next, named, k));
+cut_further cuts i default whole now next inside so_far named one = record {
+  names = λ part k. so_far.names part (subst (λ (cs : List Cut). NamesPart cs now part) (sym split) (next, named, k));
   only = λ part k.
-      let r = subst (λ (cs : List Cut). NamesPart cs now part) split (h.only part k) in
+      let r = subst (λ (cs : List Cut). NamesPart cs now part) split (so_far.only part k) in
       subst (λ (z : List Call). NamesPart (drop (i + 1) cuts) z part) (one r.0 r.1) r.2;
 }
   where
-    split : drop i cuts ≡ get_or cuts i d ∷ drop (i + 1) cuts
-    split = left cuts i d lt
+    split : drop i cuts ≡ get_or cuts i default ∷ drop (i + 1) cuts
+    split = left cuts i default inside
 
 pub none_left : (cuts : List Cut) (i : ℕ) (d : Cut) (whole now : List Call) → i < length cuts
     → IsCutSoFar cuts i whole now
@@ -73,8 +74,9 @@ none_left cuts i d whole now lt h none part k =
 abbrev pub IsKindSoFar : List Cut → ℕ → Kind → Kind → Type 0
 IsKindSoFar cuts i whole now = part_kind cuts whole ≡ part_kind (drop i cuts) now
 
-pub kind_further : (cuts : List Cut) (i : ℕ) (d : Cut) (whole now next : Kind) → i < length cuts
-    → IsKindSoFar cuts i whole now
-    → next ≡ kind_cut (get_or cuts i d) now → IsKindSoFar cuts (i + 1) whole next
-kind_further cuts i d whole now next lt h e =
-    h ∙ ap (λ (cs : List Cut). part_kind cs now) (left cuts i d lt) ∙ ap (part_kind (drop (i + 1) cuts)) (sym e)
+-- and the kind that it leaves is the kind so far
+pub kind_further : (cuts : List Cut) (i : ℕ) (default : Cut) (whole now next : Kind) → i < length cuts
+    → IsKindSoFar cuts i whole now → next ≡ kind_cut (get_or cuts i default) now → IsKindSoFar cuts (i + 1) whole next
+kind_further cuts i default whole now next inside so_far is =
+    so_far ∙ ap (λ (cs : List Cut). part_kind cs now) (left cuts i default inside)
+    ∙ ap (part_kind (drop (i + 1) cuts)) (sym is)

@@ -110,17 +110,23 @@ cut_of first at y = whole (nat_lt at y.number)
     whole true = record { number = refl; key = refl; returned = λ t e. (t, e, refl) }
     whole false = returned y.returned refl
 
--- If w did not return before y was invoked, no call with the times of w returned before one with those of y.
-pub in_time : (x z y w : Call) → IsTimed x y → IsTimed z w → (ReturnsBefore w y → ⊥) → ReturnsBefore z x → ⊥
-in_time x z y w a b h r =
-    let u = b.returned r.0 r.1 in
-    h (u.0, u.1, let n = a.number in let t = u.2 in let l = r.2 in omega arith)
+-- If one call did not return before another was invoked, no call with the one's times returned before one with the
+-- other's.
+pub in_time : (part part' call call' : Call) → IsTimed part call → IsTimed part' call'
+    → (ReturnsBefore call' call → ⊥) → ReturnsBefore part' part → ⊥
+in_time part part' call call' timed timed' not_before before =
+    let back = timed'.returned before.0 before.1 in
+    let number = timed.number in
+    let at = back.2 in
+    let less = before.2 in
+    not_before (back.0, back.1, omega arith)
 
--- If w did not return before y was invoked, no cut of w returned before a cut of y.
-pub in_time_cut : (x z y w : Call) → IsCutOf x y → IsCutOf z w → (ReturnsBefore w y → ⊥) → ReturnsBefore z x → ⊥
-in_time_cut x z y w a b h r =
-    in_time x z y w (record { number = a.number; returned = a.returned })
-    (record { number = b.number; returned = b.returned }) h r
+-- and no cut of the one returned before a cut of the other
+pub in_time_cut : (part part' call call' : Call) → IsCutOf part call → IsCutOf part' call'
+    → (ReturnsBefore call' call → ⊥) → ReturnsBefore part' part → ⊥
+in_time_cut part part' call call' cut cut' not_before before =
+    in_time part part' call call' (record { number = cut.number; returned = cut.returned })
+    (record { number = cut'.number; returned = cut'.returned }) not_before before
 
 -- ---- writes that may be before the first call
 

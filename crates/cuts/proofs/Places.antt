@@ -172,9 +172,10 @@ change_kind : (keeps : Option ℤ → Bool) (own : Option (AnyOp × AnyReply)) (
     → IfSome own IsOfRegister → IsOfRegister (change keeps own need c)
 change_kind keeps own need c k = grind (arith, setting_kind, replacing_kind)
 
+-- what a touch of the part becomes is a call of a register
 cut_kind : (keeps : Option ℤ → Bool) (other : ℤ) (kept : Bool) (own : Option (AnyOp × AnyReply)) (need : Need)
-    (l : Leave) → IfSome own IsOfRegister → IfSome (cut_touch keeps other kept own need l) IsOfRegister
-cut_kind keeps other kept own need l k = grind (arith, change_kind, setting_kind)
+    (leave : Leave) → IfSome own IsOfRegister → IfSome (cut_touch keeps other kept own need leave) IsOfRegister
+cut_kind keeps other kept own need leave of_register = grind (arith, change_kind, setting_kind)
 
 pub into_part : (place : Place) (keeps : ℤ → Bool) (other : ℤ)
     → IsInto (done_at place keeps other) (opened_at place keeps other) (λ op. kind_of_part place (kind_of op))

@@ -44,8 +44,9 @@ Replied Q c (e ∷ es) = (after : Content) × (reply : AnyReply) × (next c e.op
     × IfSome e.returned (λ r. r.reply ≡ reply) × Q e reply × Replied Q after es
 
 pub record Simulates (R : Content → Content → Type 0) (kept : ℕ → Bool) (Q : Call → AnyReply → Type 0) : Type 0 where
-  pub step : (e : Call) (c d after : Content) (reply : AnyReply) → R c d → next c e.op ≡ Some (after, reply)
-      → Q e reply → Stepped R e.op (kept e.number) (is_some e.returned) reply d after
+  pub step : (call : Call) (whole part after : Content) (reply : AnyReply) → R whole part
+      → next whole call.op ≡ Some (after, reply) → Q call reply
+      → Stepped R call.op (kept call.number) (is_some call.returned) reply part after
 
 pub record Choice (kept : ℕ → Bool) (d : Content) (es : List Call) : Type 0 where
   pub flags : List Bool

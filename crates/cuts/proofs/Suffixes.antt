@@ -63,10 +63,11 @@ record Joined (kind : Kind) (from at : ℕ) (first : Option (AnyOp × AnyReply))
       → ((x y : Call) → In x front → In y es → ReturnsBefore y x → ⊥) → Pairs (λ x y. ReturnsBefore y x → ⊥) front
       → Pairs (λ x y. ReturnsBefore y x → ⊥) es → Pairs (λ x y. ReturnsBefore y x → ⊥) entries
 
+-- a suffix that begins with no content of its own has the picked calls alone
 joined_none : (kind : Kind) (from at : ℕ) (front es : List Call) → ((x : Call) → In x front → ⊥)
     → RepliesAlong (empty kind) es → Joined kind from at None front es es
-joined_none kind from at front es none h = record {
-  replies = h;
+joined_none kind from at front es none along = record {
+  replies = along;
   own = λ p e. absurd (cc e);
   fronts = λ e i. absurd (none e i);
   others = λ e i. i;
@@ -75,12 +76,13 @@ joined_none kind from at front es none h = record {
   in_time = λ a b c f g. g;
 }
 
-joined_some : (kind : Kind) (from at : ℕ) (first : AnyOp × AnyReply) (d : Content) (front es : List Call)
-    → next (empty kind) first.0 ≡ Some (d, first.1) → ((x : Call) → In x front → IsWrite x × (kind ≡ Register))
-    → (kind ≡ Register → (v : ℤ) × (first ≡ (Write v, Value (Some v)))) → RepliesAlong d es
+-- a suffix that begins with a call has the writes that may be before it, the call, and the picked calls
+joined_some : (kind : Kind) (from at : ℕ) (first : AnyOp × AnyReply) (content : Content) (front es : List Call)
+    → next (empty kind) first.0 ≡ Some (content, first.1) → ((x : Call) → In x front → IsWrite x × (kind ≡ Register))
+    → (kind ≡ Register → (v : ℤ) × (first ≡ (Write v, Value (Some v)))) → RepliesAlong content es
     → Joined kind from at (Some first) front es (front ++ returned_call from at first ∷ es)
-joined_some kind from at first d front es does writes reg h = record {
-  replies = front_replies kind front from at first d es does writes reg h;
+joined_some kind from at first content front es does writes written along = record {
+  replies = front_replies kind front from at first content es does writes written along;
   own = λ p e. in_right (returned_call from at p) front (returned_call from at first ∷ es)
       (inl (ap (returned_call from at) (sym (same_Some first p e))));
   fronts = λ e i. in_left e front (returned_call from at first ∷ es) i;
@@ -141,6 +143,7 @@ record Chosen (kind : Kind) (from at : ℕ) (first : Option (AnyOp × AnyReply))
   joined : Joined kind from at first front (pick flags es) entries
   whole : (x : Call) → In x es → IsSome x.returned → In x (pick flags es)
 
+-- some of the calls from a content on are a suffix from what that content shows on
 chosen : (kind : Kind) (key : Option ℤ) (from at : ℕ) (first : Option (AnyOp × AnyReply)) (front es : List Call)
     (after : Content)
     → ((x : Call) → In x es → key_of x.op ≡ key)
@@ -148,104 +151,111 @@ chosen : (kind : Kind) (key : Option ℤ) (from at : ℕ) (first : Option (AnyOp
     → ((p : AnyOp × AnyReply) → first ≡ Some p → kind ≡ Register → (v : ℤ) × (p ≡ (Write v, Value (Some v))))
     → Begins (on_key key) kind first after
     → RepliesAlong after es → Chosen kind from at first front es
-chosen kind key from at first front es after on writes reg begins h = go first refl begins
+chosen kind key from at first front es after on writes written begins along = go first refl begins
   where
     may : Replied (MayStep (is_free key) (on_key key) (λ n. true)) after es
-    may = all_step (is_free key) (on_key key) es after (λ e i. all_fit e.op key (reply_of e.returned) (on e i)) h
+    may = all_step (is_free key) (on_key key) es after (λ e i. all_fit e.op key (reply_of e.returned) (on e i)) along
 
     choice : (d : Content) → IsShadow (on_key key) after d → Choice (λ n. true) d es
     choice d s = choose (IsShadow (on_key key)) (λ n. true) (MayStep (is_free key) (on_key key) (λ n. true))
         (closed_simulates (is_free key) (on_key key) (λ n. true) (free_keeps key)) es after d s may
 
     go : (f : Option (AnyOp × AnyReply)) → first ≡ f → Begins (on_key key) kind f after → Chosen kind from at f front es
-    go None e b = let m = choice (empty kind) b in
+    go None e b =
+        let m = choice (empty kind) b in
         record {
           flags = m.flags;
           entries = pick m.flags es;
           joined = joined_none kind from at front (pick m.flags es) (λ x i. (writes x i).0 e) m.replies;
           whole = λ x i so. m.whole x i refl so;
         }
-    go (Some p) e b = let m = choice b.0 b.2 in
+    go (Some p) e b =
+        let m = choice b.0 b.2 in
         record {
           flags = m.flags;
           entries = front ++ returned_call from at p ∷ pick m.flags es;
           joined =
               joined_some kind from at p b.0 front (pick m.flags es) b.1 (λ x i. let w = writes x i in (w.1, w.2))
-              (reg p e) m.replies;
+              (written p e) m.replies;
           whole = λ x i so. m.whole x i refl so;
         }
 
-suffix_valid : (kind : Kind) (calls : List Call) (e : Call) (r : Return) (first : Option (AnyOp × AnyReply))
-    (order : List ℤ) → Contains calls e
-    → All (λ f. kind_of f.op ≡ kind) calls → e.returned ≡ Some r → leaves e.op r.reply ≡ Some first
-    → All (λ f. key_of f.op ≡ key_of e.op) calls
-    → IsValidOrder kind calls order → (part : List ℤ) × IsValidOrder kind (calls_from e.number r.at first calls) part
-suffix_valid kind calls e r first order stands kinds ret fr on v =
+-- the suffix that begins with a call has a valid order if all calls have one
+suffix_valid : (kind : Kind) (calls : List Call) (call : Call) (response : Return) (first : Option (AnyOp × AnyReply))
+    (order : List ℤ) → Contains calls call
+    → All (λ f. kind_of f.op ≡ kind) calls → call.returned ≡ Some response → leaves call.op response.reply ≡ Some first
+    → All (λ f. key_of f.op ≡ key_of call.op) calls → IsValidOrder kind calls order
+    → (part : List ℤ) × IsValidOrder kind (calls_from call.number response.at first calls) part
+suffix_valid kind calls call response first order stands kinds returned leaves_first one_key valid =
     let number : Call → ℤ = λ x. pos x.number in
-    let from : ℕ = e.number in
-    let at : ℕ = r.at in
-    let in_calls_of = in_from_contains calls e stands in
+    let from : ℕ = call.number in
+    let at : ℕ = response.at in
+    let in_calls_of = in_from_contains calls call stands in
     let of_kind : (x : Call) → In x calls → kind_of x.op ≡ kind =
     λ x i. all_at (λ f. kind_of f.op ≡ kind) calls kinds x i in
-    let s = in_split e v.entries (in_entries v e in_calls_of (ap is_some ret)) in
+    let s = in_split call valid.entries (in_entries valid call in_calls_of (ap is_some returned)) in
     let earlier : List Call = s.0 in
     let later : List Call = s.1 in
-    let b = replies_after earlier e later (empty kind) (subst (RepliesAlong (empty kind)) s.2 v.replies) in
-    let same = subst (λ (o : Option Return). IfSome o (λ r. r.reply ≡ b.reply)) ret b.agrees in
+    let b = replies_after earlier call later (empty kind) (subst (RepliesAlong (empty kind)) s.2 valid.replies) in
+    let same = subst (λ (o : Option Return). IfSome o (λ r. r.reply ≡ b.reply)) returned b.agrees in
     let told = subst (λ (o : Option (Content × AnyReply)). IfSome o
-    (λ p. IfSome (leaves e.op p.1) (λ f. Begins (on_key (key_of e.op)) (kind_of e.op) f p.0))) b.does
-    (tells b.before e.op) in
-    let begins = subst (λ k. Begins (on_key (key_of e.op)) k first b.after) (of_kind e in_calls_of)
+    (λ p. IfSome (leaves call.op p.1) (λ f. Begins (on_key (key_of call.op)) (kind_of call.op) f p.0))) b.does
+    (tells b.before call.op) in
+    let begins = subst (λ k. Begins (on_key (key_of call.op)) k first b.after) (of_kind call in_calls_of)
     (subst (λ (o : Option (Option (AnyOp × AnyReply))). IfSome o
-    (λ f. Begins (on_key (key_of e.op)) (kind_of e.op) f b.after)) (ap (leaves e.op) (sym same) ∙ fr) told) in
+    (λ f. Begins (on_key (key_of call.op)) (kind_of call.op) f b.after))
+    (ap (leaves call.op) (sym same) ∙ leaves_first) told) in
     let cut : Call → Call = call_later first at in
     let es : List Call = map cut later in
     let front : List Call = filter_map (front_call from at first) earlier in
-    let in_later : (y : Call) → In y later → In y v.entries =
-    λ y i. subst (In y) (sym s.2) (in_right y earlier (e ∷ later) (inr i)) in
-    let in_earlier : (y : Call) → In y earlier → In y v.entries =
-    λ y i. subst (In y) (sym s.2) (in_left y earlier (e ∷ later) i) in
-    let m = chosen kind (key_of e.op) from at first front es b.after
-    (λ x i. let y = in_map cut x later i in
+    let in_later : (y : Call) → In y later → In y valid.entries =
+    λ y i. subst (In y) (sym s.2) (in_right y earlier (call ∷ later) (inr i)) in
+    let in_earlier : (y : Call) → In y earlier → In y valid.entries =
+    λ y i. subst (In y) (sym s.2) (in_left y earlier (call ∷ later) i) in
+    let m = chosen kind (key_of call.op) from at first front es b.after
+    (λ x i.
+    let y = in_map cut x later i in
     ap (λ (z : Call). key_of z.op) y.2 ∙ (cut_of first at y.0).key
-    ∙ all_at (λ f. key_of f.op ≡ key_of e.op) calls on y.0 (in_calls v y.0 (in_later y.0 y.1)))
-    (λ x i. let y = in_filter_map (front_call from at first) x earlier i in
+    ∙ all_at (λ f. key_of f.op ≡ key_of call.op) calls one_key y.0 (in_calls valid y.0 (in_later y.0 y.1)))
+    (λ x i.
+    let y = in_filter_map (front_call from at first) x earlier i in
     let f = front_facts from at first y.0 x y.2 in
-    (f.began, (y.0.number, f.when, f.value, f.write), sym (of_kind y.0 (in_calls v y.0 (in_earlier y.0 y.1))) ∙ f.kind))
-    (λ p q k. first_write e.op r.reply p (fr ∙ ap (λ (z : Option (AnyOp × AnyReply)). Some z) q)
-    (of_kind e in_calls_of ∙ k))
+    let kinds_are = sym (of_kind y.0 (in_calls valid y.0 (in_earlier y.0 y.1))) ∙ f.kind in
+    (f.began, (y.0.number, f.when, f.value, f.write), kinds_are))
+    (λ p q k. first_write call.op response.reply p (leaves_first ∙ ap (λ (z : Option (AnyOp × AnyReply)). Some z) q)
+    (of_kind call in_calls_of ∙ k))
     begins (later_replies first at later b.after b.replies) in
     let j = m.joined in
     let picked : List Call = pick m.flags es in
     let entries : List Call = m.entries in
-    let apart = pairs_at (λ x y. x.number ≢ y.number) earlier e later
-    (subst (Pairs (λ x y. x.number ≢ y.number)) s.2 (numbers_apart v)) in
-    let in_time = pairs_at (λ x y. ReturnsBefore y x → ⊥) earlier e later
-    (subst (Pairs (λ x y. ReturnsBefore y x → ⊥)) s.2 (in_time_order v)) in
-    let from_later : (x : Call) → In x picked → (y : Call) × In y later × IsCutOf x y × (x ≡ cut y) = λ x i. let y =
-    in_map cut x later (in_pick m.flags es x i) in
-    (y.0, y.1, subst (λ (z : Call). IsCutOf z y.0) (sym y.2) (cut_of first at y.0), y.2) in
+    let apart = pairs_at (λ x y. x.number ≢ y.number) earlier call later
+    (subst (Pairs (λ x y. x.number ≢ y.number)) s.2 (numbers_apart valid)) in
+    let in_time = pairs_at (λ x y. ReturnsBefore y x → ⊥) earlier call later
+    (subst (Pairs (λ x y. ReturnsBefore y x → ⊥)) s.2 (in_time_order valid)) in
+    let from_later : (x : Call) → In x picked → (y : Call) × In y later × IsCutOf x y × (x ≡ cut y) = λ x i.
+        let y = in_map cut x later (in_pick m.flags es x i) in
+        (y.0, y.1, subst (λ (z : Call). IsCutOf z y.0) (sym y.2) (cut_of first at y.0), y.2) in
     let from_front : (x : Call) → In x front → (y : Call) × In y earlier × IsCutOf x y × IsFront from at first y x =
-    λ x i. let y =
-    in_filter_map (front_call from at first) x earlier i in
-    (y.0, y.1, front_cut from at first y.0 x y.2, front_facts from at first y.0 x y.2) in (
+        λ x i.
+        let y = in_filter_map (front_call from at first) x earlier i in
+        (y.0, y.1, front_cut from at first y.0 x y.2, front_facts from at first y.0 x y.2) in (
       map number entries,
       record {
         entries = entries;
         numbers = refl;
         known = all_from_in (Contains (calls_from from at first calls)) entries
             (λ x i. contains_from_in (calls_from from at first calls) x (elim (j.from_where x i) [
-              | inl q ↦ in_filter_map_from (call_from from at first) e x calls in_calls_of
-                  (call_from_own from at first e q.0 refl q.1 ∙ ap (λ (z : Call). Some z) (sym q.2))
+              | inl q ↦ in_filter_map_from (call_from from at first) call x calls in_calls_of
+                  (call_from_own from at first call q.0 refl q.1 ∙ ap (λ (z : Call). Some z) (sym q.2))
               | inr k ↦ elim k [
                 | inl w ↦
                     let y = from_front x w in
-                    in_filter_map_from (call_from from at first) y.0 x calls (in_calls v y.0 (in_earlier y.0 y.1))
+                    in_filter_map_from (call_from from at first) y.0 x calls (in_calls valid y.0 (in_earlier y.0 y.1))
                     (call_from_other from at first y.0 (apart.0 y.0 y.1) y.3.not_over
                     ∙ ap (λ (z : Call). Some z) y.3.is_later)
                 | inr w ↦
                     let y = from_later x w in
-                    in_filter_map_from (call_from from at first) y.0 x calls (in_calls v y.0 (in_later y.0 y.1))
+                    in_filter_map_from (call_from from at first) y.0 x calls (in_calls valid y.0 (in_later y.0 y.1))
                     (call_from_other from at first y.0 (λ q. apart.1 y.0 y.1 (sym q))
                     (not_ended from y.0.returned (λ t q l. in_time.1 y.0 y.1 (t, q, l)))
                     ∙ ap (λ (z : Call). Some z) (sym y.3))
@@ -258,7 +268,9 @@ suffix_valid kind calls e r first order stands kinds ret fr on v =
             (j.pairs
             (λ x i q. let y = from_front x i in apart.0 y.0 y.1 (sym y.2.number ∙ q))
             (λ x i q. let y = from_later x i in apart.1 y.0 y.1 (sym (sym y.2.number ∙ q)))
-            (λ x z i k q. let y = from_front x i in let w = from_later z k in
+            (λ x z i k q.
+            let y = from_front x i in
+            let w = from_later z k in
             apart.4 y.0 w.0 y.1 w.1 (sym y.2.number ∙ q ∙ w.2.number))
             (pairs_filter_map (λ x y. x.number ≢ y.number) (λ x y. x.number ≢ y.number)
             (front_call from at first) earlier
@@ -274,10 +286,10 @@ suffix_valid kind calls e r first order stands kinds ret fr on v =
               | inl q ↦ subst (λ (z : Call). In z entries) (sym q.2) (j.own q.0 q.1)
               | inr q ↦
                   let l = late_facts from at first y.0 (subst (λ (z : Call). IsSome z.returned) q.1 so) in
-                  let there = subst (In y.0) s.2 (in_entries v y.0 y.1 (ap is_some l.was)) in
-                  elim (in_append y.0 earlier (e ∷ later) there) [
+                  let there = subst (In y.0) s.2 (in_entries valid y.0 y.1 (ap is_some l.was)) in
+                  elim (in_append y.0 earlier (call ∷ later) there) [
                     | inl k ↦ elim l.either [
-                      | inl w ↦ absurd (in_time.0 y.0 k (r, ret, w))
+                      | inl w ↦ absurd (in_time.0 y.0 k (response, returned, w))
                       | inr f ↦ j.fronts x (subst (λ (z : Call). In z front) (sym q.1)
                           (in_filter_map_from (front_call from at first) y.0 (cut y.0) earlier k (f q.2)))
                     ]
@@ -289,10 +301,16 @@ suffix_valid kind calls e r first order stands kinds ret fr on v =
                   ]
             ]));
         in_order = all_from_pairs (λ x y. ReturnsBefore y x → ⊥) entries (j.in_time
-            (λ x i l. let y = from_front x i in in_time.0 y.0 y.1 (r, ret, subst (λ n. at < n) y.2.number l))
-            (λ x t i q l. let y = from_later x i in let u = y.2.returned t q in
+            (λ x i l.
+            let y = from_front x i in
+            in_time.0 y.0 y.1 (response, returned, subst (λ n. at < n) y.2.number l))
+            (λ x t i q l.
+            let y = from_later x i in
+            let u = y.2.returned t q in
             in_time.1 y.0 y.1 (u.0, u.1, subst (λ n. n < from) (sym u.2) l))
-            (λ x z i k. let y = from_front x i in let w = from_later z k in
+            (λ x z i k.
+            let y = from_front x i in
+            let w = from_later z k in
             in_time_cut x z y.0 w.0 y.2 w.2 (in_time.4 y.0 w.0 y.1 w.1))
             (pairs_filter_map (λ x y. ReturnsBefore y x → ⊥) (λ x y. ReturnsBefore y x → ⊥)
             (front_call from at first) earlier

@@ -7,25 +7,33 @@ use Rattle.std.specs.Cmp.{int_cmp_total}
 use Rattle.std.specs.FinMap as map
 use Rattle.std.specs.FinSet as set
 
-same_key : (k q : ℤ) → eq_by_cmp int_cmp k q ≡ int_eq q k
-same_key k q = grind (arith, ints)
+same_key : (key other : ℤ) → eq_by_cmp int_cmp key other ≡ int_eq other key
+same_key key other = grind (arith, ints)
 
 -- what a table has for a key after an insert
-pub get-insert : (m : map.FinMap int_cmp ℤ) (q w k : ℤ)
-    → map.get (map.insert m q w) k ≡ cond (int_eq q k) (Some w) (map.get m k)
-get-insert m q w k = map.get-insert int_cmp_total m q w k ∙ ap (λ b. cond b (Some w) (map.get m k)) (same_key k q)
+pub get-insert : (table : map.FinMap int_cmp ℤ) (put value key : ℤ)
+    → map.get (map.insert table put value) key ≡ cond (int_eq put key) (Some value) (map.get table key)
+get-insert table put value key =
+    map.get-insert int_cmp_total table put value key
+    ∙ ap (λ b. cond b (Some value) (map.get table key)) (same_key key put)
 
 -- what a table has for a key after a removal
-pub get-remove : (m : map.FinMap int_cmp ℤ) (q k : ℤ)
-    → map.get (map.remove m q) k ≡ cond (int_eq q k) None (map.get m k)
-get-remove m q k = map.get-remove int_cmp_total m q k ∙ ap (λ b. cond b None (map.get m k)) (same_key k q)
+pub get-remove : (table : map.FinMap int_cmp ℤ) (removed key : ℤ)
+    → map.get (map.remove table removed) key ≡ cond (int_eq removed key) None (map.get table key)
+get-remove table removed key =
+    map.get-remove int_cmp_total table removed key
+    ∙ ap (λ b. cond b None (map.get table key)) (same_key key removed)
 
 -- which elements a set has after an insert
-pub contains-insert : (s : set.FinSet int_cmp) (v q : ℤ) → set.contains (set.insert s v) q
-    ≡ (int_eq v q || set.contains s q)
-contains-insert s v q = set.contains-insert int_cmp_total s v q ∙ ap (λ b. b || set.contains s q) (same_key q v)
+pub contains-insert : (elements : set.FinSet int_cmp) (added value : ℤ) → set.contains (set.insert elements added) value
+    ≡ (int_eq added value || set.contains elements value)
+contains-insert elements added value =
+    set.contains-insert int_cmp_total elements added value
+    ∙ ap (λ b. b || set.contains elements value) (same_key value added)
 
 -- which elements a set has after a removal
-pub contains-remove : (s : set.FinSet int_cmp) (v q : ℤ)
-    → set.contains (set.remove s v) q ≡ (not (int_eq v q) && set.contains s q)
-contains-remove s v q = set.contains-remove int_cmp_total s v q ∙ ap (λ b. not b && set.contains s q) (same_key q v)
+pub contains-remove : (elements : set.FinSet int_cmp) (removed value : ℤ)
+    → set.contains (set.remove elements removed) value ≡ (not (int_eq removed value) && set.contains elements value)
+contains-remove elements removed value =
+    set.contains-remove int_cmp_total elements removed value
+    ∙ ap (λ b. not b && set.contains elements value) (same_key value removed)

@@ -26,10 +26,11 @@ use Rattle.locality.proofs.WrittenOut.{none_from, well_formed}
 -- ---- the operations of a completion
 
 -- a call with its response counts once among the responses, and once among the invocations
-counted : (p q x : ℕ) (op : AnyOp) (r : AnyReply) (rest kept : List Event)
-    → count (responds p) rest ≤ count (invokes p) kept
-    → count (responds p) (Inv q x op ∷ Res q x r ∷ rest) ≤ count (invokes p) (Inv q x op ∷ Res q x r ∷ kept)
-counted p q x op r rest kept l = grind arith
+counted : (process other object : ℕ) (op : AnyOp) (reply : AnyReply) (rest kept : List Event)
+    → count (responds process) rest ≤ count (invokes process) kept
+    → count (responds process) (Inv other object op ∷ Res other object reply ∷ rest) ≤ count (invokes process)
+    (Inv other object op ∷ Res other object reply ∷ kept)
+counted process other object op reply rest kept fewer = grind arith
 
 responses_kept : (p : ℕ) (s : List Event) → IsSequential s → count (responds p) s ≤ count (invokes p) (complete s)
 responses_kept p [] h = omega arith
@@ -150,30 +151,36 @@ no_response n =
     let p : ℕ = suc (suc (suc n)) in
     rw (none_from process_of 3 overtaken refl p (omega arith)) at (responds_of_process p overtaken)
 
-order_kept : (p t q u : ℕ) → t < count (responds p) overtaken → u < count (responds q) overtaken
-    → Moment overtaken (record { process = p; turn = t }) (record { process = q; turn = u })
-    → Moment overtaking (record { process = p; turn = t }) (record { process = q; turn = u })
-order_kept p t zero u i j m =
-    let j' : u < 1 = j in
-    let u' : u ≡ 0 = omega (arith, j') in
-    absurd (after_first (record { process = p; turn = t }) (record { process = zero; turn = u }) refl u' m)
-order_kept p t (suc zero) u i j m = let j' : u < 0 = j in absurd (omega (arith, j'))
-order_kept p t (suc (suc (suc n))) u i j m = let none = no_response n in absurd (omega (arith, j, none))
-order_kept (suc zero) t (suc (suc zero)) u i j m = let i' : t < 0 = i in absurd (omega (arith, i'))
-order_kept (suc (suc (suc n))) t (suc (suc zero)) u i j m = let none = no_response n in absurd (omega (arith, i, none))
-order_kept (suc (suc zero)) t (suc (suc zero)) u i j m =
-    let j' : u < 1 = j in
-    let r = m.returned in
-    let w = m.waiting in
-    absurd (after_itself m.front m.rest m.whole (omega (arith, r)) (omega (arith, w, j')))
-order_kept zero t (suc (suc zero)) u i j m = record {
+-- where the one operation returned before the other began in the history, it did so in the sequence too
+order_kept : (earlier turn later turn' : ℕ) → turn < count (responds earlier) overtaken
+    → turn' < count (responds later) overtaken
+    → Moment overtaken (record { process = earlier; turn = turn }) (record { process = later; turn = turn' })
+    → Moment overtaking (record { process = earlier; turn = turn }) (record { process = later; turn = turn' })
+order_kept earlier turn zero turn' back back' moment =
+    let few : turn' < 1 = back' in
+    let only : turn' ≡ 0 = omega (arith, few) in
+    absurd (after_first (record { process = earlier; turn = turn }) (record { process = zero; turn = turn' }) refl only
+    moment)
+order_kept earlier turn (suc zero) turn' back back' moment = let few : turn' < 0 = back' in absurd (omega (arith, few))
+order_kept earlier turn (suc (suc (suc n))) turn' back back' moment =
+    let none = no_response n in absurd (omega (arith, back', none))
+order_kept (suc zero) turn (suc (suc zero)) turn' back back' moment =
+    let few : turn < 0 = back in absurd (omega (arith, few))
+order_kept (suc (suc (suc n))) turn (suc (suc zero)) turn' back back' moment =
+    let none = no_response n in absurd (omega (arith, back, none))
+order_kept (suc (suc zero)) turn (suc (suc zero)) turn' back back' moment =
+    let few : turn' < 1 = back' in
+    let r = moment.returned in
+    let w = moment.waiting in
+    absurd (after_itself moment.front moment.rest moment.whole (omega (arith, r)) (omega (arith, w, few)))
+order_kept zero turn (suc (suc zero)) turn' back back' moment = record {
   front = Inv 1 0 (Enqueue (pos 2)) ∷ Res 1 0 (Value (Some (pos 2))) ∷ Inv 0 0 (Enqueue (pos 1))
       ∷ Res 0 0 (Value (Some (pos 1))) ∷ [];
   rest = Inv 2 0 Dequeue ∷ Res 2 0 (Value (Some (pos 2))) ∷ [];
   whole = refl;
-  returned = i;
+  returned = back;
   waiting = omega arith;
-  begun = j;
+  begun = back';
 }
 
 pub overtaken-as_written : IsLinearizableAsWritten queues overtaken

@@ -1,7 +1,7 @@
 -- Each process completed these calls in a linearizable history, by induction on its calls; and one line of all of them
 -- takes the calls as the sequence has them.
 use Rattle.std.proofs.Common.{arith, ◌≡◌, ℕ, ◌==◌, true, false, cond, inl, inr, List, [], ◌∷◌, ◌++◌, map, filter, Some}
-use Rattle.std.proofs.Common.{None, refl, ap, sym, ◌∙◌, subst}
+use Rattle.std.proofs.Common.{refl, ap, sym, ◌∙◌, subst}
 use Rattle.std.specs.List.{flat_map, AllByRecursion}
 use Rattle.std.proofs.lemmas.Option.{same_Some}
 use Rattle.std.proofs.lemmas.Bool.{cases_eq, eqb-true, ne_eqb, eq-eqb, and_parts}
@@ -11,7 +11,8 @@ use Rattle.model.specs.Histories.{Event, Inv, Res, process_of, is_invocation, by
 use Rattle.model.specs.Histories.{IsSequential}
 use Rattle.model.specs.Orders.{Numbered, events, Return, ProcessCall, calls_in}
 use Rattle.model.specs.Lists.{In}
-use Rattle.locality.proofs.ProcessHistories.{Turns, none, last, call, at, first, calls_in-call, complete-call}
+use Rattle.locality.proofs.ProcessHistories.{Turns, none, last, call, at, first, unanswered}
+use Rattle.locality.proofs.ProcessHistories.{calls_in-call, complete-call}
 
 -- ---- operations with their replies
 
@@ -56,46 +57,47 @@ no_more (e ∷ []) r s = let n = r.0 in absurd (cc (n, s))
 no_more (e ∷ f ∷ es) r s = absurd (no_match e f r.0 s.0)
 
 -- the last operation, pending or with its late response
-last_ended : (p n x : ℕ) (op : AnyOp) (es : List Event) → Responses es → IsSequential (Inv p x op ∷ es)
-    → Completed (at n (Inv p x op) ∷ []) (complete (Inv p x op ∷ es))
-last_ended p n x op [] r s = record {
+last_ended : (process number object : ℕ) (op : AnyOp) (es : List Event) → Responses es
+    → IsSequential (Inv process object op ∷ es)
+    → Completed (at number (Inv process object op) ∷ []) (complete (Inv process object op ∷ es))
+last_ended process number object op [] responses sequential = record {
   list = [];
   events_are = refl;
-  rest = calls_in (at n (Inv p x op) ∷ []);
+  rest = calls_in (at number (Inv process object op) ∷ []);
   front = refl;
-  recorded =
-      λ e r i q. absurd i;
+  recorded = λ e r i q. absurd i;
   whole = λ o r i q. absurd (pending o r i q);
 }
   where
-    pending : (o : ProcessCall) (r : Return) → In o (calls_in (at n (Inv p x op) ∷ [])) → o.call.returned ≡ Some r → ⊥
+    pending : (o : ProcessCall) (r : Return) → In o (calls_in (at number (Inv process object op) ∷ []))
+        → o.call.returned ≡ Some r → ⊥
     pending o r i q = elim i [ inl e ↦ cc (ap (λ (y : ProcessCall). y.call.returned) e) | inr j ↦ j ]
-last_ended p n x op (Inv q y o ∷ es) r s = absurd cc
-last_ended p n x op (Res q y v ∷ es) r s =
-    let both = and_parts (p == q) (x == y) s.0 in
-    let a : q ≡ p = sym (eqb-true p q both.0) in
-    let b : y ≡ x = sym (eqb-true x y both.1) in
-    let none_left : es ≡ [] = no_more es r.1 s.1 in
-    let o : ProcessCall = record { process = p; object = x; call = record { number = n; op = op; returned = None } } in
+last_ended process number object op (Inv q y made ∷ es) responses sequential = absurd cc
+last_ended process number object op (Res q y reply ∷ es) responses sequential =
+    let both = and_parts (process == q) (object == y) sequential.0 in
+    let a : q ≡ process = sym (eqb-true process q both.0) in
+    let b : y ≡ object = sym (eqb-true object y both.1) in
+    let none_left : es ≡ [] = no_more es responses.1 sequential.1 in
+    let made : ProcessCall = unanswered process number object op in
     rw (a, b, none_left)
     (record {
-      list = record { made = o; reply = v } ∷ [];
-      events_are = complete-call p x op v [];
+      list = record { made = made; reply = reply } ∷ [];
+      events_are = complete-call process object op reply [];
       rest = [];
       front = refl;
       recorded = λ e r i q. elim i [
         | inl t ↦ absurd (cc (ap (λ (y : Ended). y.made.call.returned) t))
         | inr j ↦ absurd j
       ];
-      whole = λ w r i q. elim i [
+      whole = λ o r i q. elim i [
         | inl t ↦ absurd (cc (ap (λ (y : ProcessCall). y.call.returned) t))
         | inr j ↦ absurd j
       ];
     })
 
-pub completed_any : (p : ℕ) (h : List Numbered) (es : List Event) → Turns p h → Responses es
+pub completed_any : (process : ℕ) (h : List Numbered) (es : List Event) → Turns process h → Responses es
     → IsSequential (events h ++ es) → Completed h (complete (events h ++ es))
-completed_any p h es none r s =
+completed_any process h es none r s =
     rw (no_more es r s)
     (record {
       list = [];
@@ -105,33 +107,35 @@ completed_any p h es none r s =
       recorded = λ e r i q. absurd i;
       whole = λ o r i q. absurd i;
     })
-completed_any p h es (last n x op) r s = last_ended p n x op es r s
-completed_any p h es (call n x op m v rest t) r s =
-    let below = completed_any p rest es t r s.1 in
-    let o : ProcessCall = first p n x op m v in
-    let os : calls_in (at n (Inv p x op) ∷ at m (Res p x v) ∷ rest) ≡ o ∷ calls_in rest =
-    calls_in-call p n x op m v rest in
+completed_any process h es (last number object op) r s = last_ended process number object op es r s
+completed_any process h es (call number object op later reply rest t) r s =
+    let below = completed_any process rest es t r s.1 in
+    let first' : ProcessCall = first process number object op later reply in
+    let calls_are : calls_in (at number (Inv process object op) ∷ at later (Res process object reply) ∷ rest)
+        ≡ first' ∷ calls_in rest =
+    calls_in-call process number object op later reply rest in
     record {
-      list = record { made = o; reply = v } ∷ below.list;
-      events_are = complete-call p x op v (events rest ++ es) ∙ ap (λ es. Inv p x op ∷ Res p x v ∷ es) below.events_are;
+      list = record { made = first'; reply = reply } ∷ below.list;
+      events_are = complete-call process object op reply (events rest ++ es)
+          ∙ ap (λ es. Inv process object op ∷ Res process object reply ∷ es) below.events_are;
       rest = below.rest;
-      front = os ∙ ap (λ ys. o ∷ ys) below.front;
+      front = calls_are ∙ ap (λ ys. first' ∷ ys) below.front;
       recorded = λ e r i q. elim i [
         | inl t ↦
-            let same : Some (record { at = m; reply = v }) ≡ Some r =
+            let same : Some (record { at = later; reply = reply }) ≡ Some r =
             sym (ap (λ (y : Ended). y.made.call.returned) t) ∙ q in
             ap (λ (y : Ended). y.reply) t
-            ∙ ap (λ (y : Return). y.reply) (same_Some (record { at = m; reply = v }) r same)
+            ∙ ap (λ (y : Return). y.reply) (same_Some (record { at = later; reply = reply }) r same)
         | inr j ↦ below.recorded e r j q
       ];
-      whole = λ w r i q. found o w r (subst (In w) os i) q below;
+      whole = λ w r i q. found first' w r (subst (In w) calls_are i) q below;
     }
   where
-    found : (o w : ProcessCall) (r : Return) → In w (o ∷ calls_in rest) → w.call.returned ≡ Some r
+    found : (first' w : ProcessCall) (r : Return) → In w (first' ∷ calls_in rest) → w.call.returned ≡ Some r
         → (b : Completed rest (complete (events rest ++ es)))
-        → (e : Ended) × In e (record { made = o; reply = v } ∷ b.list) × (e.made ≡ w)
-    found o w r i q b = elim i [
-      | inl t ↦ (record { made = o; reply = v }, inl refl, sym t)
+        → (e : Ended) × In e (record { made = first'; reply = reply } ∷ b.list) × (e.made ≡ w)
+    found first' w r i q b = elim i [
+      | inl t ↦ (record { made = first'; reply = reply }, inl refl, sym t)
       | inr j ↦ let e = b.whole w r j q in (e.0, inr e.1, e.2)
     ]
 
@@ -151,31 +155,36 @@ pub record Lined (s : List Event) (q : ℕ → List Ended) : Type 0 where
 abbrev popped : ℕ → List Ended → (ℕ → List Ended) → ℕ → List Ended
 popped p es q k = cond (k == p) es (q k)
 
-lined_step : (e f : Event) (s : List Event) (q : ℕ → List Ended) (o : Ended) (os : List Ended)
-    → q (process_of e) ≡ o ∷ os
-    → e ∷ f ∷ by_process (process_of e) s ≡ ended_events (o ∷ os) → o.made.process ≡ process_of e
-    → process_of f ≡ process_of e
-    → ((q : ℕ → List Ended) → ((p : ℕ) → by_process p s ≡ ended_events (q p))
-    → ((p : ℕ) (o : Ended) → In o (q p) → o.made.process ≡ p) → Lined s q)
-    → ((p : ℕ) → by_process p (e ∷ f ∷ s) ≡ ended_events (q p))
-    → ((p : ℕ) (o : Ended) → In o (q p) → o.made.process ≡ p) → Lined (e ∷ f ∷ s) q
-lined_step e f s q o os head same mine pair below all owned =
-    let p : ℕ = process_of e in
-    let q' : ℕ → List Ended = popped p os q in
-    let tail : by_process p s ≡ ended_events os = cc same in
-    let e_is : e ≡ Inv o.made.process o.made.object o.made.call.op = cc same in
-    let f_is : f ≡ Res o.made.process o.made.object o.reply = cc same in
-    let here : (k : ℕ) → by_process k s ≡ ended_events (q' k) = λ k. let whole = all k in grind arith in
-    let owns : (k : ℕ) (x : Ended) → In x (q' k) → x.made.process ≡ k = λ k.
+-- An invocation and its response come before a history that is one line with the queues without this operation: then
+-- all is one line.
+lined_step : (invocation response : Event) (later : List Event) (queues : ℕ → List Ended) (ended : Ended)
+    (others : List Ended) → queues (process_of invocation) ≡ ended ∷ others
+    → invocation ∷ response ∷ by_process (process_of invocation) later ≡ ended_events (ended ∷ others)
+    → ended.made.process ≡ process_of invocation → process_of response ≡ process_of invocation
+    → ((queues : ℕ → List Ended) → ((p : ℕ) → by_process p later ≡ ended_events (queues p))
+    → ((p : ℕ) (ended : Ended) → In ended (queues p) → ended.made.process ≡ p) → Lined later queues)
+    → ((p : ℕ) → by_process p (invocation ∷ response ∷ later) ≡ ended_events (queues p))
+    → ((p : ℕ) (ended : Ended) → In ended (queues p) → ended.made.process ≡ p)
+    → Lined (invocation ∷ response ∷ later) queues
+lined_step invocation response later queues ended others head same mine pair below all owned =
+    let p : ℕ = process_of invocation in
+    let shorter : ℕ → List Ended = popped p others queues in
+    let tail : by_process p later ≡ ended_events others = cc same in
+    let e_is : invocation ≡ Inv ended.made.process ended.made.object ended.made.call.op = cc same in
+    let f_is : response ≡ Res ended.made.process ended.made.object ended.reply = cc same in
+    let here : (k : ℕ) → by_process k later ≡ ended_events (shorter k) = λ k.
+        let whole = all k in
+        grind arith in
+    let owns : (k : ℕ) (x : Ended) → In x (shorter k) → x.made.process ≡ k = λ k.
     let at_p = owned p in
     let at_k = owned k in
     elim (cases_eq k p) [
       | inl t ↦ rw (eq-eqb k p t) (λ x i. owned p x (rw head (inr i)) ∙ sym t)
       | inr ne ↦ rw (ne_eqb k p ne) (owned k)
     ] in
-    let rest = below q' here owns in
+    let rest = below shorter here owns in
     record {
-      line = o ∷ rest.line;
+      line = ended ∷ rest.line;
       events_are = cc (e_is, f_is, rest.events_are);
       parts = λ k. let parts = rest.parts k in grind arith;
     }

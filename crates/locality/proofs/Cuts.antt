@@ -25,13 +25,15 @@ and_true : (a b : Bool) → b ≡ true → (a && b) ≡ a
 and_true true b e = e
 and_true false b e = refl
 
-not_less : (a b : List Numbered) (m x : Numbered) → Pairs (λ x y. x.number < y.number) (a ++ m ∷ b) → In x (m ∷ b)
-    → m.number ≤ x.number
-not_less [] b m x u i = elim i [
+-- where numbers rise, no later event has a lesser number
+not_less : (before after : List Numbered) (event other : Numbered)
+    → Pairs (λ x y. x.number < y.number) (before ++ event ∷ after) → In other (event ∷ after)
+    → event.number ≤ other.number
+not_less [] after event other rising i = elim i [
   | inl e ↦ omega (arith, ap (λ (k : Numbered). k.number) e)
-  | inr j ↦ let g = u.0 x j in omega arith
+  | inr j ↦ let g = rising.0 other j in omega arith
 ]
-not_less (y ∷ a) b m x u i = not_less a b m x u.1 i
+not_less (y ∷ before) after event other rising i = not_less before after event other rising.1 i
 
 -- where a test keeps all of what f gives of some elements, and nothing of the others
 pub filter_pieces : {X Y : Type 0} (q : Y → Bool) (s : X → Bool) (f : X → List Y) (xs : List X)
@@ -45,21 +47,25 @@ filter_pieces {X} q s f xs all none =
     passes : (x : X) (xs : List X) → In x (filter s xs) → s x ≡ true
     passes x xs i = in_filter_passes s x xs i
 
-both_kept : (q : Event → Bool) (e : ProcessCall) (g : Option AnyReply) (b : Bool)
-    → ((v : Event) → process_of v ≡ e.process → object_of v ≡ e.object → q v ≡ b)
-    → filter q (done e g) ≡ cond b (done e g) []
-both_kept q e None b h = grind arith
-both_kept q e (Some r) b h =
-    let invoked = h (Inv e.process e.object e.call.op) refl refl in
-    let returned = h (Res e.process e.object r) refl refl in
+-- a test that says the same of both events of an operation keeps both, or neither
+both_kept : (test : Event → Bool) (call : ProcessCall) (given : Option AnyReply) (kept : Bool)
+    → ((event : Event) → process_of event ≡ call.process → object_of event ≡ call.object → test event ≡ kept)
+    → filter test (done call given) ≡ cond kept (done call given) []
+both_kept test call None kept same = grind arith
+both_kept test call (Some reply) kept same =
+    let invoked = same (Inv call.process call.object call.call.op) refl refl in
+    let returned = same (Res call.process call.object reply) refl refl in
     grind arith
 
-late_kept : (q : Event → Bool) (e : ProcessCall) (o : Option Return) (g : Option AnyReply) (b : Bool)
-    → ((v : Event) → process_of v ≡ e.process → object_of v ≡ e.object → q v ≡ b)
-    → filter q (late e o g) ≡ cond b (late e o g) []
-late_kept q e (Some r) g b h = grind arith
-late_kept q e None None b h = grind arith
-late_kept q e None (Some r) b h = let returned = h (Res e.process e.object r) refl refl in grind arith
+-- and so of its late response
+late_kept : (test : Event → Bool) (call : ProcessCall) (recorded : Option Return) (given : Option AnyReply)
+    (kept : Bool)
+    → ((event : Event) → process_of event ≡ call.process → object_of event ≡ call.object → test event ≡ kept)
+    → filter test (late call recorded given) ≡ cond kept (late call recorded given) []
+late_kept test call (Some reply) given kept same = grind arith
+late_kept test call None None kept same = grind arith
+late_kept test call None (Some reply) kept same =
+    let returned = same (Res call.process call.object reply) refl refl in grind arith
 
 pub dones_of_process : (p : ℕ) (give : ProcessCall → Option AnyReply) (os : List ProcessCall)
     → by_process p (dones give os) ≡ dones give (filter (λ e. e.process == p) os)
@@ -120,28 +126,32 @@ pub length_filter_events : (q : Event → Bool) (h : List Numbered)
 length_filter_events q [] = refl
 length_filter_events q (m ∷ h) = let rest = length_filter_events q h in grind arith
 
-pairs_across : (R : Numbered → Numbered → Type 0) (a b : List Numbered) (x y : Numbered) → Pairs R (a ++ b) → In x a
-    → In y b → R x y
-pairs_across R [] b x y h i j = absurd i
-pairs_across R (z ∷ a) b x y h i j = elim i [
-  | inl e ↦ rw e (h.0 y (in_right y a b j))
-  | inr k ↦ pairs_across R a b x y h.1 k j
+-- what holds of each two of a list holds of one in its front and one in the rest
+pairs_across : (R : Numbered → Numbered → Type 0) (before after : List Numbered) (earlier later : Numbered)
+    → Pairs R (before ++ after) → In earlier before → In later after → R earlier later
+pairs_across R [] after earlier later each i j = absurd i
+pairs_across R (first ∷ before) after earlier later each i j = elim i [
+  | inl e ↦ rw e (each.0 later (in_right later before after j))
+  | inr k ↦ pairs_across R before after earlier later each.1 k j
 ]
 
 -- what is before an event is what has a lesser number
-pub filter_before : (q : Numbered → Bool) (a : List Numbered) (m : Numbered) (b : List Numbered)
-    → Pairs (λ x y. x.number < y.number) (a ++ m ∷ b)
-    → filter q a ≡ filter (λ k. q k && nat_lt k.number m.number) (a ++ m ∷ b)
-filter_before q a m b u =
-    let r : Numbered → Bool = λ k. q k && nat_lt k.number m.number in
-    let low : filter q a ≡ filter r a =
-    filter_same q r a (λ x i.
-    sym (and_true (q x) (nat_lt x.number m.number)
-    (lt-ltb x.number m.number (pairs_across (λ x y. x.number < y.number) a (m ∷ b) x m u i (inl refl))))) in
-    let high : filter r (m ∷ b) ≡ [] =
-    filter_none r (m ∷ b) (λ x i.
-    and_right (q x) (nat_lt x.number m.number) (le-ltb x.number m.number (not_less a b m x u i))) in
-    low ∙ (sym (append-nil (filter r a)) ∙ (ap (λ ks. filter r a ++ ks) (sym high) ∙ sym (filter-append r a (m ∷ b))))
+pub filter_before : (test : Numbered → Bool) (before : List Numbered) (event : Numbered) (after : List Numbered)
+    → Pairs (λ x y. x.number < y.number) (before ++ event ∷ after)
+    → filter test before ≡ filter (λ k. test k && nat_lt k.number event.number) (before ++ event ∷ after)
+filter_before test before event after rising =
+    let lower : Numbered → Bool = λ k. test k && nat_lt k.number event.number in
+    let low : filter test before ≡ filter lower before =
+    filter_same test lower before (λ x i.
+    sym (and_true (test x) (nat_lt x.number event.number)
+    (lt-ltb x.number event.number (pairs_across (λ x y. x.number < y.number) before (event ∷ after) x event rising i
+    (inl refl))))) in
+    let high : filter lower (event ∷ after) ≡ [] =
+    filter_none lower (event ∷ after) (λ x i.
+    and_right (test x) (nat_lt x.number event.number)
+    (le-ltb x.number event.number (not_less before after event x rising i))) in
+    low ∙ (sym (append-nil (filter lower before)) ∙ (ap (λ ks. filter lower before ++ ks) (sym high)
+    ∙ sym (filter-append lower before (event ∷ after))))
 
 -- the invocations of a process, and its responses, are in its part
 pub invokes_of_process : (p : ℕ) (h : List Event) → filter (invokes p) (by_process p h) ≡ filter (invokes p) h

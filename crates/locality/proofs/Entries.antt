@@ -26,17 +26,20 @@ number_of e = e.call.number
 
 -- the greatest number up to and with the entry numbered n, where m was the greatest before
 abbrev pub point_in : ℕ → List ProcessCall → ℕ → ℕ
-point_in m [] n = m
-point_in m (e ∷ es) n = cond (number_of e == n) (max m (number_of e)) (point_in (max m (number_of e)) es n)
+point_in greatest [] number = greatest
+point_in greatest (entry ∷ entries) number =
+    cond (number_of entry == number) (max greatest (number_of entry))
+    (point_in (max greatest (number_of entry)) entries number)
 
 abbrev pub calls : List ProcessCall → List Call
 calls es = map (λ e. e.call) es
 
 -- the reply that `next` gives at the entry numbered n, along entries that are all possible
-abbrev pub give_in : (object : Specification) (c : object.Content) (es : List ProcessCall)
-    → RepliesBy object.next c (calls es) → ℕ → Option AnyReply
-give_in object c [] h n = None
-give_in object c (e ∷ es) h n = cond (number_of e == n) (Some h.1) (give_in object h.0 es h.4 n)
+abbrev pub give_in : (object : Specification) (content : object.Content) (entries : List ProcessCall)
+    → RepliesBy object.next content (calls entries) → ℕ → Option AnyReply
+give_in object content [] replies number = None
+give_in object content (entry ∷ entries) replies number =
+    cond (number_of entry == number) (Some replies.1) (give_in object replies.0 entries replies.4 number)
 
 abbrev Once : List ProcessCall → Type 0
 Once es = Pairs (λ a b. number_of a ≢ number_of b) es
@@ -44,134 +47,166 @@ Once es = Pairs (λ a b. number_of a ≢ number_of b) es
 -- ---- the first entry, and those after it
 
 -- the entry at the head
-point_here : (m : ℕ) (e : ProcessCall) (es : List ProcessCall) → point_in m (e ∷ es) (number_of e) ≡ max m (number_of e)
-point_here m e es = ap (λ b. cond b (max m (number_of e)) (point_in (max m (number_of e)) es (number_of e)))
-    (eq-eqb (number_of e) (number_of e) refl)
+point_here : (greatest : ℕ) (entry : ProcessCall) (entries : List ProcessCall)
+    → point_in greatest (entry ∷ entries) (number_of entry) ≡ max greatest (number_of entry)
+point_here greatest entry entries =
+    ap (λ b. cond b (max greatest (number_of entry))
+    (point_in (max greatest (number_of entry)) entries (number_of entry)))
+    (eq-eqb (number_of entry) (number_of entry) refl)
 
-give_here : (object : Specification) (c : object.Content) (e : ProcessCall) (es : List ProcessCall)
-    (h : RepliesBy object.next c (calls (e ∷ es))) → give_in object c (e ∷ es) h (number_of e) ≡ Some h.1
-give_here object c e es h =
-    ap (λ b. cond b (Some h.1) (give_in object h.0 es h.4 (number_of e))) (eq-eqb (number_of e) (number_of e) refl)
+give_here : (object : Specification) (content : object.Content) (entry : ProcessCall) (entries : List ProcessCall)
+    (replies : RepliesBy object.next content (calls (entry ∷ entries)))
+    → give_in object content (entry ∷ entries) replies (number_of entry) ≡ Some replies.1
+give_here object content entry entries replies =
+    ap (λ b. cond b (Some replies.1) (give_in object replies.0 entries replies.4 (number_of entry)))
+    (eq-eqb (number_of entry) (number_of entry) refl)
 
 -- an entry after it
-point_there : (m : ℕ) (e : ProcessCall) (es : List ProcessCall) (n : ℕ) → number_of e ≢ n
-    → point_in m (e ∷ es) n ≡ point_in (max m (number_of e)) es n
-point_there m e es n ne =
-    ap (λ b. cond b (max m (number_of e)) (point_in (max m (number_of e)) es n)) (ne_eqb (number_of e) n ne)
+point_there : (greatest : ℕ) (entry : ProcessCall) (entries : List ProcessCall) (number : ℕ) → number_of entry ≢ number
+    → point_in greatest (entry ∷ entries) number ≡ point_in (max greatest (number_of entry)) entries number
+point_there greatest entry entries number other =
+    ap (λ b. cond b (max greatest (number_of entry)) (point_in (max greatest (number_of entry)) entries number))
+    (ne_eqb (number_of entry) number other)
 
-give_there : (object : Specification) (c : object.Content) (e : ProcessCall) (es : List ProcessCall)
-    (h : RepliesBy object.next c (calls (e ∷ es))) (n : ℕ) → number_of e ≢ n
-    → give_in object c (e ∷ es) h n ≡ give_in object h.0 es h.4 n
-give_there object c e es h n ne = ap (λ b. cond b (Some h.1) (give_in object h.0 es h.4 n)) (ne_eqb (number_of e) n ne)
+-- an entry after the head is given what the entries after the head give it
+give_there : (object : Specification) (content : object.Content) (entry : ProcessCall) (entries : List ProcessCall)
+    (replies : RepliesBy object.next content (calls (entry ∷ entries))) (number : ℕ) → number_of entry ≢ number
+    → give_in object content (entry ∷ entries) replies number ≡ give_in object replies.0 entries replies.4 number
+give_there object content entry entries replies number other =
+    ap (λ b. cond b (Some replies.1) (give_in object replies.0 entries replies.4 number))
+    (ne_eqb (number_of entry) number other)
 
 -- ---- how the points rise
 
 -- the point is not below the greatest before
-point_above : (m : ℕ) (es : List ProcessCall) (n : ℕ) → m ≤ point_in m es n
-point_above m [] n = omega arith
-point_above m (e ∷ es) n = let rest = point_above (max m (number_of e)) es n in grind (arith, rest)
+point_above : (greatest : ℕ) (entries : List ProcessCall) (number : ℕ) → greatest ≤ point_in greatest entries number
+point_above greatest [] number = omega arith
+point_above greatest (entry ∷ entries) number =
+    let rest = point_above (max greatest (number_of entry)) entries number in grind (arith, rest)
 
 -- nor below its own invocation
-pub point_own : (m : ℕ) (es : List ProcessCall) (e : ProcessCall) → Once es → In e es
-    → number_of e ≤ point_in m es (number_of e)
-point_own m [] e o i = absurd i
-point_own m (f ∷ es) e o i = elim i [
-  | inl q ↦ rw q (let h = point_here m f es in omega arith)
+pub point_own : (greatest : ℕ) (entries : List ProcessCall) (entry : ProcessCall) → Once entries → In entry entries
+    → number_of entry ≤ point_in greatest entries (number_of entry)
+point_own greatest [] entry once i = absurd i
+point_own greatest (head ∷ entries) entry once i = elim i [
+  | inl q ↦ rw q (let h = point_here greatest head entries in omega arith)
   | inr j ↦
-      let h = point_there m f es (number_of e) (o.0 e j) in let r = point_own (max m (number_of f)) es e o.1 j in
+      let h = point_there greatest head entries (number_of entry) (once.0 entry j) in
+      let r = point_own (max greatest (number_of head)) entries entry once.1 j in
       omega arith
 ]
 
 -- the points rise along the entries
-pub points_rise : (m : ℕ) (es : List ProcessCall) → Once es
-    → Pairs (λ a b. point_in m es (number_of a) ≤ point_in m es (number_of b)) es
-points_rise m [] o = tt
-points_rise m (e ∷ es) o =
-    let k : ℕ = max m (number_of e) in
-    let rest = points_rise k es o.1 in (
-      λ y i. let h = point_here m e es in let t = point_there m e es (number_of y) (o.0 y i) in
-          let a = point_above k es (number_of y) in omega arith,
-      pairs_weaker (λ a b. point_in k es (number_of a) ≤ point_in k es (number_of b))
-          (λ a b. point_in m (e ∷ es) (number_of a) ≤ point_in m (e ∷ es) (number_of b)) es
-          (λ a b i j l. let s = point_there m e es (number_of a) (o.0 a i) in
-          let t = point_there m e es (number_of b) (o.0 b j) in omega arith) rest,
+pub points_rise : (greatest : ℕ) (entries : List ProcessCall) → Once entries
+    → Pairs (λ a b. point_in greatest entries (number_of a) ≤ point_in greatest entries (number_of b)) entries
+points_rise greatest [] once = tt
+points_rise greatest (entry ∷ entries) once =
+    let top : ℕ = max greatest (number_of entry) in
+    let rest = points_rise top entries once.1 in (
+      λ y i.
+          let h = point_here greatest entry entries in
+          let t = point_there greatest entry entries (number_of y) (once.0 y i) in
+          let a = point_above top entries (number_of y) in
+          omega arith,
+      pairs_weaker (λ a b. point_in top entries (number_of a) ≤ point_in top entries (number_of b))
+          (λ a b. point_in greatest (entry ∷ entries) (number_of a) ≤ point_in greatest (entry ∷ entries) (number_of b))
+          entries
+          (λ a b i j l.
+          let s = point_there greatest entry entries (number_of a) (once.0 a i) in
+          let t = point_there greatest entry entries (number_of b) (once.0 b j) in
+          omega arith) rest,
     )
 
 -- the point is the greatest before, or the number of an entry
-pub point_from : (m : ℕ) (es : List ProcessCall) (e : ProcessCall) → Once es → In e es
-    → (point_in m es (number_of e) ≡ m) ⊎ ((f : ProcessCall) × In f es × (point_in m es (number_of e) ≡ number_of f))
-point_from m [] e o i = absurd i
-point_from m (f ∷ es) e o i =
-    let top : (max m (number_of f) ≡ m) ⊎ (max m (number_of f) ≡ number_of f) = max_either m (number_of f) in
+pub point_from : (greatest : ℕ) (entries : List ProcessCall) (entry : ProcessCall) → Once entries → In entry entries
+    → (point_in greatest entries (number_of entry) ≡ greatest) ⊎ ((head : ProcessCall) × In head entries
+    × (point_in greatest entries (number_of entry) ≡ number_of head))
+point_from greatest [] entry once i = absurd i
+point_from greatest (head ∷ entries) entry once i =
+    let top : (max greatest (number_of head) ≡ greatest) ⊎ (max greatest (number_of head) ≡ number_of head) =
+        max_either greatest (number_of head) in
     elim i [
       | inl q ↦
-          let h : point_in m (f ∷ es) (number_of e) ≡ max m (number_of f) =
-          ap (λ (g : ProcessCall). point_in m (f ∷ es) (number_of g)) q ∙ point_here m f es in
-          elim top [ inl t ↦ inl (h ∙ t) | inr t ↦ inr (f, inl refl, h ∙ t) ]
+          let h : point_in greatest (head ∷ entries) (number_of entry) ≡ max greatest (number_of head) =
+          ap (λ (g : ProcessCall). point_in greatest (head ∷ entries) (number_of g)) q
+          ∙ point_here greatest head entries in
+          elim top [ inl t ↦ inl (h ∙ t) | inr t ↦ inr (head, inl refl, h ∙ t) ]
       | inr j ↦
-          let h = point_there m f es (number_of e) (o.0 e j) in
-          elim (point_from (max m (number_of f)) es e o.1 j) [
-            | inl p ↦ elim top [ inl t ↦ inl (h ∙ (p ∙ t)) | inr t ↦ inr (f, inl refl, h ∙ (p ∙ t)) ]
+          let h = point_there greatest head entries (number_of entry) (once.0 entry j) in
+          elim (point_from (max greatest (number_of head)) entries entry once.1 j) [
+            | inl p ↦ elim top [ inl t ↦ inl (h ∙ (p ∙ t)) | inr t ↦ inr (head, inl refl, h ∙ (p ∙ t)) ]
             | inr r ↦ inr (r.0, inr r.1, h ∙ r.2)
           ]
     ]
 
 -- the point of an entry that returned is not after its return, where none stands after one that it precedes
-pub point_before : (m : ℕ) (es : List ProcessCall) (e : ProcessCall) (r : Return) → Once es
-    → Pairs (λ a b. ReturnsBefore b.call a.call → ⊥) es
-    → In e es → e.call.returned ≡ Some r → number_of e ≤ r.at → m ≤ r.at → point_in m es (number_of e) ≤ r.at
-point_before m [] e r o p i q l k = absurd i
-point_before m (f ∷ es) e r o p i q l k = elim i [
-  | inl s ↦ let h = point_here m f es in let t : number_of e ≡ number_of f = ap number_of s in
-      let u : point_in m (f ∷ es) (number_of e) ≡ point_in m (f ∷ es) (number_of f) = ap (point_in m (f ∷ es)) t in
+pub point_before : (greatest : ℕ) (entries : List ProcessCall) (entry : ProcessCall) (response : Return) → Once entries
+    → Pairs (λ a b. ReturnsBefore b.call a.call → ⊥) entries
+    → In entry entries → entry.call.returned ≡ Some response → number_of entry ≤ response.at → greatest ≤ response.at
+    → point_in greatest entries (number_of entry) ≤ response.at
+point_before greatest [] entry response once in_order i back after upto = absurd i
+point_before greatest (head ∷ entries) entry response once in_order i back after upto = elim i [
+  | inl s ↦
+      let h = point_here greatest head entries in
+      let t : number_of entry ≡ number_of head = ap number_of s in
+      let u : point_in greatest (head ∷ entries) (number_of entry) ≡ point_in greatest (head ∷ entries)
+          (number_of head) = ap (point_in greatest (head ∷ entries)) t in
       omega arith
   | inr j ↦
-      let low : number_of f ≤ r.at = not_below (number_of f) r.at (λ lt. p.0 e j (r, q, lt)) in
-      let rest = point_before (max m (number_of f)) es e r o.1 p.1 j q l (omega arith) in
-      let h = point_there m f es (number_of e) (o.0 e j) in omega arith
+      let low : number_of head ≤ response.at = not_below (number_of head) response.at
+          (λ lt. in_order.0 entry j (response, back, lt)) in
+      let rest = point_before (max greatest (number_of head)) entries entry response once.1 in_order.1 j back after
+          (omega arith) in
+      let h = point_there greatest head entries (number_of entry) (once.0 entry j) in
+      omega arith
 ]
 
 -- ---- which replies are given
 
 -- each entry is given a reply
-pub give_some : (object : Specification) (c : object.Content) (es : List ProcessCall)
-    (h : RepliesBy object.next c (calls es)) (e : ProcessCall) → Once es → In e es
-    → (r : AnyReply) × (give_in object c es h (number_of e) ≡ Some r)
-give_some object c [] h e o i = absurd i
-give_some object c (f ∷ es) h e o i = elim i [
-  | inl q ↦ (h.1, ap (λ (g : ProcessCall). give_in object c (f ∷ es) h (number_of g)) q ∙ give_here object c f es h)
+pub give_some : (object : Specification) (content : object.Content) (entries : List ProcessCall)
+    (replies : RepliesBy object.next content (calls entries)) (entry : ProcessCall) → Once entries → In entry entries
+    → (reply : AnyReply) × (give_in object content entries replies (number_of entry) ≡ Some reply)
+give_some object content [] replies entry once i = absurd i
+give_some object content (head ∷ entries) replies entry once i = elim i [
+  | inl q ↦ (replies.1, ap (λ (g : ProcessCall). give_in object content (head ∷ entries) replies (number_of g)) q
+      ∙ give_here object content head entries replies)
   | inr j ↦
-      let rest = give_some object h.0 es h.4 e o.1 j in
-      (rest.0, give_there object c f es h (number_of e) (o.0 e j) ∙ rest.1)
+      let rest = give_some object replies.0 entries replies.4 entry once.1 j in
+      (rest.0, give_there object content head entries replies (number_of entry) (once.0 entry j) ∙ rest.1)
 ]
 
 -- what is given a reply is an entry
-pub given_entry : (object : Specification) (c : object.Content) (es : List ProcessCall)
-    (h : RepliesBy object.next c (calls es)) (n : ℕ) (r : AnyReply) → give_in object c es h n ≡ Some r
-    → (e : ProcessCall) × In e es × (number_of e ≡ n)
-given_entry object c [] h n r g = absurd cc
-given_entry object c (e ∷ es) h n r g =
-    let rest = given_entry object h.0 es h.4 n r in
-    let here : (b : Bool) → (number_of e == n) ≡ b → cond b (Some h.1) (give_in object h.0 es h.4 n) ≡ Some r
-    → (f : ProcessCall) × In f (e ∷ es) × (number_of f ≡ n) =
+pub given_entry : (object : Specification) (content : object.Content) (entries : List ProcessCall)
+    (replies : RepliesBy object.next content (calls entries)) (number : ℕ) (reply : AnyReply)
+    → give_in object content entries replies number ≡ Some reply
+    → (entry : ProcessCall) × In entry entries × (number_of entry ≡ number)
+given_entry object content [] replies number reply given = absurd cc
+given_entry object content (entry ∷ entries) replies number reply given =
+    let rest = given_entry object replies.0 entries replies.4 number reply in
+    let here : (b : Bool) → (number_of entry == number) ≡ b
+        → cond b (Some replies.1) (give_in object replies.0 entries replies.4 number) ≡ Some reply
+    → (found : ProcessCall) × In found (entry ∷ entries) × (number_of found ≡ number) =
     elim [
-      | true ↦ λ q k. (e, inl refl, eqb-true (number_of e) n q)
-      | false ↦ λ q k. let f = rest k in (f.0, inr f.1, f.2)
+      | true ↦ λ q k. (entry, inl refl, eqb-true (number_of entry) number q)
+      | false ↦ λ q k. let found = rest k in (found.0, inr found.1, found.2)
     ] in
-    here (number_of e == n) refl g
+    here (number_of entry == number) refl given
 
 -- it is the reply that is recorded
-pub give_recorded : (object : Specification) (c : object.Content) (es : List ProcessCall)
-    (h : RepliesBy object.next c (calls es)) (e : ProcessCall) (r : Return) → Once es → In e es
-    → e.call.returned ≡ Some r → give_in object c es h (number_of e) ≡ Some r.reply
-give_recorded object c [] h e r o i q = absurd i
-give_recorded object c (f ∷ es) h e r o i q = elim i [
+pub give_recorded : (object : Specification) (content : object.Content) (entries : List ProcessCall)
+    (replies : RepliesBy object.next content (calls entries)) (entry : ProcessCall) (response : Return) → Once entries
+    → In entry entries → entry.call.returned ≡ Some response
+    → give_in object content entries replies (number_of entry) ≡ Some response.reply
+give_recorded object content [] replies entry response once i back = absurd i
+give_recorded object content (head ∷ entries) replies entry response once i back = elim i [
   | inl s ↦
-      let same : f.call.returned ≡ Some r = ap (λ (g : ProcessCall). g.call.returned) (sym s) ∙ q in
-      let said : r.reply ≡ h.1 = rw same at h.3 in
-      ap (λ (g : ProcessCall). give_in object c (f ∷ es) h (number_of g)) s
-      ∙ (give_here object c f es h ∙ ap Some (sym said))
-  | inr j ↦ give_there object c f es h (number_of e) (o.0 e j) ∙ give_recorded object h.0 es h.4 e r o.1 j q
+      let same : head.call.returned ≡ Some response = ap (λ (g : ProcessCall). g.call.returned) (sym s) ∙ back in
+      let said : response.reply ≡ replies.1 = rw same at replies.3 in
+      ap (λ (g : ProcessCall). give_in object content (head ∷ entries) replies (number_of g)) s
+      ∙ (give_here object content head entries replies ∙ ap Some (sym said))
+  | inr j ↦ give_there object content head entries replies (number_of entry) (once.0 entry j)
+      ∙ give_recorded object replies.0 entries replies.4 entry response once.1 j back
 ]
 
 -- ---- the sequence of the entries
@@ -182,16 +217,16 @@ done e None = []
 done e (Some r) = Inv e.process e.object e.call.op ∷ Res e.process e.object r ∷ []
 
 -- the entries with the replies that they are given follow `next`
-pub replies_from : (object : Specification) (c : object.Content) (es : List ProcessCall)
-    (h : RepliesBy object.next c (calls es)) (give : ProcessCall → Option AnyReply) → Once es
-    → ((e : ProcessCall) → In e es → give e ≡ give_in object c es h (number_of e))
-    → RepliesFrom object c (flat_map (λ e. done e (give e)) es)
-replies_from object c [] h give o g = tt
-replies_from object c (e ∷ es) h give o g =
-    let same : give e ≡ Some h.1 = g e (inl refl) ∙ give_here object c e es h in
-    let rest = replies_from object h.0 es h.4 give o.1
-    (λ y i. g y (inr i) ∙ give_there object c e es h (number_of y) (o.0 y i)) in
-    rw same (h.0, h.2, rest)
+pub replies_from : (object : Specification) (content : object.Content) (entries : List ProcessCall)
+    (replies : RepliesBy object.next content (calls entries)) (give : ProcessCall → Option AnyReply) → Once entries
+    → ((entry : ProcessCall) → In entry entries → give entry ≡ give_in object content entries replies (number_of entry))
+    → RepliesFrom object content (flat_map (λ entry. done entry (give entry)) entries)
+replies_from object content [] replies give once given = tt
+replies_from object content (entry ∷ entries) replies give once given =
+    let same : give entry ≡ Some replies.1 = given entry (inl refl) ∙ give_here object content entry entries replies in
+    let rest = replies_from object replies.0 entries replies.4 give once.1
+    (λ y i. given y (inr i) ∙ give_there object content entry entries replies (number_of y) (once.0 y i)) in
+    rw same (replies.0, replies.2, rest)
 
 -- any such list is sequential
 pub done_sequential : (es : List ProcessCall) (give : ProcessCall → Option AnyReply)

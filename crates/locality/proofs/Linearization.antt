@@ -39,11 +39,17 @@ pairs_ordered : (R : ProcessCall → ProcessCall → Type 0) (os : List ProcessC
 pairs_ordered R [] a b u h i j l = absurd i
 pairs_ordered R (o ∷ os) a b u h i j l = elim i [
   | inl s ↦ elim j [
-    | inl t ↦ let x = ap number_of s in let y = ap number_of t in absurd (omega arith)
+    | inl t ↦
+        let x = ap number_of s in
+        let y = ap number_of t in
+        absurd (omega arith)
     | inr k ↦ rw s (h.0 b k)
   ]
   | inr k ↦ elim j [
-    | inl t ↦ let g = u.0 a k in let y = ap number_of t in absurd (omega arith)
+    | inl t ↦
+        let g = u.0 a k in
+        let y = ap number_of t in
+        absurd (omega arith)
     | inr m ↦ pairs_ordered R os a b u.1 h.1 k m l
   ]
 ]
@@ -60,10 +66,11 @@ swap_filters : (p q : ProcessCall → Bool) (os : List ProcessCall) → filter p
 swap_filters p q os = filter-filter p q os
     ∙ (filter_same (λ x. q x && p x) (λ x. p x && q x) os (λ x i. and_comm (q x) (p x)) ∙ sym (filter-filter q p os))
 
-late_responds : (e : ProcessCall) (o : Option Return) (g : Option AnyReply) (v : Event) → In v (late e o g)
-    → is_invocation v ≡ false
-late_responds e None (Some r) v i = elim i [ inl q ↦ ap is_invocation q | inr n ↦ absurd n ]
-late_responds e o g v i = absurd i
+-- a late response is a response
+late_responds : (call : ProcessCall) (recorded : Option Return) (given : Option AnyReply) (event : Event)
+    → In event (late call recorded given) → is_invocation event ≡ false
+late_responds call None (Some reply) event i = elim i [ inl q ↦ ap is_invocation q | inr n ↦ absurd n ]
+late_responds call recorded given event i = absurd i
 
 -- what is added are responses
 added_responds : (give : ProcessCall → Option AnyReply) (os : List ProcessCall) (v : Event) → In v (added give os)
@@ -267,69 +274,76 @@ module _ (objects : ℕ → Specification) (h : List Numbered) (hist : IsHistory
   below_stands t e i = merged_stands e (in_filter (λ e. nat_lt (point e) t) e merged i)
 
   -- what has returned before the moment t stands below it in the line
-  returned_below : (p : ℕ) (a : List Numbered) (m : Numbered) (b : List Numbered) → h ≡ a ++ m ∷ b
-      → length (filter (responds p) (events a)) ≤ length (filter (responds p) (dones give (below m.number)))
-  returned_below p a m b cut =
-      let t : ℕ = m.number in
-      let u : Pairs (λ (x y : Numbered). x.number < y.number) (a ++ m ∷ b) = rw cut at (up h hist) in
-      let e1 : length (filter (responds p) (events a)) ≡ length (filter (λ k. responds p k.event) a) =
-      length_filter_events (responds p) a in
-      let e2 : length (filter (λ k. responds p k.event) a)
-      ≡ length (filter (λ k. responds p k.event && nat_lt k.number t) h) =
-      ap length (filter_before (λ k. responds p k.event) a m b u)
-      ∙ ap (λ hs. length (filter (λ k. responds p k.event && nat_lt k.number t) hs)) (sym cut) in
-      let e3 : length (filter (λ k. responds p k.event && nat_lt k.number t) (part p h))
-      ≡ length (filter (λ k. responds p k.event && nat_lt k.number t) h) = ap length (responds_in_part p t h) in
-      let e4 = responses_before p t (part p h) (turn_view h hist p) in
-      let e5 : length (filter (λ e. is_back t e.call.returned) (calls_in (part p h)))
-      ≡ length (filter (λ e. (e.process == p) && is_back t e.call.returned) (calls_in h)) =
-      ap (λ os. length (filter (λ e. is_back t e.call.returned) os)) (calls_in-part p h)
-      ∙ ap length (filter-filter (λ e. is_back t e.call.returned) (λ e. e.process == p) (calls_in h)) in
-      let e6 : length (filter (λ e. (e.process == p) && is_back t e.call.returned) (calls_in h))
-      ≤ length (filter (λ e. ((e.process == p) && stands e) && nat_lt (point e) t) (calls_in h)) =
-      length_filter_le (λ e. (e.process == p) && is_back t e.call.returned)
-      (λ e. ((e.process == p) && stands e) && nat_lt (point e) t) (calls_in h)
+  returned_below : (process : ℕ) (before : List Numbered) (event : Numbered) (after : List Numbered)
+      → h ≡ before ++ event ∷ after → length (filter (responds process) (events before))
+      ≤ length (filter (responds process) (dones give (below event.number)))
+  returned_below process before event after cut =
+      let moment : ℕ = event.number in
+      let rising : Pairs (λ (x y : Numbered). x.number < y.number) (before ++ event ∷ after) = rw cut at (up h hist) in
+      let events_are : length (filter (responds process) (events before))
+          ≡ length (filter (λ k. responds process k.event) before) =
+      length_filter_events (responds process) before in
+      let lower : length (filter (λ k. responds process k.event) before)
+      ≡ length (filter (λ k. responds process k.event && nat_lt k.number moment) h) =
+      ap length (filter_before (λ k. responds process k.event) before event after rising)
+      ∙ ap (λ hs. length (filter (λ k. responds process k.event && nat_lt k.number moment) hs)) (sym cut) in
+      let in_part : length (filter (λ k. responds process k.event && nat_lt k.number moment) (part process h))
+      ≡ length (filter (λ k. responds process k.event && nat_lt k.number moment) h) =
+      ap length (responds_in_part process moment h) in
+      let back = responses_before process moment (part process h) (turn_view h hist process) in
+      let of_process : length (filter (λ e. is_back moment e.call.returned) (calls_in (part process h)))
+      ≡ length (filter (λ e. (e.process == process) && is_back moment e.call.returned) (calls_in h)) =
+      ap (λ os. length (filter (λ e. is_back moment e.call.returned) os)) (calls_in-part process h)
+      ∙ ap length (filter-filter (λ e. is_back moment e.call.returned) (λ e. e.process == process) (calls_in h)) in
+      let fewer : length (filter (λ e. (e.process == process) && is_back moment e.call.returned) (calls_in h))
+      ≤ length (filter (λ e. ((e.process == process) && stands e) && nat_lt (point e) moment) (calls_in h)) =
+      length_filter_le (λ e. (e.process == process) && is_back moment e.call.returned)
+      (λ e. ((e.process == process) && stands e) && nat_lt (point e) moment) (calls_in h)
       (λ e i q.
-      let both = and_parts (e.process == p) (is_back t e.call.returned) q in
-      let r = back_from t e.call.returned both.1 in
+      let both = and_parts (e.process == process) (is_back moment e.call.returned) q in
+      let r = back_from moment e.call.returned both.1 in
       let entry = (good e.object).whole e r.0 (in_on e i) r.1 in
       let l = point_returns e r.0 entry r.1 in
       let k = r.2 in
-      and_from ((e.process == p) && stands e) (nat_lt (point e) t)
-      (and_from (e.process == p) (stands e) both.0 (stands_from e entry)) (lt-ltb (point e) t (omega arith))) in
-      let e7 : length (filter (λ e. e.process == p) (below t))
-      ≡ length (filter (λ e. ((e.process == p) && stands e) && nat_lt (point e) t) (calls_in h)) =
-      ap length (below_of_process p t) in
-      let e8 = responds_dones p give (below t) (below_stands t) in
+      and_from ((e.process == process) && stands e) (nat_lt (point e) moment)
+      (and_from (e.process == process) (stands e) both.0 (stands_from e entry))
+      (lt-ltb (point e) moment (omega arith))) in
+      let own : length (filter (λ e. e.process == process) (below moment))
+      ≡ length (filter (λ e. ((e.process == process) && stands e) && nat_lt (point e) moment) (calls_in h)) =
+      ap length (below_of_process process moment) in
+      let respond = responds_dones process give (below moment) (below_stands moment) in
       omega arith
 
   -- and what stands below it was invoked before
-  invoked_below : (p : ℕ) (a : List Numbered) (m : Numbered) (b : List Numbered) → h ≡ a ++ m ∷ b
-      → length (filter (invokes p) (dones give (below m.number))) ≤ length (filter (invokes p) (events a))
-  invoked_below p a m b cut =
-      let t : ℕ = m.number in
-      let u : Pairs (λ (x y : Numbered). x.number < y.number) (a ++ m ∷ b) = rw cut at (up h hist) in
-      let e1 : length (filter (invokes p) (events a)) ≡ length (filter (λ k. invokes p k.event) a) =
-      length_filter_events (invokes p) a in
-      let e2 : length (filter (λ k. invokes p k.event) a)
-      ≡ length (filter (λ k. invokes p k.event && nat_lt k.number t) h) =
-      ap length (filter_before (λ k. invokes p k.event) a m b u)
-      ∙ ap (λ hs. length (filter (λ k. invokes p k.event && nat_lt k.number t) hs)) (sym cut) in
-      let e3 = invocations_before p t h in
-      let e4 : length (filter (λ e. ((e.process == p) && stands e) && nat_lt (point e) t) (calls_in h))
-      ≤ length (filter (λ e. (e.process == p) && nat_lt (number_of e) t) (calls_in h)) =
-      length_filter_le (λ e. ((e.process == p) && stands e) && nat_lt (point e) t)
-      (λ e. (e.process == p) && nat_lt (number_of e) t) (calls_in h)
+  invoked_below : (process : ℕ) (before : List Numbered) (event : Numbered) (after : List Numbered)
+      → h ≡ before ++ event ∷ after → length (filter (invokes process) (dones give (below event.number)))
+      ≤ length (filter (invokes process) (events before))
+  invoked_below process before event after cut =
+      let moment : ℕ = event.number in
+      let rising : Pairs (λ (x y : Numbered). x.number < y.number) (before ++ event ∷ after) = rw cut at (up h hist) in
+      let events_are : length (filter (invokes process) (events before))
+          ≡ length (filter (λ k. invokes process k.event) before) =
+      length_filter_events (invokes process) before in
+      let lower : length (filter (λ k. invokes process k.event) before)
+      ≡ length (filter (λ k. invokes process k.event && nat_lt k.number moment) h) =
+      ap length (filter_before (λ k. invokes process k.event) before event after rising)
+      ∙ ap (λ hs. length (filter (λ k. invokes process k.event && nat_lt k.number moment) hs)) (sym cut) in
+      let begun = invocations_before process moment h in
+      let fewer : length (filter (λ e. ((e.process == process) && stands e) && nat_lt (point e) moment) (calls_in h))
+      ≤ length (filter (λ e. (e.process == process) && nat_lt (number_of e) moment) (calls_in h)) =
+      length_filter_le (λ e. ((e.process == process) && stands e) && nat_lt (point e) moment)
+      (λ e. (e.process == process) && nat_lt (number_of e) moment) (calls_in h)
       (λ e i q.
-      let both = and_parts ((e.process == p) && stands e) (nat_lt (point e) t) q in
-      let mine = and_parts (e.process == p) (stands e) both.0 in
+      let both = and_parts ((e.process == process) && stands e) (nat_lt (point e) moment) q in
+      let mine = and_parts (e.process == process) (stands e) both.0 in
       let l = point_own 0 (entries e.object) e (good e.object).once (entry_from e i mine.1) in
-      let k = ltb-true (point e) t both.1 in
-      and_from (e.process == p) (nat_lt (number_of e) t) mine.0 (lt-ltb (number_of e) t (omega arith))) in
-      let e5 : length (filter (λ e. e.process == p) (below t))
-      ≡ length (filter (λ e. ((e.process == p) && stands e) && nat_lt (point e) t) (calls_in h)) =
-      ap length (below_of_process p t) in
-      let e6 = invokes_dones p give (below t) (below_stands t) in
+      let k = ltb-true (point e) moment both.1 in
+      and_from (e.process == process) (nat_lt (number_of e) moment) mine.0
+      (lt-ltb (number_of e) moment (omega arith))) in
+      let own : length (filter (λ e. e.process == process) (below moment))
+      ≡ length (filter (λ e. ((e.process == process) && stands e) && nat_lt (point e) moment) (calls_in h)) =
+      ap length (below_of_process process moment) in
+      let invoke = invokes_dones process give (below moment) (below_stands moment) in
       omega arith
 
   -- ---- the history is linearizable
@@ -337,7 +351,7 @@ module _ (objects : ℕ → Specification) (h : List Numbered) (hist : IsHistory
   -- an operation of the completion is one of the sequence
   begun_in_both : (f : Operation) → IsOperation completion_made f → IsOperation sequence f
   begun_in_both f l =
-      let e1 : length (filter (invokes f.process) completion_made) ≡ length (filter (invokes f.process) sequence) =
+      let same : length (filter (invokes f.process) completion_made) ≡ length (filter (invokes f.process) sequence) =
       ap length (sym (invokes_of_process f.process completion_made)
       ∙ (ap (filter (invokes f.process)) (equivalent f.process) ∙ invokes_of_process f.process sequence)) in
       omega arith
@@ -355,20 +369,22 @@ module _ (objects : ℕ → Specification) (h : List Numbered) (hist : IsHistory
           let all : events h ≡ m.front = ap events (q ∙ append-nil a) ∙ s in
           let n : length (filter (invokes f.process) (events h)) ≡ length (filter (invokes f.process) m.front) =
           ap (λ es. length (filter (invokes f.process) es)) all in
-          let x = m.waiting in
-          let y = m.begun in
+          let answered = m.waiting in
+          let invoked = m.begun in
           absurd (omega arith)
       at_event m a (k ∷ b) q s =
-          let x : length (filter (responds e.process) (events a))
+          let answered : length (filter (responds e.process) (events a))
           ≤ length (filter (responds e.process) (dones give (below k.number))) = returned_below e.process a k b q in
-          let y : length (filter (invokes f.process) (dones give (below k.number)))
+          let invoked : length (filter (invokes f.process) (dones give (below k.number)))
           ≤ length (filter (invokes f.process) (events a)) = invoked_below f.process a k b q in
-          let s1 : length (filter (responds e.process) (events a)) ≡ length (filter (responds e.process) m.front) =
+          let same_responses : length (filter (responds e.process) (events a))
+              ≡ length (filter (responds e.process) m.front) =
           ap (λ es. length (filter (responds e.process) es)) s in
-          let s2 : length (filter (invokes f.process) (events a)) ≡ length (filter (invokes f.process) m.front) =
+          let same_invocations : length (filter (invokes f.process) (events a))
+              ≡ length (filter (invokes f.process) m.front) =
           ap (λ es. length (filter (invokes f.process) es)) s in
-          let z = m.returned in
-          let w = m.waiting in
+          let returned = m.returned in
+          let waiting = m.waiting in
           precedes_from sequence e f (record {
             front = dones give (below k.number);
             rest = dones give (filter (λ e. not (nat_lt (point e) k.number)) merged);

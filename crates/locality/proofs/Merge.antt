@@ -26,6 +26,8 @@ pub record ObjectOrders {X : Type 0} (num proc obj point : X → ℕ) (stands : 
   pub turns : (a b : X) → In a ops → In b ops → stands a ≡ true → stands b ≡ true → proc a ≡ proc b → num a < num b
       → point a < point b
 
+-- ---- the line
+
 module _ {X : Type 0} (num proc obj point : X → ℕ) (stands : X → Bool) (ops : List X) (entries : ℕ → List X) where
   -- those of n's object whose point is n's number
   abbrev batch : X → List X
@@ -40,12 +42,23 @@ pub one_number : {X : Type 0} (num : X → ℕ) (ops : List X) (a b : X) → Pai
     → In b ops → num a ≡ num b → a ≡ b
 one_number num [] a b h i j e = absurd i
 one_number num (o ∷ ops) a b h i j e = elim i [
-  | inl p ↦ elim j [ inl q ↦ p ∙ sym q | inr r ↦ let g = h.0 b r in let e' = ap num p in absurd (omega arith) ]
+  | inl p ↦ elim j [
+    | inl q ↦ p ∙ sym q
+    | inr r ↦
+        let g = h.0 b r in
+        let e' = ap num p in
+        absurd (omega arith)
+  ]
   | inr r ↦ elim j [
-    | inl q ↦ let g = h.0 a r in let e' = ap num q in absurd (omega arith)
+    | inl q ↦
+        let g = h.0 a r in
+        let e' = ap num q in
+        absurd (omega arith)
     | inr t ↦ one_number num ops a b h.1 r t e
   ]
 ]
+
+-- ---- the line, cut to an object and to a process
 
 module _ {X : Type 0} (num proc obj point : X → ℕ) (stands : X → Bool) (ops : List X) (entries : ℕ → List X)
     (o : ObjectOrders num proc obj point stands ops entries) where

@@ -26,29 +26,42 @@ count-append q a b = ap length (filter-append q a b) ∙ length-append (filter q
 count_more : (q : Event → Bool) (x : Event) (b : List Event) → q x ≡ true → count q (x ∷ b) ≡ suc (count q b)
 count_more q x b e = ap (λ (t : Bool). length (cond t (x ∷ filter q b) (filter q b))) e
 
--- where more than k pass, the one of turn k stands somewhere
-turn_at : (q : Event → Bool) (k : ℕ) (h : List Event) → k < count q h
-    → (a : List Event) × (x : Event) × (b : List Event) × (h ≡ a ++ x ∷ b) × IsTurn q k a x
-turn_at q k [] l = absurd (omega arith)
-turn_at q k (x ∷ h) l = go k (q x) refl l (turn_at q k h) (λ j. turn_at q j h)
+-- the event of a turn, in its place in H
+record Turn (test : Event → Bool) (turn : ℕ) (h : List Event) : Type 0 where
+  before : List Event
+  event : Event
+  after : List Event
+  whole : h ≡ before ++ event ∷ after
+  stands : IsTurn test turn before event
+
+-- where more than k events pass, the one of turn k is among them
+turn_at : (test : Event → Bool) (k : ℕ) (h : List Event) → k < count test h → Turn test k h
+turn_at test k [] l = absurd (omega arith)
+turn_at test k (x ∷ h) l = go k (test x) refl l (turn_at test k h) (λ j. turn_at test j h)
   where
-    go : (k : ℕ) (t : Bool) → q x ≡ t → k < length (cond t (x ∷ filter q h) (filter q h))
-        → (k < count q h → (a : List Event) × (y : Event) × (b : List Event) × (h ≡ a ++ y ∷ b) × IsTurn q k a y)
-        → ((j : ℕ) → j < count q h
-        → (a : List Event) × (y : Event) × (b : List Event) × (h ≡ a ++ y ∷ b) × IsTurn q j a y)
-        → (a : List Event) × (y : Event) × (b : List Event) × (x ∷ h ≡ a ++ y ∷ b) × IsTurn q k a y
-    go zero true e l f g = ([], x, h, refl, (e, refl))
-    go (suc k) true e l f g =
-        let r = g k (omega arith) in
-        (x ∷ r.0, r.1, r.2, ap (λ ys. x ∷ ys) r.3, (r.4.0, count_more q x r.0 e ∙ ap suc r.4.1))
-    go k false e l f g =
-        let r = f l in (
-          x ∷ r.0,
-          r.1,
-          r.2,
-          ap (λ ys. x ∷ ys) r.3,
-          (r.4.0, ap (λ (t : Bool). length (cond t (x ∷ filter q r.0) (filter q r.0))) e ∙ r.4.1),
-        )
+    go : (k : ℕ) (t : Bool) → test x ≡ t → k < length (cond t (x ∷ filter test h) (filter test h))
+        → (k < count test h → Turn test k h) → ((j : ℕ) → j < count test h → Turn test j h) → Turn test k (x ∷ h)
+    go zero true e l same less = record { before = []; event = x; after = h; whole = refl; stands = (e, refl) }
+    go (suc k) true e l same less =
+        let rest = less k (omega arith) in
+        record {
+          before = x ∷ rest.before;
+          event = rest.event;
+          after = rest.after;
+          whole = ap (λ ys. x ∷ ys) rest.whole;
+          stands = (rest.stands.0, count_more test x rest.before e ∙ ap suc rest.stands.1);
+        }
+    go k false e l same less =
+        let rest = same l in
+        let not_counted = ap
+            (λ (t : Bool). length (cond t (x ∷ filter test rest.before) (filter test rest.before))) e in
+        record {
+          before = x ∷ rest.before;
+          event = rest.event;
+          after = rest.after;
+          whole = ap (λ ys. x ∷ ys) rest.whole;
+          stands = (rest.stands.0, not_counted ∙ rest.stands.1);
+        }
 
 -- if one operation precedes another, there is a moment between them
 pub moment_from : (h : List Event) (e f : Operation) → Precedes h e f → Moment h e f
@@ -78,26 +91,28 @@ moment_from h e f p =
 -- if there is a moment between two operations, the first precedes the second
 pub precedes_from : (h : List Event) (e f : Operation) → Moment h e f → Precedes h e f
 precedes_from h e f m =
-    let r = turn_at (responds e.process) e.turn m.front m.returned in
-    let n : count (invokes f.process) h ≡ count (invokes f.process) m.front + count (invokes f.process) m.rest =
+    let first = turn_at (responds e.process) e.turn m.front m.returned in
+    let all : count (invokes f.process) h ≡ count (invokes f.process) m.front + count (invokes f.process) m.rest =
     ap (count (invokes f.process)) m.whole ∙ count-append (invokes f.process) m.front m.rest in
-    let l = m.waiting in
-    let b = m.begun in
-    let i = turn_at (invokes f.process) (f.turn - count (invokes f.process) m.front) m.rest (omega arith) in
-    let front : (r.0 ++ r.1 ∷ (r.2 ++ i.0)) ≡ m.front ++ i.0 =
-    sym (append_assoc r.0 (r.1 ∷ r.2) i.0) ∙ ap (λ es. es ++ i.0) (sym r.3) in
-    let c : count (invokes f.process) (m.front ++ i.0)
-    ≡ count (invokes f.process) m.front + count (invokes f.process) i.0 =
-    count-append (invokes f.process) m.front i.0 in
-    let k = i.4.1 in
+    let waiting = m.waiting in
+    let begun = m.begun in
+    let second = turn_at (invokes f.process) (f.turn - count (invokes f.process) m.front) m.rest (omega arith) in
+    let front : (first.before ++ first.event ∷ (first.after ++ second.before)) ≡ m.front ++ second.before =
+    sym (append_assoc first.before (first.event ∷ first.after) second.before)
+    ∙ ap (λ es. es ++ second.before) (sym first.whole) in
+    let parts : count (invokes f.process) (m.front ++ second.before)
+    ≡ count (invokes f.process) m.front + count (invokes f.process) second.before =
+    count-append (invokes f.process) m.front second.before in
+    let turn = second.stands.1 in
     record {
-      before = r.0;
-      response = r.1;
-      between = r.2 ++ i.0;
-      invocation = i.1;
-      after = i.2;
-      whole = m.whole ∙ (ap (λ es. m.front ++ es) i.3
-          ∙ (sym (append_assoc m.front i.0 (i.1 ∷ i.2)) ∙ ap (λ es. es ++ i.1 ∷ i.2) (sym front)));
-      is_first_response = r.4;
-      is_second_invocation = (i.4.0, ap (count (invokes f.process)) front ∙ omega arith);
+      before = first.before;
+      response = first.event;
+      between = first.after ++ second.before;
+      invocation = second.event;
+      after = second.after;
+      whole = m.whole ∙ (ap (λ es. m.front ++ es) second.whole
+          ∙ (sym (append_assoc m.front second.before (second.event ∷ second.after))
+          ∙ ap (λ es. es ++ second.event ∷ second.after) (sym front)));
+      is_first_response = first.stands;
+      is_second_invocation = (second.stands.0, ap (count (invokes f.process)) front ∙ omega arith);
     }

@@ -49,28 +49,38 @@ answered (e ∷ f ∷ s) r rs q a b =
     )
 
 -- and with a response to an invocation that nothing matches yet
-goes_on : (a b : List Event) (i r : Event) → IsSequential (a ++ i ∷ b) → list_any (matches i) b ≡ false
-    → matches i r ≡ true → IsSequential ((a ++ i ∷ b) ++ r ∷ [])
-goes_on [] [] i r s none m = (m, tt)
-goes_on [] (f ∷ b) i r s none m =
-    let n = (or_parts (matches i f) (list_any (matches i) b) none).0 in let t = s.0 in absurd (cc (n, t))
-goes_on (e ∷ []) b i r s none m = absurd (matching_response e i s.0 (matched_invocation i r m))
-goes_on (e ∷ f ∷ a) b i r s none m = (s.0, goes_on a b i r s.1 none m)
+goes_on : (before after : List Event) (invocation response : Event) → IsSequential (before ++ invocation ∷ after)
+    → list_any (matches invocation) after ≡ false
+    → matches invocation response ≡ true → IsSequential ((before ++ invocation ∷ after) ++ response ∷ [])
+goes_on [] [] invocation response whole none matching = (matching, tt)
+goes_on [] (next ∷ after) invocation response whole none matching =
+    let n = (or_parts (matches invocation next) (list_any (matches invocation) after) none).0 in
+    let t = whole.0 in
+    absurd (cc (n, t))
+goes_on (e ∷ []) after invocation response whole none matching =
+    absurd (matching_response e invocation whole.0 (matched_invocation invocation response matching))
+goes_on (e ∷ next ∷ before) after invocation response whole none matching =
+    (whole.0, goes_on before after invocation response whole.1 none matching)
 
 -- a list is cut where what a test keeps of it is
-filter_cut : {X : Type 0} (q : X → Bool) (xs a b : List X) (y : X) → filter q xs ≡ a ++ y ∷ b
-    → (before after : List X) × (xs ≡ before ++ y ∷ after) × (filter q after ≡ b)
-filter_cut q [] [] b y e = absurd (cc e)
-filter_cut q [] (z ∷ a) b y e = absurd (cc e)
-filter_cut {X} q (x ∷ xs) a b y e = here (q x) a e (λ a. filter_cut q xs a b y)
+filter_cut : {X : Type 0} (test : X → Bool) (xs front rest : List X) (kept : X) → filter test xs ≡ front ++ kept ∷ rest
+    → (before after : List X) × (xs ≡ before ++ kept ∷ after) × (filter test after ≡ rest)
+filter_cut test [] [] rest kept same = absurd (cc same)
+filter_cut test [] (head ∷ front) rest kept same = absurd (cc same)
+filter_cut {X} test (x ∷ xs) front rest kept same =
+    here (test x) front same (λ front. filter_cut test xs front rest kept)
   where
-    here : (t : Bool) (a : List X) → cond t (x ∷ filter q xs) (filter q xs) ≡ a ++ y ∷ b
-        → ((a : List X) → filter q xs ≡ a ++ y ∷ b
-        → (before after : List X) × (xs ≡ before ++ y ∷ after) × (filter q after ≡ b))
-        → (before after : List X) × (x ∷ xs ≡ before ++ y ∷ after) × (filter q after ≡ b)
-    here true [] e f = ([], xs, cc e, cc e)
-    here true (z ∷ a) e f = let r = f a (cc e) in (x ∷ r.0, r.1, ap (λ ys. x ∷ ys) r.2, r.3)
-    here false a e f = let r = f a e in (x ∷ r.0, r.1, ap (λ ys. x ∷ ys) r.2, r.3)
+    here : (keeps : Bool) (front : List X) → cond keeps (x ∷ filter test xs) (filter test xs) ≡ front ++ kept ∷ rest
+        → ((front : List X) → filter test xs ≡ front ++ kept ∷ rest
+        → (before after : List X) × (xs ≡ before ++ kept ∷ after) × (filter test after ≡ rest))
+        → (before after : List X) × (x ∷ xs ≡ before ++ kept ∷ after) × (filter test after ≡ rest)
+    here true [] same below = ([], xs, cc same, cc same)
+    here true (head ∷ front) same below =
+        let cut = below front (cc same) in
+        (x ∷ cut.0, cut.1, ap (λ ys. x ∷ ys) cut.2, cut.3)
+    here false front same below =
+        let cut = below front same in
+        (x ∷ cut.0, cut.1, ap (λ ys. x ∷ ys) cut.2, cut.3)
 
 abbrev Apart : List Event → Type 0
 Apart es = Pairs (λ r s. process_of r ≢ process_of s) es

@@ -21,24 +21,28 @@ abbrev pub at : ℕ → Event → Numbered
 at n e = record { number = n; event = e }
 
 -- the events of one process: a last operation that is pending, or one that returned, and then others
-pub data Turns (p : ℕ) : List Numbered → Type 0 where
-  none : Turns p []
-  last : (n x : ℕ) (op : AnyOp) → Turns p (at n (Inv p x op) ∷ [])
-  call : (n x : ℕ) (op : AnyOp) (m : ℕ) (r : AnyReply) (rest : List Numbered) → Turns p rest
-      → Turns p (at n (Inv p x op) ∷ at m (Res p x r) ∷ rest)
+pub data Turns (process : ℕ) : List Numbered → Type 0 where
+  none : Turns process []
+  last : (number object : ℕ) (op : AnyOp) → Turns process (at number (Inv process object op) ∷ [])
+  -- an invocation, its response, which has the later number, and the rest
+  call : (number object : ℕ) (op : AnyOp) (later : ℕ) (reply : AnyReply) (rest : List Numbered) → Turns process rest
+      → Turns process (at number (Inv process object op) ∷ at later (Res process object reply) ∷ rest)
 
-turns_last : (p n : ℕ) (e : Event) → is_invocation e ≡ true → process_of e ≡ p → Turns p (at n e ∷ [])
-turns_last p n (Inv q x op) i e = rw e (last n x op)
-turns_last p n (Res q x r) i e = absurd cc
+turns_last : (process number : ℕ) (event : Event) → is_invocation event ≡ true → process_of event ≡ process
+    → Turns process (at number event ∷ [])
+turns_last process number (Inv q x op) invoked own = rw own (last number x op)
+turns_last process number (Res q x r) invoked own = absurd cc
 
-turns_call : (p n m : ℕ) (e f : Event) (rest : List Numbered) → matches e f ≡ true → process_of e ≡ p → Turns p rest
-    → Turns p (at n e ∷ at m f ∷ rest)
-turns_call p n m (Inv q x op) (Res q' y r) rest t e h =
-    let both = and_parts (q == q') (x == y) t in
-    let pq : q' ≡ p = sym (eqb-true q q' both.0) ∙ e in
-    let xy : y ≡ x = sym (eqb-true x y both.1) in
-    rw e (rw pq (rw xy (call n x op m r rest h)))
-turns_call p n m e f rest t h k = absurd cc
+-- a matching response after an invocation of the process is one turn, before the others
+turns_call : (process number later : ℕ) (invocation response : Event) (rest : List Numbered)
+    → matches invocation response ≡ true → process_of invocation ≡ process → Turns process rest
+    → Turns process (at number invocation ∷ at later response ∷ rest)
+turns_call process number later (Inv q x op) (Res q' y r) rest matching own others =
+    let both = and_parts (q == q') (x == y) matching in
+    let same_process : q' ≡ process = sym (eqb-true q q' both.0) ∙ own in
+    let same_object : y ≡ x = sym (eqb-true x y both.1) in
+    rw own (rw same_process (rw same_object (call number x op later r rest others)))
+turns_call process number later invocation response rest matching own others = absurd cc
 
 pub turns : (p : ℕ) (h : List Numbered) → IsSequential (events h) → ((m : Numbered) → In m h → process_of m.event ≡ p)
     → Turns p h
@@ -60,11 +64,12 @@ events-part p [] = refl
 events-part p (m ∷ h) = let rest = events-part p h in grind arith
 
 -- events of other processes are no responses of p
-response_in_other : (p x n : ℕ) (e : Event) → (process_of e == p) ≡ false → response_in p x n e ≡ None
-response_in_other p x n (Inv q y op) h = refl
-response_in_other p x n (Res q y r) h =
-    let ne : (p == q) ≡ false = ne_eqb p q (λ e. eqb-false q p h (sym e)) in
-    ap (λ b. cond (b && (x == y)) (Some (record { at = n; reply = r })) None) ne
+response_in_other : (process object number : ℕ) (event : Event) → (process_of event == process) ≡ false
+    → response_in process object number event ≡ None
+response_in_other process object number (Inv q y op) other = refl
+response_in_other process object number (Res q y reply) other =
+    let ne : (process == q) ≡ false = ne_eqb process q (λ e. eqb-false q process other (sym e)) in
+    ap (λ b. cond (b && (object == y)) (Some (record { at = number; reply = reply })) None) ne
 
 response_of-part : (p x : ℕ) (h : List Numbered) → response_of p x (part p h) ≡ response_of p x h
 response_of-part p x [] = refl
@@ -106,35 +111,50 @@ dones give os = flat_map (λ e. done e (give e)) os
 
 -- the first operation, returned
 abbrev pub first : ℕ → ℕ → ℕ → AnyOp → ℕ → AnyReply → ProcessCall
-first p n x op m r = record {
-  process = p;
-  object = x;
-  call = record { number = n; op = op; returned = Some (record { at = m; reply = r }) };
+first process number object op later reply = record {
+  process = process;
+  object = object;
+  call = record { number = number; op = op; returned = Some (record { at = later; reply = reply }) };
 }
 
+-- the first operation, pending
+abbrev pub unanswered : ℕ → ℕ → ℕ → AnyOp → ProcessCall
+unanswered process number object op = record {
+  process = process;
+  object = object;
+  call = record { number = number; op = op; returned = None };
+}
+
+-- a response matches an invocation of its own process and object
+self_match : (process object : ℕ) → ((process == process) && (object == object)) ≡ true
+self_match process object =
+    and_from (process == process) (object == object) (eq-eqb process process refl) (eq-eqb object object refl)
+
 -- a call that returned at once, in front of other events, is the first of the calls
-pub calls_in-call : (p n x : ℕ) (op : AnyOp) (m : ℕ) (r : AnyReply) (rest : List Numbered)
-    → calls_in (at n (Inv p x op) ∷ at m (Res p x r) ∷ rest) ≡ first p n x op m r ∷ calls_in rest
-calls_in-call p n x op m r rest =
-    let e : ((p == p) && (x == x)) ≡ true = and_from (p == p) (x == x) (eq-eqb p p refl) (eq-eqb x x refl) in
+pub calls_in-call : (process number object : ℕ) (op : AnyOp) (later : ℕ) (reply : AnyReply) (rest : List Numbered)
+    → calls_in (at number (Inv process object op) ∷ at later (Res process object reply) ∷ rest)
+    ≡ first process number object op later reply ∷ calls_in rest
+calls_in-call process number object op later reply rest =
     ap (λ (b : Bool). record {
-      process = p;
-      object = x;
+      process = process;
+      object = object;
       call =
           record {
-            number = n;
+            number = number;
             op = op;
-            returned = option_or (cond b (Some (record { at = m; reply = r })) None) (response_of p x rest);
+            returned = option_or (cond b (Some (record { at = later; reply = reply })) None)
+                (response_of process object rest);
           };
-    } ∷ calls_in rest) e
+    } ∷ calls_in rest) (self_match process object)
 
 -- complete(H) keeps an invocation with the response that follows it at once
-pub complete-call : (p x : ℕ) (op : AnyOp) (r : AnyReply) (es : List Event)
-    → complete (Inv p x op ∷ Res p x r ∷ es) ≡ Inv p x op ∷ Res p x r ∷ complete es
-complete-call p x op r es =
-    let e : ((p == p) && (x == x)) ≡ true = and_from (p == p) (x == x) (eq-eqb p p refl) (eq-eqb x x refl) in
-    ap (λ (b : Bool). cond (not (b || list_any (matches (Inv p x op)) es)) (Res p x r ∷ complete es)
-    (Inv p x op ∷ Res p x r ∷ complete es)) e
+pub complete-call : (process object : ℕ) (op : AnyOp) (reply : AnyReply) (later : List Event)
+    → complete (Inv process object op ∷ Res process object reply ∷ later)
+    ≡ Inv process object op ∷ Res process object reply ∷ complete later
+complete-call process object op reply later =
+    ap (λ (b : Bool). cond (not (b || list_any (matches (Inv process object op)) later))
+    (Res process object reply ∷ complete later)
+    (Inv process object op ∷ Res process object reply ∷ complete later)) (self_match process object)
 
 -- ---- the completion of the events of one process
 
@@ -143,38 +163,41 @@ abbrev pub Agrees : (ProcessCall → Option AnyReply) → List ProcessCall → T
 Agrees give os = (e : ProcessCall) (r : Return) → In e os → e.call.returned ≡ Some r → give e ≡ Some r.reply
 
 -- with the late responses and without what is still pending, each operation that is given a reply has it
-pub completed : (p : ℕ) (h : List Numbered) (give : ProcessCall → Option AnyReply) → Turns p h
+pub completed : (process : ℕ) (h : List Numbered) (give : ProcessCall → Option AnyReply) → Turns process h
     → Agrees give (calls_in h) → complete (events h ++ added give (calls_in h)) ≡ dones give (calls_in h)
-completed p h give none a = refl
-completed p h give (last n x op) a =
-    let e : ProcessCall = record { process = p; object = x; call = record { number = n; op = op; returned = None } } in
-    let here : (g : Option AnyReply) → complete (Inv p x op ∷ (late e None g ++ [])) ≡ done e g ++ [] =
-    elim [ None ↦ refl | Some r ↦ complete-call p x op r [] ] in
-    here (give e)
-completed p h give (call n x op m r rest t) a =
-    let os = calls_in-call p n x op m r rest in
-    let e : ProcessCall = first p n x op m r in
-    let given : give e ≡ Some r = a e (record { at = m; reply = r }) (subst (In e) (sym os) (inl refl)) refl in
-    let below = completed p rest give t (λ f q i. a f q (subst (In f) (sym os) (inr i))) in
-    subst (λ (os : List ProcessCall). complete (Inv p x op ∷ Res p x r ∷ (events rest ++ added give os))
+completed process h give none a = refl
+completed process h give (last number object op) a =
+    let made : ProcessCall = unanswered process number object op in
+    let here : (g : Option AnyReply) → complete (Inv process object op ∷ (late made None g ++ [])) ≡ done made g ++ [] =
+    elim [ None ↦ refl | Some reply ↦ complete-call process object op reply [] ] in
+    here (give made)
+completed process h give (call number object op later reply rest t) a =
+    let os = calls_in-call process number object op later reply rest in
+    let made : ProcessCall = first process number object op later reply in
+    let given : give made ≡ Some reply =
+        a made (record { at = later; reply = reply }) (subst (In made) (sym os) (inl refl)) refl in
+    let below = completed process rest give t (λ f q i. a f q (subst (In f) (sym os) (inr i))) in
+    subst (λ (os : List ProcessCall). complete (Inv process object op ∷ Res process object reply
+    ∷ (events rest ++ added give os))
     ≡ dones give os) (sym os)
-    (complete-call p x op r (events rest ++ added give (calls_in rest))
-    ∙ (ap (λ es. Inv p x op ∷ Res p x r ∷ es) below
-    ∙ ap (λ g. done e g ++ dones give (calls_in rest)) (sym given)))
+    (complete-call process object op reply (events rest ++ added give (calls_in rest))
+    ∙ (ap (λ es. Inv process object op ∷ Res process object reply ∷ es) below
+    ∙ ap (λ g. done made g ++ dones give (calls_in rest)) (sym given)))
 
 -- and with the late responses it is sequential still
-pub extended : (p : ℕ) (h : List Numbered) (give : ProcessCall → Option AnyReply) → Turns p h
+pub extended : (process : ℕ) (h : List Numbered) (give : ProcessCall → Option AnyReply) → Turns process h
     → IsSequential (events h ++ added give (calls_in h))
-extended p h give none = tt
-extended p h give (last n x op) =
-    let e : ProcessCall = record { process = p; object = x; call = record { number = n; op = op; returned = None } } in
-    let here : (g : Option AnyReply) → IsSequential (Inv p x op ∷ (late e None g ++ [])) =
-    elim [ None ↦ refl | Some r ↦ (and_from (p == p) (x == x) (eq-eqb p p refl) (eq-eqb x x refl), tt) ] in
-    here (give e)
-extended p h give (call n x op m r rest t) =
-    let os = calls_in-call p n x op m r rest in
-    subst (λ (os : List ProcessCall). IsSequential (Inv p x op ∷ Res p x r ∷ (events rest ++ added give os))) (sym os)
-    (and_from (p == p) (x == x) (eq-eqb p p refl) (eq-eqb x x refl), extended p rest give t)
+extended process h give none = tt
+extended process h give (last number object op) =
+    let made : ProcessCall = unanswered process number object op in
+    let here : (g : Option AnyReply) → IsSequential (Inv process object op ∷ (late made None g ++ [])) =
+    elim [ None ↦ refl | Some reply ↦ (self_match process object, tt) ] in
+    here (give made)
+extended process h give (call number object op later reply rest t) =
+    let os = calls_in-call process number object op later reply rest in
+    subst (λ (os : List ProcessCall). IsSequential (Inv process object op ∷ Res process object reply
+    ∷ (events rest ++ added give os))) (sym os)
+    (self_match process object, extended process rest give t)
 
 -- ---- the order of its operations
 
@@ -207,7 +230,14 @@ calls_rise (m ∷ h) u = here m.event (calls_rise h u.1)
   where
     here : (v : Event) → Pairs (λ a b. number_of a < number_of b) (calls_in h)
         → Pairs (λ a b. number_of a < number_of b) (begins m.number v h (calls_in h))
-    here (Inv p x op) r = (λ y i. let k = call_event h y i in let g = u.0 k.0 k.1 in let e = k.2 in omega arith, r)
+    here (Inv p x op) r = (
+      λ y i.
+          let k = call_event h y i in
+          let g = u.0 k.0 k.1 in
+          let e = k.2 in
+          omega arith,
+      r,
+    )
     here (Res p x r') r = r
 
 abbrev at_of : Option Return → ℕ
@@ -215,25 +245,26 @@ at_of None = 0
 at_of (Some r) = r.at
 
 -- an operation returns after its invocation
-pub returns_after : (p : ℕ) (h : List Numbered) (e : ProcessCall) (r : Return) → Turns p h
-    → Pairs (λ a b. a.number < b.number) h → In e (calls_in h) → e.call.returned ≡ Some r → number_of e ≤ r.at
-returns_after p h e r none u i q = absurd i
-returns_after p h e r (last n x op) u i q = elim i [
-  | inl s ↦ let no : None ≡ Some r = sym (ap (λ (o : ProcessCall). o.call.returned) s) ∙ q in absurd (cc (no))
+pub returns_after : (process : ℕ) (h : List Numbered) (made : ProcessCall) (response : Return) → Turns process h
+    → Pairs (λ a b. a.number < b.number) h → In made (calls_in h) → made.call.returned ≡ Some response
+    → number_of made ≤ response.at
+returns_after process h made response none rising i back = absurd i
+returns_after process h made response (last number object op) rising i back = elim i [
+  | inl s ↦ let no : None ≡ Some response = sym (ap (λ (o : ProcessCall). o.call.returned) s) ∙ back in absurd (cc no)
   | inr j ↦ absurd j
 ]
-returns_after p h e r (call n x op m r' rest t) u i q =
-    let os = calls_in-call p n x op m r' rest in
-    let i' : In e (first p n x op m r' ∷ calls_in rest) = subst (In e) os i in
-    elim i' [
+returns_after process h made response (call number object op later reply rest t) rising i back =
+    let calls_are = calls_in-call process number object op later reply rest in
+    let among : In made (first process number object op later reply ∷ calls_in rest) = subst (In made) calls_are i in
+    elim among [
       | inl s ↦
-          let g : n < m = u.0 (at m (Res p x r')) (inl refl) in
-          let is : Some (record { at = m; reply = r' }) ≡ Some r =
-          sym (ap (λ (o : ProcessCall). o.call.returned) s) ∙ q in
-          let a : m ≡ r.at = ap (λ (o : Option Return). at_of o) is in
-          let b : number_of e ≡ n = ap number_of s in
+          let g : number < later = rising.0 (at later (Res process object reply)) (inl refl) in
+          let is : Some (record { at = later; reply = reply }) ≡ Some response =
+          sym (ap (λ (o : ProcessCall). o.call.returned) s) ∙ back in
+          let a : later ≡ response.at = ap (λ (o : Option Return). at_of o) is in
+          let b : number_of made ≡ number = ap number_of s in
           omega arith
-      | inr j ↦ returns_after p rest e r t u.1.1 j q
+      | inr j ↦ returns_after process rest made response t rising.1.1 j back
     ]
 
 -- of two operations the earlier has returned before the later
@@ -241,16 +272,19 @@ abbrev pub Before : ProcessCall → ProcessCall → Type 0
 Before a b = (r : Return) × (a.call.returned ≡ Some r) × (r.at < number_of b)
 
 -- the calls of one process are one after another: each returned before the next was invoked
-pub one_after_another : (p : ℕ) (h : List Numbered) → Turns p h → Pairs (λ a b. a.number < b.number) h
+pub one_after_another : (process : ℕ) (h : List Numbered) → Turns process h → Pairs (λ a b. a.number < b.number) h
     → Pairs Before (calls_in h)
-one_after_another p h none u = tt
-one_after_another p h (last n x op) u = (λ y i. absurd i, tt)
-one_after_another p h (call n x op m r rest t) u =
-    let os = calls_in-call p n x op m r rest in
-    let below = one_after_another p rest t u.1.1 in
-    subst (Pairs Before) (sym os) (
-      λ y i. let k = call_event rest y i in let g : m < k.0.number = u.1.0 k.0 k.1 in let e : k.0.number ≡ number_of y =
-          k.2 in (record { at = m; reply = r }, refl, omega arith),
+one_after_another process h none rising = tt
+one_after_another process h (last number object op) rising = (λ y i. absurd i, tt)
+one_after_another process h (call number object op later reply rest t) rising =
+    let calls_are = calls_in-call process number object op later reply rest in
+    let below = one_after_another process rest t rising.1.1 in
+    subst (Pairs Before) (sym calls_are) (
+      λ y i.
+          let k = call_event rest y i in
+          let g : later < k.0.number = rising.1.0 k.0 k.1 in
+          let e : k.0.number ≡ number_of y = k.2 in
+          (record { at = later; reply = reply }, refl, omega arith),
       below,
     )
 
@@ -262,23 +296,24 @@ is_back t None = false
 is_back t (Some r) = nat_lt r.at t
 
 -- the responses before t are those of operations that are back
-pub responses_before : (p t : ℕ) (h : List Numbered) → Turns p h
-    → length (filter (λ e. is_back t e.call.returned) (calls_in h))
-    ≡ length (filter (λ m. responds p m.event && nat_lt m.number t) h)
-responses_before p t h none = refl
-responses_before p t h (last n x op) = refl
-responses_before p t h (call n x op m r rest s) =
-    let os = calls_in-call p n x op m r rest in
-    let below = responses_before p t rest s in
-    let e : (p == p) ≡ true = eq-eqb p p refl in
-    let rs : List Numbered = filter (λ m. responds p m.event && nat_lt m.number t) rest in
-    let bs : List ProcessCall = filter (λ e. is_back t e.call.returned) (calls_in rest) in
-    subst (λ (os : List ProcessCall). length (filter (λ e. is_back t e.call.returned) os)
-    ≡ length (cond ((p == p) && nat_lt m t) (at m (Res p x r) ∷ rs) rs)) (sym os)
-    (subst (λ (b : Bool). length (cond (nat_lt m t) (first p n x op m r ∷ bs) bs)
-    ≡ length (cond (b && nat_lt m t) (at m (Res p x r) ∷ rs) rs)) (sym e)
-    (elim (nat_lt m t) as (λ b. length (cond b (first p n x op m r ∷ bs) bs)
-    ≡ length (cond b (at m (Res p x r) ∷ rs) rs)) [
+pub responses_before : (process moment : ℕ) (h : List Numbered) → Turns process h
+    → length (filter (λ e. is_back moment e.call.returned) (calls_in h))
+    ≡ length (filter (λ m. responds process m.event && nat_lt m.number moment) h)
+responses_before process moment h none = refl
+responses_before process moment h (last number object op) = refl
+responses_before process moment h (call number object op later reply rest others) =
+    let os = calls_in-call process number object op later reply rest in
+    let below = responses_before process moment rest others in
+    let self : (process == process) ≡ true = eq-eqb process process refl in
+    let rs : List Numbered = filter (λ m. responds process m.event && nat_lt m.number moment) rest in
+    let bs : List ProcessCall = filter (λ e. is_back moment e.call.returned) (calls_in rest) in
+    subst (λ (os : List ProcessCall). length (filter (λ e. is_back moment e.call.returned) os)
+    ≡ length (cond ((process == process) && nat_lt later moment) (at later (Res process object reply) ∷ rs) rs))
+    (sym os)
+    (subst (λ (b : Bool). length (cond (nat_lt later moment) (first process number object op later reply ∷ bs) bs)
+    ≡ length (cond (b && nat_lt later moment) (at later (Res process object reply) ∷ rs) rs)) (sym self)
+    (elim (nat_lt later moment) as (λ b. length (cond b (first process number object op later reply ∷ bs) bs)
+    ≡ length (cond b (at later (Res process object reply) ∷ rs) rs)) [
       | true ↦ ap suc below
       | false ↦ below
     ]))

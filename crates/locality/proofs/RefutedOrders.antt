@@ -50,46 +50,49 @@ step c op o made same after reply e m =
     (ap (λ (x : Content × AnyReply). x.0) pair, ap (λ (x : Content × AnyReply). x.1) pair)
 
 -- while all others are enqueues, a dequeue has the first value
-first_out : (v : ℤ) (vs : List ℤ) (es : List Call) (d : Call) (r : Return) → d.op ≡ Dequeue → d.returned ≡ Some r
-    → ((e : Call) → In e es → (e ≡ d) ⊎ IsEnqueue e.op) → In d es → RepliesAlong (queue (v ∷ vs)) es
-    → r.reply ≡ Value (Some v)
-first_out v vs [] d r op back f i h = absurd i
-first_out v vs (e ∷ es) d r op back f i h = elim (f e (inl refl)) [
+first_out : (value : ℤ) (values : List ℤ) (calls : List Call) (take : Call) (taken : Return) → take.op ≡ Dequeue
+    → take.returned ≡ Some taken → ((e : Call) → In e calls → (e ≡ take) ⊎ IsEnqueue e.op) → In take calls
+    → RepliesAlong (queue (value ∷ values)) calls → taken.reply ≡ Value (Some value)
+first_out value values [] take taken op back other among along = absurd among
+first_out value values (call ∷ calls) take taken op back other among along = elim (other call (inl refl)) [
   | inl q ↦
-      let s = step (queue (v ∷ vs)) e.op Dequeue (queue vs, Value (Some v))
-      (ap (λ (c : Call). c.op) q ∙ op) h.0 h.1 h.2 refl in
-      let said : r.reply ≡ h.1 = rw (ap (λ (c : Call). c.returned) q ∙ back) at h.3 in
-      said ∙ s.1
-  | inr w ↦
-      let s = step (queue (v ∷ vs)) e.op (Enqueue w.0)
-      (queue (v ∷ (vs ++ w.0 ∷ [])), Value (Some w.0)) w.1 h.0 h.1 h.2 refl in
-      elim i [
+      let made = step (queue (value ∷ values)) call.op Dequeue (queue values, Value (Some value))
+      (ap (λ (c : Call). c.op) q ∙ op) along.0 along.1 along.2 refl in
+      let said : taken.reply ≡ along.1 = rw (ap (λ (c : Call). c.returned) q ∙ back) at along.3 in
+      said ∙ made.1
+  | inr put ↦
+      let made = step (queue (value ∷ values)) call.op (Enqueue put.0)
+      (queue (value ∷ (values ++ put.0 ∷ [])), Value (Some put.0)) put.1 along.0 along.1 along.2 refl in
+      elim among [
         | inl q ↦ absurd cc
-        | inr j ↦ first_out v (vs ++ w.0 ∷ []) es d r op back (λ e i. f e (inr i)) j (rw s.0 at h.4)
+        | inr j ↦ first_out value (values ++ put.0 ∷ []) calls take taken op back (λ e i. other e (inr i)) j
+            (rw made.0 at along.4)
       ]
 ]
 
 -- An enqueue returned before all other operations were invoked, and one of these is a dequeue: it has the value.
-first_in_first_out : (calls : List Call) (a d : Call) (v : ℤ) (r s : Return) (order : List ℤ) → a.op ≡ Enqueue v
-    → a.returned ≡ Some s
-    → d.op ≡ Dequeue → d.returned ≡ Some r → In a calls → In d calls
-    → ((e : Call) → In e calls → (e ≡ a) ⊎ ReturnsBefore a e)
-    → ((e : Call) → In e calls → (e ≡ d) ⊎ IsEnqueue e.op) → IsValidOrder Queue calls order → r.reply ≡ Value (Some v)
-first_in_first_out calls a d v r s order a_op a_back d_op d_back a_in d_in first other valid =
+first_in_first_out : (calls : List Call) (put take : Call) (value : ℤ) (taken stored : Return) (order : List ℤ)
+    → put.op ≡ Enqueue value → put.returned ≡ Some stored
+    → take.op ≡ Dequeue → take.returned ≡ Some taken → In put calls → In take calls
+    → ((e : Call) → In e calls → (e ≡ put) ⊎ ReturnsBefore put e)
+    → ((e : Call) → In e calls → (e ≡ take) ⊎ IsEnqueue e.op) → IsValidOrder Queue calls order
+    → taken.reply ≡ Value (Some value)
+first_in_first_out calls put take value taken stored order put_op stores take_op takes put_in take_in first rest valid =
     let known : (e : Call) → In e valid.entries → In e calls =
     λ e i. in_from_contains calls e (all_at (Contains calls) valid.entries valid.known e i) in
     let stands : (e : Call) (r : Return) → In e calls → e.returned ≡ Some r → In e valid.entries =
     λ e r i q. in_from_contains valid.entries e
     (all_at (λ (e : Call). IsSome e.returned → Contains valid.entries e) calls valid.whole e i (rw q refl)) in
-    let front = first_is a valid.entries (stands a s a_in a_back) (λ e i. first e (known e i))
+    let front = first_is put valid.entries (stands put stored put_in stores) (λ e i. first e (known e i))
     (pairs_from_all (λ (a b : Call). ReturnsBefore b a → ⊥) valid.entries valid.in_order) in
-    let along : RepliesAlong (queue []) (a ∷ front.0) = rw front.1 at valid.replies in
-    let s0 = step (queue []) a.op (Enqueue v) (queue (v ∷ []), Value (Some v)) a_op along.0 along.1 along.2 refl in
-    let d_later : In d (a ∷ front.0) = rw front.1 at (stands d r d_in d_back) in
-    elim d_later [
+    let along : RepliesAlong (queue []) (put ∷ front.0) = rw front.1 at valid.replies in
+    let made = step (queue []) put.op (Enqueue value) (queue (value ∷ []), Value (Some value))
+        put_op along.0 along.1 along.2 refl in
+    let take_later : In take (put ∷ front.0) = rw front.1 at (stands take taken take_in takes) in
+    elim take_later [
       | inl q ↦ absurd cc
-      | inr j ↦ first_out v [] front.0 d r d_op d_back (λ e i. other e (known e (rw front.1 (inr i)))) j
-          (rw s0.0 at along.4)
+      | inr j ↦ first_out value [] front.0 take taken take_op takes (λ e i. rest e (known e (rw front.1 (inr i)))) j
+          (rw made.0 at along.4)
     ]
 
 -- ---- histories in which a value is overtaken
@@ -106,26 +109,27 @@ abbrev first : Call
 first = returned 0 (Enqueue (pos 1)) 1 (Some (pos 1))
 
 -- after it another value is enqueued, and no dequeue gives 2
-overtaken : (h : List Numbered) (b d : Call) (v : ℤ) (r : Return) → IsHistory h → calls_on 0 h ≡ first ∷ b ∷ d ∷ []
-    → b.op ≡ Enqueue v → 1 < b.number
-    → d.op ≡ Dequeue → 1 < d.number → d.returned ≡ Some r → r.reply ≡ Value (Some (pos 2))
+overtaken : (h : List Numbered) (put take : Call) (value : ℤ) (taken : Return) → IsHistory h
+    → calls_on 0 h ≡ first ∷ put ∷ take ∷ [] → put.op ≡ Enqueue value → 1 < put.number
+    → take.op ≡ Dequeue → 1 < take.number → take.returned ≡ Some taken → taken.reply ≡ Value (Some (pos 2))
     → ¬ IsLinearizable (λ x. Queue) (events h)
-overtaken h b d v r hist is b_op b_later d_op d_later d_back two lin =
+overtaken h put take value taken hist is put_op put_later take_op take_later take_back two lin =
     let order = orders_of_kinds (λ x. Queue) h hist lin 0 in
     let returns : Return = record { at = 1; reply = Value (Some (pos 1)) } in
-    let one = first_in_first_out (first ∷ b ∷ d ∷ []) first d (pos 1) r returns order.0 refl refl d_op d_back
+    let one = first_in_first_out (first ∷ put ∷ take ∷ []) first take (pos 1) taken returns order.0 refl refl take_op
+        take_back
     (inl refl) (inr (inr (inl refl)))
     (λ e i. elim i [
       | inl q ↦ inl q
       | inr j ↦ elim j [
-        | inl q ↦ inr (rw q (returns, refl, b_later))
-        | inr k ↦ elim k [ inl q ↦ inr (rw q (returns, refl, d_later)) | inr none ↦ absurd none ]
+        | inl q ↦ inr (rw q (returns, refl, put_later))
+        | inr k ↦ elim k [ inl q ↦ inr (rw q (returns, refl, take_later)) | inr none ↦ absurd none ]
       ]
     ])
     (λ e i. elim i [
       | inl q ↦ inr (pos 1, ap (λ (c : Call). c.op) q)
       | inr j ↦ elim j [
-        | inl q ↦ inr (v, ap (λ (c : Call). c.op) q ∙ b_op)
+        | inl q ↦ inr (value, ap (λ (c : Call). c.op) q ∙ put_op)
         | inr k ↦ elim k [ inl q ↦ inl q | inr none ↦ absurd none ]
       ]
     ])
@@ -283,7 +287,10 @@ mutex_passed_on-acquire_of_held =
 
 -- it is no history if a process invokes while its operation is pending
 pub invoked_while_pending-refused : ¬ IsHistory invoked_while_pending
-invoked_while_pending-refused h = let s = h.well_formed 0 in let m = s.0 in cc m
+invoked_while_pending-refused h =
+    let s = h.well_formed 0 in
+    let m = s.0 in
+    cc m
 
 -- it is no history if a response answers nothing
 pub returned_unasked-refused : ¬ IsHistory returned_unasked
@@ -291,7 +298,10 @@ returned_unasked-refused h = let s = h.well_formed 0 in cc s
 
 -- it is no history if a response comes from another object than the invocation's
 pub returned_elsewhere-refused : ¬ IsHistory returned_elsewhere
-returned_elsewhere-refused h = let s = h.well_formed 0 in let m = s.0 in cc m
+returned_elsewhere-refused h =
+    let s = h.well_formed 0 in
+    let m = s.0 in
+    cc m
 
 -- it is no history if numbers do not rise
 pub numbered_backwards-refused : ¬ IsHistory numbered_backwards

@@ -34,15 +34,15 @@ use Rattle.model.proofs.Orders.{same_pos, returned_some}
 -- ---- lists, their beginnings and parts
 
 -- of two beginnings of a list one begins the other
-prefix_either : {X : Type 0} (a b c d : List X) → a ++ b ≡ c ++ d
-    → ((w : List X) × (c ≡ a ++ w)) ⊎ ((w : List X) × (a ≡ c ++ w))
-prefix_either [] b c d e = inl (c, refl)
-prefix_either (x ∷ a) b [] d e = inr (x ∷ a, refl)
-prefix_either (x ∷ a) b (y ∷ c) d e =
-    let h : x ≡ y = cc e in
-    elim (prefix_either a b c d (cc e)) [
-      | inl w ↦ inl (w.0, cc (h, w.1))
-      | inr w ↦ inr (w.0, cc (h, w.1))
+prefix_either : {X : Type 0} (front rest front' rest' : List X) → front ++ rest ≡ front' ++ rest'
+    → ((more : List X) × (front' ≡ front ++ more)) ⊎ ((more : List X) × (front ≡ front' ++ more))
+prefix_either [] rest front' rest' same = inl (front', refl)
+prefix_either (x ∷ front) rest [] rest' same = inr (x ∷ front, refl)
+prefix_either (x ∷ front) rest (y ∷ front') rest' same =
+    let head : x ≡ y = cc same in
+    elim (prefix_either front rest front' rest' (cc same)) [
+      | inl more ↦ inl (more.0, cc (head, more.1))
+      | inr more ↦ inr (more.0, cc (head, more.1))
     ]
 
 -- each two of a list, by how it falls into parts
@@ -82,22 +82,28 @@ ended_of_object x es = filter_pieces (λ v. object_of v == x) (λ e. e.made.obje
 
 -- ---- the operations before one
 
-not_less : (u v : List ProcessCall) (o e : ProcessCall) → Pairs (λ a b. number_of a < number_of b) (u ++ o ∷ v)
-    → In e (o ∷ v) → number_of o ≤ number_of e
-not_less [] v o e h i = elim i [ inl s ↦ omega (arith, ap number_of s) | inr j ↦ let g = h.0 e j in omega arith ]
-not_less (y ∷ u) v o e h i = not_less u v o e h.1 i
+-- in rising order no later operation has a lesser number
+not_less : (before after : List ProcessCall) (call other : ProcessCall)
+    → Pairs (λ a b. number_of a < number_of b) (before ++ call ∷ after)
+    → In other (call ∷ after) → number_of call ≤ number_of other
+not_less [] after call other rising i =
+    elim i [ inl s ↦ omega (arith, ap number_of s) | inr j ↦ let up = rising.0 other j in omega arith ]
+not_less (first ∷ before) after call other rising i = not_less before after call other rising.1 i
 
 -- in rising order, those below the number of one are those before it
-below_one : (u v : List ProcessCall) (o : ProcessCall) → Pairs (λ a b. number_of a < number_of b) (u ++ o ∷ v)
-    → length (filter (λ e. nat_lt (number_of e) (number_of o)) (u ++ o ∷ v)) ≤ length u
-below_one u v o h =
-    let q : ProcessCall → Bool = λ e. nat_lt (number_of e) (number_of o) in
-    let none_later : filter q (o ∷ v) ≡ [] =
-    filter_none q (o ∷ v) (λ e i. le-ltb (number_of e) (number_of o) (not_less u v o e h i)) in
-    let all : length (filter q (u ++ o ∷ v)) ≡ length (filter q u) =
-    ap length (filter-append q u (o ∷ v) ∙ (ap (λ es. filter q u ++ es) none_later ∙ append-nil (filter q u))) in
-    let few = count_by-le-length q u in
-    let counted = length-filter q u in
+below_one : (before after : List ProcessCall) (call : ProcessCall)
+    → Pairs (λ a b. number_of a < number_of b) (before ++ call ∷ after)
+    → length (filter (λ e. nat_lt (number_of e) (number_of call)) (before ++ call ∷ after)) ≤ length before
+below_one before after call rising =
+    let lower : ProcessCall → Bool = λ e. nat_lt (number_of e) (number_of call) in
+    let none_later : filter lower (call ∷ after) ≡ [] =
+    filter_none lower (call ∷ after)
+    (λ e i. le-ltb (number_of e) (number_of call) (not_less before after call e rising i)) in
+    let all : length (filter lower (before ++ call ∷ after)) ≡ length (filter lower before) =
+    ap length (filter-append lower before (call ∷ after) ∙ (ap (λ es. filter lower before ++ es) none_later
+    ∙ append-nil (filter lower before))) in
+    let few = count_by-le-length lower before in
+    let counted = length-filter lower before in
     omega arith
 
 pub filter_responses : (q : Event → Bool) (es : List Event) → Responses es → Responses (filter q es)
@@ -105,17 +111,18 @@ filter_responses q [] r = tt
 filter_responses q (e ∷ es) r = let rest = filter_responses q es r.1 in grind arith
 
 -- where each returns before the next begins and this one is back before t, so are those before it
-back_upto : (t : ℕ) (u v : List ProcessCall) (o : ProcessCall) (r : Return) → Pairs Before (u ++ o ∷ v)
-    → o.call.returned ≡ Some r
-    → number_of o ≤ r.at → r.at < t → suc (length u) ≤ length (filter (λ e. is_back t e.call.returned) (u ++ o ∷ v))
-back_upto t [] v o r h q l k =
-    let e : is_back t o.call.returned ≡ true = ap (is_back t) q ∙ lt-ltb r.at t k in
+back_upto : (moment : ℕ) (before after : List ProcessCall) (call : ProcessCall) (response : Return)
+    → Pairs Before (before ++ call ∷ after) → call.call.returned ≡ Some response
+    → number_of call ≤ response.at → response.at < moment
+    → suc (length before) ≤ length (filter (λ e. is_back moment e.call.returned) (before ++ call ∷ after))
+back_upto moment [] after call response in_turn back began early =
+    let e : is_back moment call.call.returned ≡ true = ap (is_back moment) back ∙ lt-ltb response.at moment early in
     rw e (omega arith)
-back_upto t (x ∷ u) v o r h q l k =
-    let rest = back_upto t u v o r h.1 q l k in
-    let b = h.0 o (in_middle o u v) in
+back_upto moment (first ∷ before) after call response in_turn back began early =
+    let rest = back_upto moment before after call response in_turn.1 back began early in
+    let b = in_turn.0 call (in_middle call before after) in
     let c = b.2 in
-    let e : is_back t x.call.returned ≡ true = ap (is_back t) b.1 ∙ lt-ltb b.0.at t (omega arith) in
+    let e : is_back moment first.call.returned ≡ true = ap (is_back moment) b.1 ∙ lt-ltb b.0.at moment (omega arith) in
     rw e (omega arith)
 
 -- ---- replies of a legal history
@@ -134,20 +141,24 @@ replies_back object c (e ∷ es) h rec =
 
 -- ---- lines in which a later call is earlier
 
-longer : (q : Ended → Bool) (l n : List Ended) (a : Ended) → q a ≡ true
-    → suc (length (filter q l)) ≤ length (filter q (l ++ a ∷ n))
-longer q l n a e = omega (
+-- one more passes a test if what stands after a front does
+longer : (test : Ended → Bool) (front rest : List Ended) (one : Ended) → test one ≡ true
+    → suc (length (filter test front)) ≤ length (filter test (front ++ one ∷ rest))
+longer test front rest one passes = omega (
   arith,
-  ap length (filter-append q l (a ∷ n) ∙ ap (λ b. filter q l ++ cond b (a ∷ filter q n) (filter q n)) e),
-  length-append (filter q l) (a ∷ filter q n),
+  ap length (filter-append test front (one ∷ rest)
+  ∙ ap (λ b. filter test front ++ cond b (one ∷ filter test rest) (filter test rest)) passes),
+  length-append (filter test front) (one ∷ filter test rest),
 )
 
-across : (u v : List ProcessCall) (a o : ProcessCall) → Pairs (λ a b. number_of a < number_of b) (u ++ o ∷ v) → In a u
-    → number_of a < number_of o
-across [] v a o h i = absurd i
-across (x ∷ u) v a o h i = elim i [
-  | inl e ↦ let g = h.0 o (in_middle o u v) in omega (arith, ap number_of e)
-  | inr j ↦ across u v a o h.1 j
+-- in rising order an earlier operation has a lesser number
+across : (before after : List ProcessCall) (earlier call : ProcessCall)
+    → Pairs (λ a b. number_of a < number_of b) (before ++ call ∷ after) → In earlier before
+    → number_of earlier < number_of call
+across [] after earlier call rising i = absurd i
+across (first ∷ before) after earlier call rising i = elim i [
+  | inl e ↦ let g = rising.0 call (in_middle call before after) in omega (arith, ap number_of e)
+  | inr j ↦ across before after earlier call rising.1 j
 ]
 
 invocations_all : (p : ℕ) (h : List Numbered)
@@ -161,22 +172,25 @@ invocations_all p (m ∷ h) = here m.event (invocations_all p h)
     here (Inv q x op) f = grind arith
     here (Res q x r) f = f
 
--- no moment of such a line has b returned and a not begun, where a is before b
-refuted : (l m n : List Ended) (a b : Ended) (front rest : List Event)
-    → front ++ rest ≡ ended_events (l ++ a ∷ m) ++ ended_events (b ∷ n)
-    → length (filter (λ e. e.made.process == b.made.process) (l ++ a ∷ m)) < count (responds b.made.process) front
-    → count (invokes a.made.process) front ≤ length (filter (λ e. e.made.process == a.made.process) l) → ⊥
-refuted l m n a b front rest e ret wait =
-    elim (prefix_either front rest (ended_events (l ++ a ∷ m)) (ended_events (b ∷ n)) e) [
+-- at no moment of such a line has the later operation returned and the earlier not begun
+refuted : (before between after : List Ended) (earlier later : Ended) (front rest : List Event)
+    → front ++ rest ≡ ended_events (before ++ earlier ∷ between) ++ ended_events (later ∷ after)
+    → length (filter (λ e. e.made.process == later.made.process) (before ++ earlier ∷ between))
+    < count (responds later.made.process) front
+    → count (invokes earlier.made.process) front ≤ length (filter (λ e. e.made.process == earlier.made.process) before)
+    → ⊥
+refuted before between after earlier later front rest whole returned waiting =
+    elim (prefix_either front rest (ended_events (before ++ earlier ∷ between)) (ended_events (later ∷ after)) whole) [
       | inl w ↦
-          let c = ap (count (responds b.made.process)) w.1 ∙ count-append (responds b.made.process) front w.0 in
-          let d = ended_responds b.made.process (l ++ a ∷ m) in
+          let c = ap (count (responds later.made.process)) w.1 ∙ count-append (responds later.made.process) front w.0 in
+          let d = ended_responds later.made.process (before ++ earlier ∷ between) in
           omega arith
       | inr w ↦
-          let c = ap (count (invokes a.made.process)) w.1
-          ∙ count-append (invokes a.made.process) (ended_events (l ++ a ∷ m)) w.0 in
-          let d = ended_invokes a.made.process (l ++ a ∷ m) in
-          let g = longer (λ e. e.made.process == a.made.process) l m a (eq-eqb a.made.process a.made.process refl) in
+          let c = ap (count (invokes earlier.made.process)) w.1
+          ∙ count-append (invokes earlier.made.process) (ended_events (before ++ earlier ∷ between)) w.0 in
+          let d = ended_invokes earlier.made.process (before ++ earlier ∷ between) in
+          let g = longer (λ e. e.made.process == earlier.made.process) before between earlier
+              (eq-eqb earlier.made.process earlier.made.process refl) in
           omega arith
     ]
 
@@ -230,141 +244,153 @@ module _ (objects : ℕ → Specification) (h : List Numbered) (hist : IsHistory
       (rw (calls_in-part e.made.process h) at (queue_op e.made.process e (line_queue e i)))
 
   -- where the line falls into parts at an operation, so do the operations of its process
-  turn_of : (l n : List Ended) (a : Ended) → all.line ≡ l ++ a ∷ n → (rest : List ProcessCall)
-      × (calls_in (part a.made.process h) ≡ ops_of (filter (λ e. e.made.process == a.made.process) l) ++ a.made ∷ rest)
-  turn_of l n a e =
-      let mine : Ended → Bool = λ d. d.made.process == a.made.process in
-      let self : mine a ≡ true = eq-eqb a.made.process a.made.process refl in
-      let q : queue a.made.process ≡ filter mine l ++ a ∷ filter mine n = sym (all.parts a.made.process)
-      ∙ (ap (filter mine) e ∙ (filter-append mine l (a ∷ n)
-      ∙ ap (λ b. filter mine l ++ cond b (a ∷ filter mine n) (filter mine n)) self)) in
-      let c = completed a.made.process in (
-        ops_of (filter mine n) ++ c.rest,
-        c.front ∙ (ap (λ es. ops_of es ++ c.rest) q
-            ∙ (ap (λ os. os ++ c.rest) (map-append (λ (e : Ended). e.made) (filter mine l) (a ∷ filter mine n))
-            ∙ append_assoc (ops_of (filter mine l)) (a.made ∷ ops_of (filter mine n)) c.rest)),
+  turn_of : (before after : List Ended) (one : Ended) → all.line ≡ before ++ one ∷ after → (rest : List ProcessCall)
+      × (calls_in (part one.made.process h)
+      ≡ ops_of (filter (λ e. e.made.process == one.made.process) before) ++ one.made ∷ rest)
+  turn_of before after one whole =
+      let mine : Ended → Bool = λ d. d.made.process == one.made.process in
+      let self : mine one ≡ true = eq-eqb one.made.process one.made.process refl in
+      let queue_is : queue one.made.process ≡ filter mine before ++ one ∷ filter mine after =
+          sym (all.parts one.made.process)
+      ∙ (ap (filter mine) whole ∙ (filter-append mine before (one ∷ after)
+      ∙ ap (λ b. filter mine before ++ cond b (one ∷ filter mine after) (filter mine after)) self)) in
+      let own = completed one.made.process in (
+        ops_of (filter mine after) ++ own.rest,
+        own.front ∙ (ap (λ es. ops_of es ++ own.rest) queue_is
+            ∙ (ap (λ os. os ++ own.rest) (map-append (λ (e : Ended). e.made) (filter mine before)
+            (one ∷ filter mine after))
+            ∙ append_assoc (ops_of (filter mine before)) (one.made ∷ ops_of (filter mine after)) own.rest)),
       )
 
   -- the operations of a process in the sequence are those in the completion
-  in_completion : (l n : List Ended) (a : Ended) → all.line ≡ l ++ a ∷ n
+  in_completion : (before after : List Ended) (one : Ended) → all.line ≡ before ++ one ∷ after
       → IsOperation lin.completion
-      (record { process = a.made.process; turn = length (filter (λ e. e.made.process == a.made.process) l) })
-  in_completion l n a e =
-      let p : ℕ = a.made.process in
-      let mine : Ended → Bool = λ d. d.made.process == p in
-      let c1 : count (invokes p) lin.completion ≡ count (invokes p) lin.sequence =
-      ap length (sym (invokes_of_process p lin.completion)
-      ∙ (ap (filter (invokes p)) (lin.equivalent p) ∙ invokes_of_process p lin.sequence)) in
-      let c2 : count (invokes p) lin.sequence ≡ length (filter mine all.line) =
-      ap (count (invokes p)) all.events_are ∙ ended_invokes p all.line in
-      let c3 : length (filter mine all.line) ≡ length (filter mine (l ++ a ∷ n)) =
-      ap (λ es. length (filter mine es)) e in
-      let c4 = longer mine l n a (eq-eqb p p refl) in
+      (record { process = one.made.process; turn = length (filter (λ e. e.made.process == one.made.process) before) })
+  in_completion before after one whole =
+      let process : ℕ = one.made.process in
+      let mine : Ended → Bool = λ d. d.made.process == process in
+      let in_both : count (invokes process) lin.completion ≡ count (invokes process) lin.sequence =
+      ap length (sym (invokes_of_process process lin.completion)
+      ∙ (ap (filter (invokes process)) (lin.equivalent process) ∙ invokes_of_process process lin.sequence)) in
+      let in_line : count (invokes process) lin.sequence ≡ length (filter mine all.line) =
+      ap (count (invokes process)) all.events_are ∙ ended_invokes process all.line in
+      let parts : length (filter mine all.line) ≡ length (filter mine (before ++ one ∷ after)) =
+      ap (λ es. length (filter mine es)) whole in
+      let more = longer mine before after one (eq-eqb process process refl) in
       omega arith
 
   -- of two in the line the later has not returned before the earlier was invoked
-  not_before : (l m n : List Ended) (a b : Ended) → all.line ≡ l ++ a ∷ (m ++ b ∷ n)
-      → ReturnsBefore b.made.call a.made.call → ⊥
-  not_before l m n a b e back =
-      let pa : ℕ = a.made.process in
-      let pb : ℕ = b.made.process in
-      let l' : List Ended = l ++ a ∷ m in
-      let e' : all.line ≡ l' ++ b ∷ n = e ∙ sym (append_assoc l (a ∷ m) (b ∷ n)) in
-      let in_a : In a all.line = rw e (in_middle a l (m ++ b ∷ n)) in
-      let in_b : In b all.line = rw e' (in_middle b l' n) in
-      let ta = turn_of l (m ++ b ∷ n) a e in
-      let tb = turn_of l' n b e' in
-      let k = call_event h a.made (line_op a in_a) in
-      let cut = in_split k.0 h k.1 in
-      let u : List Numbered = cut.0 in
-      let t : ℕ = k.0.number in
-      let rising : Pairs (λ (x y : Numbered). x.number < y.number) (u ++ k.0 ∷ cut.1) = rw cut.2 at (up h hist) in
-      let ka : ℕ = length (filter (λ e. e.made.process == pa) l) in
-      let kb : ℕ = length (filter (λ e. e.made.process == pb) l') in
-      let ka_is : length (ops_of (filter (λ e. e.made.process == pa) l)) ≡ ka =
-      length-map (filter (λ e. e.made.process == pa) l) (λ (e : Ended). e.made) in
-      let kb_is : length (ops_of (filter (λ e. e.made.process == pb) l')) ≡ kb =
-      length-map (filter (λ e. e.made.process == pb) l') (λ (e : Ended). e.made) in
-      -- the invocations of a's process before a's
-      let i1 : count (invokes pa) (events u) ≡ length (filter (λ m. invokes pa m.event) u) =
-      length_filter_events (invokes pa) u in
-      let i2 : length (filter (λ m. invokes pa m.event) u)
-      ≡ length (filter (λ m. invokes pa m.event && nat_lt m.number t) h) =
-      ap length (filter_before (λ m. invokes pa m.event) u k.0 cut.1 rising)
-      ∙ ap (λ hs. length (filter (λ m. invokes pa m.event && nat_lt m.number t) hs)) (sym cut.2) in
-      let i3 = invocations_before pa t h in
-      let i4 : length (filter (λ e. (e.process == pa) && nat_lt (number_of e) t) (calls_in h))
-      ≡ length (filter (λ e. nat_lt (number_of e) (number_of a.made))
-      (ops_of (filter (λ e. e.made.process == pa) l) ++ a.made ∷ ta.0)) =
-      ap length (sym (filter-filter (λ e. nat_lt (number_of e) t) (λ e. e.process == pa) (calls_in h)))
-      ∙ (ap (λ os. length (filter (λ e. nat_lt (number_of e) t) os)) (sym (calls_in-part pa h) ∙ ta.1)
+  not_before : (before between after : List Ended) (earlier later : Ended)
+      → all.line ≡ before ++ earlier ∷ (between ++ later ∷ after)
+      → ReturnsBefore later.made.call earlier.made.call → ⊥
+  not_before before between after earlier later whole back =
+      let p : ℕ = earlier.made.process in
+      let q : ℕ = later.made.process in
+      let upto : List Ended = before ++ earlier ∷ between in
+      let whole' : all.line ≡ upto ++ later ∷ after = whole
+          ∙ sym (append_assoc before (earlier ∷ between) (later ∷ after)) in
+      let in_earlier : In earlier all.line = rw whole (in_middle earlier before (between ++ later ∷ after)) in
+      let in_later : In later all.line = rw whole' (in_middle later upto after) in
+      let cut_p = turn_of before (between ++ later ∷ after) earlier whole in
+      let cut_q = turn_of upto after later whole' in
+      let call = call_event h earlier.made (line_op earlier in_earlier) in
+      let cut = in_split call.0 h call.1 in
+      let front : List Numbered = cut.0 in
+      let moment : ℕ = call.0.number in
+      let rising : Pairs (λ (x y : Numbered). x.number < y.number) (front ++ call.0 ∷ cut.1) =
+          rw cut.2 at (up h hist) in
+      let turn_p : ℕ = length (filter (λ e. e.made.process == p) before) in
+      let turn_q : ℕ = length (filter (λ e. e.made.process == q) upto) in
+      let turn_p_is : length (ops_of (filter (λ e. e.made.process == p) before)) ≡ turn_p =
+      length-map (filter (λ e. e.made.process == p) before) (λ (e : Ended). e.made) in
+      let turn_q_is : length (ops_of (filter (λ e. e.made.process == q) upto)) ≡ turn_q =
+      length-map (filter (λ e. e.made.process == q) upto) (λ (e : Ended). e.made) in
+      -- the invocations of the earlier one's process before its own
+      let events_p : count (invokes p) (events front) ≡ length (filter (λ m. invokes p m.event) front) =
+      length_filter_events (invokes p) front in
+      let lower_p : length (filter (λ m. invokes p m.event) front)
+      ≡ length (filter (λ m. invokes p m.event && nat_lt m.number moment) h) =
+      ap length (filter_before (λ m. invokes p m.event) front call.0 cut.1 rising)
+      ∙ ap (λ hs. length (filter (λ m. invokes p m.event && nat_lt m.number moment) hs)) (sym cut.2) in
+      let calls_p = invocations_before p moment h in
+      let part_p : length (filter (λ e. (e.process == p) && nat_lt (number_of e) moment) (calls_in h))
+      ≡ length (filter (λ e. nat_lt (number_of e) (number_of earlier.made))
+      (ops_of (filter (λ e. e.made.process == p) before) ++ earlier.made ∷ cut_p.0)) =
+      ap length (sym (filter-filter (λ e. nat_lt (number_of e) moment) (λ e. e.process == p) (calls_in h)))
+      ∙ (ap (λ os. length (filter (λ e. nat_lt (number_of e) moment) os)) (sym (calls_in-part p h) ∙ cut_p.1)
       ∙ ap (λ s. length (filter (λ e. nat_lt (number_of e) s)
-      (ops_of (filter (λ e. e.made.process == pa) l) ++ a.made ∷ ta.0))) k.2) in
-      let i5 = below_one (ops_of (filter (λ e. e.made.process == pa) l)) ta.0 a.made
-      (rw ta.1 at (part_rise h hist pa)) in
-      -- the responses of b's process before that
-      let r1 : count (responds pb) (events u) ≡ length (filter (λ m. responds pb m.event) u) =
-      length_filter_events (responds pb) u in
-      let r2 : length (filter (λ m. responds pb m.event) u)
-      ≡ length (filter (λ m. responds pb m.event && nat_lt m.number t) h) =
-      ap length (filter_before (λ m. responds pb m.event) u k.0 cut.1 rising)
-      ∙ ap (λ hs. length (filter (λ m. responds pb m.event && nat_lt m.number t) hs)) (sym cut.2) in
-      let r3 : length (filter (λ m. responds pb m.event && nat_lt m.number t) (part pb h))
-      ≡ length (filter (λ m. responds pb m.event && nat_lt m.number t) h) = ap length (responds_in_part pb t h) in
-      let r4 = responses_before pb t (part pb h) (turn_view h hist pb) in
-      let r5 : length (filter (λ e. is_back t e.call.returned) (calls_in (part pb h)))
-      ≡ length (filter (λ e. is_back t e.call.returned)
-      (ops_of (filter (λ e. e.made.process == pb) l') ++ b.made ∷ tb.0)) =
-      ap (λ os. length (filter (λ e. is_back t e.call.returned) os)) tb.1 in
-      let late : number_of b.made ≤ back.0.at =
-      returns_after pb (part pb h) b.made back.0 (turn_view h hist pb) (part_up h hist pb)
-      (queue_op pb b (line_queue b in_b)) back.1 in
-      let k2 = k.2 in
-      let b2 = back.2 in
-      let r6 = back_upto t (ops_of (filter (λ e. e.made.process == pb) l')) tb.0 b.made back.0
-      (rw tb.1 at (one_after_another pb (part pb h) (turn_view h hist pb) (part_up h hist pb))) back.1
+      (ops_of (filter (λ e. e.made.process == p) before) ++ earlier.made ∷ cut_p.0))) call.2) in
+      let few_p = below_one (ops_of (filter (λ e. e.made.process == p) before)) cut_p.0 earlier.made
+      (rw cut_p.1 at (part_rise h hist p)) in
+      -- the responses to the later one's process before that
+      let events_q : count (responds q) (events front) ≡ length (filter (λ m. responds q m.event) front) =
+      length_filter_events (responds q) front in
+      let lower_q : length (filter (λ m. responds q m.event) front)
+      ≡ length (filter (λ m. responds q m.event && nat_lt m.number moment) h) =
+      ap length (filter_before (λ m. responds q m.event) front call.0 cut.1 rising)
+      ∙ ap (λ hs. length (filter (λ m. responds q m.event && nat_lt m.number moment) hs)) (sym cut.2) in
+      let part_q : length (filter (λ m. responds q m.event && nat_lt m.number moment) (part q h))
+      ≡ length (filter (λ m. responds q m.event && nat_lt m.number moment) h) =
+      ap length (responds_in_part q moment h) in
+      let back_q = responses_before q moment (part q h) (turn_view h hist q) in
+      let calls_q : length (filter (λ e. is_back moment e.call.returned) (calls_in (part q h)))
+      ≡ length (filter (λ e. is_back moment e.call.returned)
+      (ops_of (filter (λ e. e.made.process == q) upto) ++ later.made ∷ cut_q.0)) =
+      ap (λ os. length (filter (λ e. is_back moment e.call.returned) os)) cut_q.1 in
+      let late : number_of later.made ≤ back.0.at =
+      returns_after q (part q h) later.made back.0 (turn_view h hist q) (part_up h hist q)
+      (queue_op q later (line_queue later in_later)) back.1 in
+      let number_is = call.2 in
+      let less = back.2 in
+      let many_q = back_upto moment (ops_of (filter (λ e. e.made.process == q) upto)) cut_q.0 later.made back.0
+      (rw cut_q.1 at (one_after_another q (part q h) (turn_view h hist q) (part_up h hist q))) back.1
       late (omega arith) in
-      -- so b precedes a in the history, and then in the sequence
-      let g1 = invocations_all pa h in
-      let g2 : length (filter (λ o. o.process == pa) (calls_in h))
-      ≡ length (ops_of (filter (λ e. e.made.process == pa) l) ++ a.made ∷ ta.0) =
-      ap length (sym (calls_in-part pa h) ∙ ta.1) in
-      let g3 = length-append (ops_of (filter (λ e. e.made.process == pa) l)) (a.made ∷ ta.0) in
-      let na : Operation = record { process = pa; turn = ka } in
-      let nb : Operation = record { process = pb; turn = kb } in
-      let moment : Moment (events h) nb na =
+      -- so the later one precedes the other in the history, and then in the sequence
+      let all_p = invocations_all p h in
+      let own_p : length (filter (λ o. o.process == p) (calls_in h))
+      ≡ length (ops_of (filter (λ e. e.made.process == p) before) ++ earlier.made ∷ cut_p.0) =
+      ap length (sym (calls_in-part p h) ∙ cut_p.1) in
+      let long_p = length-append (ops_of (filter (λ e. e.made.process == p) before)) (earlier.made ∷ cut_p.0) in
+      let first : Operation = record { process = p; turn = turn_p } in
+      let second : Operation = record { process = q; turn = turn_q } in
+      let gap : Moment (events h) second first =
       record {
-        front = events u;
-        rest = events (k.0 ∷ cut.1);
-        whole = ap events cut.2 ∙ map-append (λ (m : Numbered). m.event) u (k.0 ∷ cut.1);
+        front = events front;
+        rest = events (call.0 ∷ cut.1);
+        whole = ap events cut.2 ∙ map-append (λ (m : Numbered). m.event) front (call.0 ∷ cut.1);
         returned = omega arith;
         waiting = omega arith;
         begun = omega arith;
       } in
-      let then = moment_from lin.sequence nb na
-      (lin.order nb na (in_completion l' n b e') (in_completion l (m ++ b ∷ n) a e)
-      (precedes_from (events h) nb na moment)) in
-      refuted l m n a b then.front then.rest
-      (sym then.whole ∙ (all.events_are ∙ (ap ended_events e' ∙ flat_map-append two_events l' (b ∷ n))))
+      let then = moment_from lin.sequence second first
+      (lin.order second first (in_completion upto after later whole')
+      (in_completion before (between ++ later ∷ after) earlier whole)
+      (precedes_from (events h) second first gap)) in
+      refuted before between after earlier later then.front then.rest
+      (sym then.whole ∙ (all.events_are ∙ (ap ended_events whole' ∙ flat_map-append two_events upto (later ∷ after))))
       then.returned then.waiting
 
-  pub apart : (l m n : List Ended) (a b : Ended) → all.line ≡ l ++ a ∷ (m ++ b ∷ n)
-      → number_of a.made ≢ number_of b.made
-  apart l m n a b e q =
-      let l' : List Ended = l ++ a ∷ m in
-      let e' : all.line ≡ l' ++ b ∷ n = e ∙ sym (append_assoc l (a ∷ m) (b ∷ n)) in
-      let in_a : In a all.line = rw e (in_middle a l (m ++ b ∷ n)) in
-      let in_b : In b all.line = rw e' (in_middle b l' n) in
-      let same : a.made ≡ b.made =
-      one_number number_of (calls_in h) a.made b.made (rise h hist) (line_op a in_a) (line_op b in_b) q in
-      let tb = turn_of l' n b e' in
-      let i : In a (filter (λ e. e.made.process == b.made.process) l') =
-      in_filter_from (λ e. e.made.process == b.made.process) a l' (in_middle a l m)
-      (eq-eqb a.made.process b.made.process (ap (λ (o : ProcessCall). o.process) same)) in
-      let less : number_of a.made < number_of b.made =
-      across (ops_of (filter (λ e. e.made.process == b.made.process) l')) tb.0 a.made b.made
-      (rw tb.1 at (part_rise h hist b.made.process))
-      (in_map_from (λ (e : Ended). e.made) a (filter (λ e. e.made.process == b.made.process) l') i) in
+  -- two in the line have different numbers
+  pub apart : (before between after : List Ended) (earlier later : Ended)
+      → all.line ≡ before ++ earlier ∷ (between ++ later ∷ after)
+      → number_of earlier.made ≢ number_of later.made
+  apart before between after earlier later whole same_number =
+      let upto : List Ended = before ++ earlier ∷ between in
+      let whole' : all.line ≡ upto ++ later ∷ after = whole
+          ∙ sym (append_assoc before (earlier ∷ between) (later ∷ after)) in
+      let in_a : In earlier all.line = rw whole (in_middle earlier before (between ++ later ∷ after)) in
+      let in_b : In later all.line = rw whole' (in_middle later upto after) in
+      let same : earlier.made ≡ later.made =
+      one_number number_of (calls_in h) earlier.made later.made (rise h hist) (line_op earlier in_a)
+      (line_op later in_b) same_number in
+      let tb = turn_of upto after later whole' in
+      let i : In earlier (filter (λ e. e.made.process == later.made.process) upto) =
+      in_filter_from (λ e. e.made.process == later.made.process) earlier upto (in_middle earlier before between)
+      (eq-eqb earlier.made.process later.made.process (ap (λ (o : ProcessCall). o.process) same)) in
+      let less : number_of earlier.made < number_of later.made =
+      across (ops_of (filter (λ e. e.made.process == later.made.process) upto)) tb.0 earlier.made later.made
+      (rw tb.1 at (part_rise h hist later.made.process))
+      (in_map_from (λ (e : Ended). e.made) earlier (filter (λ e. e.made.process == later.made.process) upto) i) in
       omega arith
 
   -- ---- the order of an object

@@ -105,31 +105,36 @@ from_list xs y (inr h) = h
 
 -- ---- the objects of the invocations
 
-pub later_named : (e : Event) (es : List Event) (x : ℕ) → IsNamed es x → IsNamed (e ∷ es) x
-later_named e es x n = record {
-  event = n.event;
-  op = n.op;
-  stands = Contains-cons e es n.event n.stands;
-  on_object = n.on_object;
-  invokes = n.invokes;
+pub later_named : (event : Event) (later : List Event) (object : ℕ) → IsNamed later object
+    → IsNamed (event ∷ later) object
+later_named event later object named = record {
+  event = named.event;
+  op = named.op;
+  stands = Contains-cons event later named.event named.stands;
+  on_object = named.on_object;
+  invokes = named.invokes;
 }
 
-used_named : (e : Event) (es : List Event) (a : Action) (x k : ℕ) → e.action ≡ a
-    → k < length (map (λ (u : Use). u.object) (cons_option (use_by e.object a) (uses es)))
-    → get_or (map (λ (u : Use). u.object) (cons_option (use_by e.object a) (uses es))) k x ≡ x
-    → ((j : ℕ) → j < length (map (λ (u : Use). u.object) (uses es))
-    → get_or (map (λ (u : Use). u.object) (uses es)) j x ≡ x → IsNamed es x) → IsNamed (e ∷ es) x
-used_named e es (Invoke op) x zero is lt at more = record
-    { event = e; op = op; stands = (0, omega arith, refl); on_object = at; invokes = is }
-used_named e es (Invoke op) x (suc k) is lt at more = later_named e es x (more k (omega arith) at)
-used_named e es (Ok r) x k is lt at more = later_named e es x (more k lt at)
-used_named e es Fail x k is lt at more = later_named e es x (more k lt at)
-used_named e es Info x k is lt at more = later_named e es x (more k lt at)
+-- an object that one of the uses is of is one that some invocation names
+used_named : (event : Event) (later : List Event) (action : Action) (object place : ℕ) → event.action ≡ action
+    → place < length (map (λ (u : Use). u.object) (cons_option (use_by event.object action) (uses later)))
+    → get_or (map (λ (u : Use). u.object) (cons_option (use_by event.object action) (uses later))) place object ≡ object
+    → ((j : ℕ) → j < length (map (λ (u : Use). u.object) (uses later))
+    → get_or (map (λ (u : Use). u.object) (uses later)) j object ≡ object → IsNamed later object)
+    → IsNamed (event ∷ later) object
+used_named event later (Invoke op) object zero is lt at more = record
+    { event = event; op = op; stands = (0, omega arith, refl); on_object = at; invokes = is }
+used_named event later (Invoke op) object (suc place) is lt at more =
+    later_named event later object (more place (omega arith) at)
+used_named event later (Ok reply) object place is lt at more = later_named event later object (more place lt at)
+used_named event later Fail object place is lt at more = later_named event later object (more place lt at)
+used_named event later Info object place is lt at more = later_named event later object (more place lt at)
 
-named_from_uses : (es : List Event) (x k : ℕ) → k < length (map (λ (u : Use). u.object) (uses es))
-    → get_or (map (λ (u : Use). u.object) (uses es)) k x ≡ x → IsNamed es x
-named_from_uses [] x k lt at = absurd (omega arith)
-named_from_uses (e ∷ es) x k lt at = used_named e es e.action x k refl lt at (named_from_uses es x)
+named_from_uses : (events : List Event) (object place : ℕ) → place < length (map (λ (u : Use). u.object) (uses events))
+    → get_or (map (λ (u : Use). u.object) (uses events)) place object ≡ object → IsNamed events object
+named_from_uses [] object place lt at = absurd (omega arith)
+named_from_uses (event ∷ events) object place lt at =
+    used_named event events event.action object place refl lt at (named_from_uses events object)
 
 use_first : (x : ℕ) (a : Action) (us : List Use) (y : ℕ) → Contains (map (λ (u : Use). u.object) us) y
     → Contains (map (λ (u : Use). u.object) (cons_option (use_by x a) us)) y
@@ -138,17 +143,21 @@ use_first x (Ok r) us y h = h
 use_first x Fail us y h = h
 use_first x Info us y h = h
 
-uses_from_named : (es : List Event) (n : Event) (op : AnyOp) (x k : ℕ) → k < length es → get_or es k n ≡ n
-    → n.object ≡ x → n.action ≡ Invoke op → Contains (map (λ (u : Use). u.object) (uses es)) x
-uses_from_named [] n op x k lt at on is = absurd (omega arith)
-uses_from_named (e ∷ es) n op x zero lt at on is =
-    let own : use_by e.object e.action ≡ use_by n.object (Invoke op) = ap
-    (λ (v : Event). use_by v.object v.action) at ∙ ap (use_by n.object) is in
-    let here : Contains (map (λ (u : Use). u.object) (cons_option (use_by n.object (Invoke op)) (uses es))) x =
-    (0, omega arith, on) in
-    subst (λ u. Contains (map (λ (v : Use). v.object) (cons_option u (uses es))) x) (sym own) here
-uses_from_named (e ∷ es) n op x (suc k) lt at on is = use_first e.object e.action (uses es) x
-    (uses_from_named es n op x k (omega arith) at on is)
+-- what an invocation of the history names is among the objects of the uses
+uses_from_named : (events : List Event) (named : Event) (op : AnyOp) (object place : ℕ) → place < length events
+    → get_or events place named ≡ named
+    → named.object ≡ object → named.action ≡ Invoke op → Contains (map (λ (u : Use). u.object) (uses events)) object
+uses_from_named [] named op object place lt at on is = absurd (omega arith)
+uses_from_named (event ∷ events) named op object zero lt at on is =
+    let own : use_by event.object event.action ≡ use_by named.object (Invoke op) =
+        ap (λ (v : Event). use_by v.object v.action) at ∙ ap (use_by named.object) is in
+    let here : Contains (map (λ (u : Use). u.object) (cons_option (use_by named.object (Invoke op)) (uses events)))
+        object =
+        (0, omega arith, on) in
+    subst (λ u. Contains (map (λ (v : Use). v.object) (cons_option u (uses events))) object) (sym own) here
+uses_from_named (event ∷ events) named op object (suc place) lt at on is =
+    use_first event.object event.action (uses events) object
+    (uses_from_named events named op object place (omega arith) at on is)
 
 pub objects_named : (es : List Event) (x : ℕ) → Contains (objects_in (uses es)) x ↔ IsNamed es x
 objects_named es x = (

@@ -30,17 +30,18 @@ first_seen-push : {X : Type 0} (same : X → X → Bool) (xs : List X) (y : X) �
 first_seen-push same xs y = fold-append (with_new same) [] xs (y ∷ [])
 
 -- one invocation more, among those of a kind
-named_push : (k : Option Kind) (xs : List Invoked) (e : Invoked) → object_numbers k (xs ++ e ∷ [])
-    ≡ cond (is_of k e) (with_new nat_eq (object_numbers k xs) e.object) (object_numbers k xs)
-named_push k xs e = ap (λ is. first_seen nat_eq (map (λ (i : Invoked). i.object) is))
-    (filter-append (is_of k) xs (e ∷ [])) ∙ go (is_of k e)
+named_push : (kind : Option Kind) (seen : List Invoked) (next : Invoked) → object_numbers kind (seen ++ next ∷ [])
+    ≡ cond (is_of kind next) (with_new nat_eq (object_numbers kind seen) next.object) (object_numbers kind seen)
+named_push kind seen next = ap (λ is. first_seen nat_eq (map (λ (i : Invoked). i.object) is))
+    (filter-append (is_of kind) seen (next ∷ [])) ∙ go (is_of kind next)
   where
     go : (b : Bool) → first_seen nat_eq (map (λ (i : Invoked). i.object)
-        (filter (is_of k) xs ++ cond b (e ∷ []) [])) ≡ cond b (with_new nat_eq (object_numbers k xs) e.object)
-        (object_numbers k xs)
-    go true = ap (first_seen nat_eq) (map-append (λ (i : Invoked). i.object) (filter (is_of k) xs) (e ∷ []))
-        ∙ first_seen-push nat_eq (map (λ (i : Invoked). i.object) (filter (is_of k) xs)) e.object
-    go false = ap (λ is. first_seen nat_eq (map (λ (i : Invoked). i.object) is)) (append-nil (filter (is_of k) xs))
+        (filter (is_of kind) seen ++ cond b (next ∷ []) []))
+        ≡ cond b (with_new nat_eq (object_numbers kind seen) next.object)
+        (object_numbers kind seen)
+    go true = ap (first_seen nat_eq) (map-append (λ (i : Invoked). i.object) (filter (is_of kind) seen) (next ∷ []))
+        ∙ first_seen-push nat_eq (map (λ (i : Invoked). i.object) (filter (is_of kind) seen)) next.object
+    go false = ap (λ is. first_seen nat_eq (map (λ (i : Invoked). i.object) is)) (append-nil (filter (is_of kind) seen))
 
 any_push : (p : ℕ → Bool) (xs : List ℕ) (y : ℕ) → list_any p (xs ++ y ∷ []) ≡ (list_any p xs || p y)
 any_push p [] y = grind arith
@@ -75,28 +76,35 @@ with_object old new n more o seen among is h = go (list_any (nat_eq o) seen) ref
           count = omega (arith, one, count, long);
         }
 
-pub one_of_kind : (k : Option Kind) (xs : List Invoked) (e : Invoked) (old new : ℕ → Bool) (n more : ℕ) → is_of k e
+-- one invocation more of the kind: its object was seen before, or it is counted too
+pub one_of_kind : (kind : Option Kind) (seen : List Invoked) (next : Invoked) (old new : ℕ → Bool) (count more : ℕ)
+    → is_of kind next
     ≡ true
-    → ((x : ℕ) → new x ≡ cond (e.object == x) true (old x)) → more ≡ cond (old e.object) 0 1
-    → AreSeen old n (object_numbers k xs) → AreSeen new (n + more) (object_numbers k (xs ++ e ∷ []))
-one_of_kind k xs e old new n more own among is h =
-    subst (AreSeen new (n + more)) (sym
-    (named_push k xs e ∙ ap (λ b. cond b (with_new nat_eq (object_numbers k xs) e.object)
-    (object_numbers k xs)) own)) (with_object old new n more e.object (object_numbers k xs) among is h)
+    → ((x : ℕ) → new x ≡ cond (next.object == x) true (old x)) → more ≡ cond (old next.object) 0 1
+    → AreSeen old count (object_numbers kind seen)
+    → AreSeen new (count + more) (object_numbers kind (seen ++ next ∷ []))
+one_of_kind kind seen next old new count more own among is h =
+    subst (AreSeen new (count + more)) (sym
+    (named_push kind seen next ∙ ap (λ b. cond b (with_new nat_eq (object_numbers kind seen) next.object)
+    (object_numbers kind seen)) own)) (with_object old new count more next.object (object_numbers kind seen) among is h)
 
-pub one_of_another : (k : Option Kind) (xs : List Invoked) (e : Invoked) (old : ℕ → Bool) (n : ℕ) → is_of k e ≡ false
-    → AreSeen old n (object_numbers k xs) → AreSeen old (n + 0) (object_numbers k (xs ++ e ∷ []))
-one_of_another k xs e old n other h =
-    let same : object_numbers k (xs ++ e ∷ []) ≡ object_numbers k xs = named_push k xs e
-    ∙ ap (λ b. cond b (with_new nat_eq (object_numbers k xs) e.object) (object_numbers k xs)) other in
-    let count : n ≡ length (object_numbers k xs) = h.count in
-    let more : n + 0 ≡ length (object_numbers k xs) = omega (arith, count) in
-    subst (AreSeen old (n + 0)) (sym same) (record { objects = h.objects; count = more })
+-- one invocation more of another kind changes no count
+pub one_of_another : (kind : Option Kind) (seen : List Invoked) (next : Invoked) (old : ℕ → Bool) (number : ℕ)
+    → is_of kind next ≡ false
+    → AreSeen old number (object_numbers kind seen) → AreSeen old (number + 0) (object_numbers kind (seen ++ next ∷ []))
+one_of_another kind seen next old number other h =
+    let same : object_numbers kind (seen ++ next ∷ []) ≡ object_numbers kind seen = named_push kind seen next
+    ∙ ap (λ b. cond b (with_new nat_eq (object_numbers kind seen) next.object) (object_numbers kind seen)) other in
+    let count : number ≡ length (object_numbers kind seen) = h.count in
+    let more : number + 0 ≡ length (object_numbers kind seen) = omega (arith, count) in
+    subst (AreSeen old (number + 0)) (sym same) (record { objects = h.objects; count = more })
 
-pub seen_next : (k : Option Kind) (all : List Invoked) (i : ℕ) (d : Invoked) (new : ℕ → Bool) (m : ℕ) → i < length all
-    → AreSeen new m (object_numbers k (take i all ++ get_or all i d ∷ []))
-    → AreSeen new m (object_numbers k (take (i + 1) all))
-seen_next k all i d new m lt h = subst (λ xs. AreSeen new m (object_numbers k xs)) (sym (take_more all i d lt)) h
+-- the next invocation of a list is put after those before it
+pub seen_next : (kind : Option Kind) (all : List Invoked) (i : ℕ) (default : Invoked) (new : ℕ → Bool) (count : ℕ)
+    → i < length all → AreSeen new count (object_numbers kind (take i all ++ get_or all i default ∷ []))
+    → AreSeen new count (object_numbers kind (take (i + 1) all))
+seen_next kind all i default new count inside h =
+    subst (λ xs. AreSeen new count (object_numbers kind xs)) (sym (take_more all i default inside)) h
 
 -- ---- kinds
 
@@ -167,22 +175,24 @@ is_call_of (Some k) c = same_kind k (kind_of c.call.op)
 abbrev counted : Option Kind → Invoked → Bool
 counted k i = is_of k i && not i.failed
 
-count_step : (k : Option Kind) (n p x : ℕ) (a : Action) (failed : Bool) (rest : List Numbered) (later : List Invoked)
-    → length (filter (counted k) later) ≡ length (filter (is_call_of k) (calls_in rest))
-    → length (filter (counted k) (invocation_by x a failed ++ later))
-    ≡ length (filter (is_call_of k) (calls_in (denoted_by n p x a failed ++ rest)))
-count_step None n p x (Invoke op) true rest later h = h
-count_step None n p x (Invoke op) false rest later h = ap suc h
-count_step (Some k) n p x (Invoke op) true rest later h = grind arith
-count_step (Some k) n p x (Invoke op) false rest later h = grind arith
-count_step k n p x a failed rest later h = h
+-- the next event adds as many operations to the one count as to the other
+count_step : (kind : Option Kind) (number process object : ℕ) (action : Action) (failed : Bool) (rest : List Numbered)
+    (later : List Invoked) → length (filter (counted kind) later) ≡ length (filter (is_call_of kind) (calls_in rest))
+    → length (filter (counted kind) (invocation_by object action failed ++ later))
+    ≡ length (filter (is_call_of kind) (calls_in (denoted_by number process object action failed ++ rest)))
+count_step None number process object (Invoke op) true rest later same = same
+count_step None number process object (Invoke op) false rest later same = ap suc same
+count_step (Some kind) number process object (Invoke op) true rest later same = grind arith
+count_step (Some kind) number process object (Invoke op) false rest later same = grind arith
+count_step kind number process object action failed rest later same = same
 
-count_is : (k : Option Kind) (es : List Event) → operation_count k (invocations es)
-    ≡ length (filter (is_call_of k) (calls_in (denoted es)))
+count_is : (kind : Option Kind) (events : List Event) → operation_count kind (invocations events)
+    ≡ length (filter (is_call_of kind) (calls_in (denoted events)))
 count_is None [] = refl
-count_is (Some k) [] = refl
-count_is k (e ∷ es) = count_step k e.number e.process e.object e.action (fails (next_event e.process es))
-    (denoted es) (invocations es) (count_is k es)
+count_is (Some kind) [] = refl
+count_is kind (event ∷ events) =
+    count_step kind event.number event.process event.object event.action (fails (next_event event.process events))
+    (denoted events) (invocations events) (count_is kind events)
 
 pub operations_are : (es : List Event) → operation_count None (invocations es) ≡ length (operations_in es)
 operations_are es = count_is None es ∙ ap length (filter-everything (calls_in (denoted es)))

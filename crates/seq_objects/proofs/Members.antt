@@ -59,29 +59,30 @@ from_list-remove ks ls k updates = same_set int_cmp_total int_cmp-IsAntisymmetri
     (λ q. contains-updated ks ls k false updates q
     ∙ cond-false (eq_by_cmp int_cmp q k) (contains (from_list ks) q) ∙ sym (contains-remove int_cmp_total _ k q))
 
-set_has_key : (s : FinSet int_cmp) (ks : Keys) (k : ℤ) → from_list ks ≡ s → contains s k ≡ has_key k ks
-set_has_key s ks k is = ap (λ n. contains n k) (sym is) ∙ contains-has_key ks k
+set_has_key : (set : FinSet int_cmp) (keys : Keys) (key : ℤ) → from_list keys ≡ set
+    → contains set key ≡ has_key key keys
+set_has_key set keys key is = ap (λ n. contains n key) (sym is) ∙ contains-has_key keys key
 
--- The step of each operation. The set s has the keys ks before it, and ls after it.
-pub next-add : (s : FinSet int_cmp) (ks ls : Keys) (v : ℤ) (r : Bool) → from_list ks ≡ s
-    → Updates ks ls v true → r ≡ not (has_key v ks)
-    → next (elements s) (Add v) ≡ Some (elements (from_list ls), Flag r)
-next-add s ks ls v r is updates told =
-    ap (λ n. Some (elements n, Flag (not (contains s v)))) (ap (λ n. insert n v) (sym is)
-    ∙ sym (from_list-insert ks ls v updates))
-    ∙ ap (λ b. Some (elements (from_list ls), Flag b)) (ap not (set_has_key s ks v is) ∙ sym told)
+-- The step of each operation. The set has some keys before it, and others after it.
+pub next-add : (set : FinSet int_cmp) (before after : Keys) (value : ℤ) (flag : Bool) → from_list before ≡ set
+    → Updates before after value true → flag ≡ not (has_key value before)
+    → next (elements set) (Add value) ≡ Some (elements (from_list after), Flag flag)
+next-add set before after value flag is updates told =
+    ap (λ n. Some (elements n, Flag (not (contains set value)))) (ap (λ n. insert n value) (sym is)
+    ∙ sym (from_list-insert before after value updates))
+    ∙ ap (λ b. Some (elements (from_list after), Flag b)) (ap not (set_has_key set before value is) ∙ sym told)
 
-pub next-remove : (s : FinSet int_cmp) (ks ls : Keys) (v : ℤ) (r : Bool) → from_list ks ≡ s
-    → Updates ks ls v false → r ≡ has_key v ks
-    → next (elements s) (Remove v) ≡ Some (elements (from_list ls), Flag r)
-next-remove s ks ls v r is updates told =
-    ap (λ n. Some (elements n, Flag (contains s v))) (ap (λ n. remove n v) (sym is)
-    ∙ sym (from_list-remove ks ls v updates))
-    ∙ ap (λ b. Some (elements (from_list ls), Flag b)) (set_has_key s ks v is ∙ sym told)
+pub next-remove : (set : FinSet int_cmp) (before after : Keys) (value : ℤ) (flag : Bool) → from_list before ≡ set
+    → Updates before after value false → flag ≡ has_key value before
+    → next (elements set) (Remove value) ≡ Some (elements (from_list after), Flag flag)
+next-remove set before after value flag is updates told =
+    ap (λ n. Some (elements n, Flag (contains set value))) (ap (λ n. remove n value) (sym is)
+    ∙ sym (from_list-remove before after value updates))
+    ∙ ap (λ b. Some (elements (from_list after), Flag b)) (set_has_key set before value is ∙ sym told)
 
-pub next-has : (s : FinSet int_cmp) (ks : Keys) (v : ℤ) (r : Bool) → from_list ks ≡ s → r ≡ has_key v ks
-    → next (elements s) (Has v) ≡ Some (elements s, Flag r)
-next-has s ks v r is told = ap (λ b. Some (elements s, Flag b)) (set_has_key s ks v is ∙ sym told)
+pub next-has : (set : FinSet int_cmp) (keys : Keys) (value : ℤ) (flag : Bool) → from_list keys ≡ set
+    → flag ≡ has_key value keys → next (elements set) (Has value) ≡ Some (elements set, Flag flag)
+next-has set keys value flag is told = ap (λ b. Some (elements set, Flag b)) (set_has_key set keys value is ∙ sym told)
 
 -- ---- sets of rising keys are equal only where the keys are
 
@@ -140,10 +141,11 @@ elements-injective : (s t : FinSet int_cmp) → elements s ≡ elements t → s 
 unfolding in_elements
 elements-injective s t e = ap in_elements e
 
-pub same_elements : (s t : FinSet int_cmp) (ks ls : Keys) (r : Bool) → from_list ks ≡ s → from_list ls ≡ t
-    → IsStrictlySortedBy int_cmp ks → IsStrictlySortedBy int_cmp ls
-    → Decides r (ks ≡ ls) → Decides r (elements s ≡ elements t)
-same_elements s t ks ls r es et hk hl decides = (
-  λ b. ap elements (sym es ∙ ap from_list (decides.0 b) ∙ et),
-  λ e. decides.1 (from_list-injective ks ls hk hl (es ∙ elements-injective s t e ∙ sym et)),
+-- two sets are compared by their keys
+pub same_elements : (set set' : FinSet int_cmp) (keys keys' : Keys) (answer : Bool) → from_list keys ≡ set
+    → from_list keys' ≡ set' → IsStrictlySortedBy int_cmp keys → IsStrictlySortedBy int_cmp keys'
+    → Decides answer (keys ≡ keys') → Decides answer (elements set ≡ elements set')
+same_elements set set' keys keys' answer is is' ordered ordered' decides = (
+  λ b. ap elements (sym is ∙ ap from_list (decides.0 b) ∙ is'),
+  λ same. decides.1 (from_list-injective keys keys' ordered ordered' (is ∙ elements-injective set set' same ∙ sym is')),
 )

@@ -20,6 +20,8 @@ use Rattle.model.specs.declared.AnyReply.TheVariants.{Value, Flag}
 use Rattle.model.specs.Objects.{Content, next, table, contains_value, inserted_if, has_value, is_absent}
 use Rattle.seq_objects.specs.declared.map_object.MapOp.TheVariants as of_map
 
+-- ---- the entries of a map
+
 abbrev pub Entries : Type 0
 Entries = List (ℤ × ℤ)
 
@@ -57,23 +59,27 @@ get-at_key : (es : Entries) (q : ℤ) → Ordered es → get (from_sorted {R = i
 get-at_key es q h = get-from_sorted int_cmp es q (is_sorted-entries es h) ∙ find-at_key q es
 
 -- after a change at k, the map has at q what the map before has, changed at k
-get-changed : (es fs : Entries) (k : ℤ) (w : Option ℤ) → Ordered es → Ordered fs → Changes es fs k w → (q : ℤ)
-    → get (from_sorted {R = int_cmp} fs) q ≡ cond (eq_by_cmp int_cmp q k) w (get (from_sorted {R = int_cmp} es) q)
-get-changed es fs k w he hf changes q =
-    get-at_key fs q hf ∙ changes q ∙ ap (λ b. cond b w (at_key q es)) ((eq_by_cmp_equiv int_cmp_total).symm k q)
-    ∙ ap (cond (eq_by_cmp int_cmp q k) w) (sym (get-at_key es q he))
+get-changed : (before after : Entries) (key : ℤ) (value : Option ℤ) → Ordered before → Ordered after
+    → Changes before after key value → (q : ℤ) → get (from_sorted {R = int_cmp} after) q
+    ≡ cond (eq_by_cmp int_cmp q key) value (get (from_sorted {R = int_cmp} before) q)
+get-changed before after key value ordered ordered' changes q =
+    get-at_key after q ordered' ∙ changes q ∙ ap (λ b. cond b value (at_key q before))
+    ((eq_by_cmp_equiv int_cmp_total).symm key q)
+    ∙ ap (cond (eq_by_cmp int_cmp q key) value) (sym (get-at_key before q ordered))
 
-from_sorted-insert : (es fs : Entries) (k v : ℤ) → Ordered es → Ordered fs → Changes es fs k (Some v)
-    → from_sorted {R = int_cmp} fs ≡ insert (from_sorted {R = int_cmp} es) k v
-from_sorted-insert es fs k v he hf changes =
+from_sorted-insert : (before after : Entries) (key value : ℤ) → Ordered before → Ordered after
+    → Changes before after key (Some value)
+    → from_sorted {R = int_cmp} after ≡ insert (from_sorted {R = int_cmp} before) key value
+from_sorted-insert before after key value ordered ordered' changes =
     same_map int_cmp_total int_cmp-IsAntisymmetric _ _
-    (λ q. get-changed es fs k (Some v) he hf changes q ∙ sym (get-insert int_cmp_total _ k v q))
+    (λ q. get-changed before after key (Some value) ordered ordered' changes q
+    ∙ sym (get-insert int_cmp_total _ key value q))
 
-from_sorted-remove : (es fs : Entries) (k : ℤ) → Ordered es → Ordered fs → Changes es fs k None
-    → from_sorted {R = int_cmp} fs ≡ remove (from_sorted {R = int_cmp} es) k
-from_sorted-remove es fs k he hf changes =
+from_sorted-remove : (before after : Entries) (key : ℤ) → Ordered before → Ordered after → Changes before after key None
+    → from_sorted {R = int_cmp} after ≡ remove (from_sorted {R = int_cmp} before) key
+from_sorted-remove before after key ordered ordered' changes =
     same_map int_cmp_total int_cmp-IsAntisymmetric _ _
-    (λ q. get-changed es fs k None he hf changes q ∙ sym (get-remove int_cmp_total _ k q))
+    (λ q. get-changed before after key None ordered ordered' changes q ∙ sym (get-remove int_cmp_total _ key q))
 
 -- maps of ordered entries are equal only where the entries are
 from_sorted-injective : (es fs : Entries) → Ordered es → Ordered fs
@@ -86,82 +92,89 @@ pub from_sorted-empty : (es : Entries) → es ≡ [] → Ordered es → from_sor
 from_sorted-empty es e h =
     empty_of_len _ (len-entries _ ∙ ap length (entries-from_sorted int_cmp es (is_sorted-entries es h) ∙ e))
 
--- The step of each operation. The table m has the entries es before it, and fs after it.
-pub next-put : (m : FinMap int_cmp ℤ) (es fs : Entries) (k v : ℤ) (r : Option ℤ) → from_sorted es ≡ m → Ordered es
-    → Ordered fs → Changes es fs k (Some v) → r ≡ at_key k es
-    → next (table m) (Put k v) ≡ Some (table (from_sorted fs), Value r)
-next-put m es fs k v r is he hf changes old =
-    ap (λ n. Some (table n, Value (get m k)))
-    (ap (λ n. insert n k v) (sym is) ∙ sym (from_sorted-insert es fs k v he hf changes))
-    ∙ ap (λ o. Some (table (from_sorted fs), Value o)) (ap (λ n. get n k) (sym is) ∙ get-at_key es k he ∙ sym old)
+-- ---- the steps
 
-pub next-get : (m : FinMap int_cmp ℤ) (es : Entries) (k : ℤ) (r : Option ℤ) → from_sorted es ≡ m → Ordered es
-    → r ≡ at_key k es
-    → next (table m) (Get k) ≡ Some (table m, Value r)
-next-get m es k r is he found =
-    ap (λ o. Some (table m, Value o)) (ap (λ n. get n k) (sym is) ∙ get-at_key es k he ∙ sym found)
+-- The step of each operation. The table has some entries before it, and others after it.
+pub next-put : (map : FinMap int_cmp ℤ) (before after : Entries) (key value : ℤ) (reply : Option ℤ)
+    → from_sorted before ≡ map → Ordered before
+    → Ordered after → Changes before after key (Some value) → reply ≡ at_key key before
+    → next (table map) (Put key value) ≡ Some (table (from_sorted after), Value reply)
+next-put map before after key value reply is ordered ordered' changes old =
+    ap (λ n. Some (table n, Value (get map key)))
+    (ap (λ n. insert n key value) (sym is) ∙ sym (from_sorted-insert before after key value ordered ordered' changes))
+    ∙ ap (λ o. Some (table (from_sorted after), Value o)) (ap (λ n. get n key) (sym is) ∙ get-at_key before key ordered
+    ∙ sym old)
 
-pub next-del : (m : FinMap int_cmp ℤ) (es fs : Entries) (k : ℤ) (r : Option ℤ) → from_sorted es ≡ m → Ordered es
-    → Ordered fs → Changes es fs k None → r ≡ at_key k es
-    → next (table m) (Del k) ≡ Some (table (from_sorted fs), Value r)
-next-del m es fs k r is he hf changes old =
-    ap (λ n. Some (table n, Value (get m k)))
-    (ap (λ n. remove n k) (sym is) ∙ sym (from_sorted-remove es fs k he hf changes))
-    ∙ ap (λ o. Some (table (from_sorted fs), Value o)) (ap (λ n. get n k) (sym is) ∙ get-at_key es k he ∙ sym old)
+pub next-get : (map : FinMap int_cmp ℤ) (pairs : Entries) (key : ℤ) (reply : Option ℤ) → from_sorted pairs ≡ map
+    → Ordered pairs → reply ≡ at_key key pairs → next (table map) (Get key) ≡ Some (table map, Value reply)
+next-get map pairs key reply is ordered found =
+    ap (λ o. Some (table map, Value o)) (ap (λ n. get n key) (sym is) ∙ get-at_key pairs key ordered ∙ sym found)
 
-table_inserted : (m : FinMap int_cmp ℤ) (es fs : Entries) (k v : ℤ) → from_sorted es ≡ m → Ordered es
-    → Ordered fs → Changes es fs k (Some v)
-    → insert m k v ≡ from_sorted fs
-table_inserted m es fs k v is he hf changes = ap (λ n. insert n k v) (sym is)
-    ∙ sym (from_sorted-insert es fs k v he hf changes)
+pub next-del : (map : FinMap int_cmp ℤ) (before after : Entries) (key : ℤ) (reply : Option ℤ) → from_sorted before ≡ map
+    → Ordered before → Ordered after → Changes before after key None → reply ≡ at_key key before
+    → next (table map) (Del key) ≡ Some (table (from_sorted after), Value reply)
+next-del map before after key reply is ordered ordered' changes old =
+    ap (λ n. Some (table n, Value (get map key)))
+    (ap (λ n. remove n key) (sym is) ∙ sym (from_sorted-remove before after key ordered ordered' changes))
+    ∙ ap (λ o. Some (table (from_sorted after), Value o)) (ap (λ n. get n key) (sym is) ∙ get-at_key before key ordered
+    ∙ sym old)
 
-table_at_key : (m : FinMap int_cmp ℤ) (es : Entries) (k : ℤ) → from_sorted es ≡ m → Ordered es → get m k ≡ at_key k es
-table_at_key m es k is he = ap (λ n. get n k) (sym is) ∙ get-at_key es k he
+table_inserted : (map : FinMap int_cmp ℤ) (before after : Entries) (key value : ℤ) → from_sorted before ≡ map
+    → Ordered before → Ordered after → Changes before after key (Some value)
+    → insert map key value ≡ from_sorted after
+table_inserted map before after key value is ordered ordered' changes = ap (λ n. insert n key value) (sym is)
+    ∙ sym (from_sorted-insert before after key value ordered ordered' changes)
+
+table_at_key : (map : FinMap int_cmp ℤ) (pairs : Entries) (key : ℤ) → from_sorted pairs ≡ map → Ordered pairs
+    → get map key ≡ at_key key pairs
+table_at_key map pairs key is ordered = ap (λ n. get n key) (sym is) ∙ get-at_key pairs key ordered
 
 -- an operation that changes the table where it is so, and replies whether it is so
-pub next_if_so : (m : FinMap int_cmp ℤ) (es fs : Entries) (k v : ℤ) (so b : Bool) → from_sorted es ≡ m
-    → Ordered es → Ordered fs → Changes es fs k (Some v)
-    → so ≡ b → b ≡ true
-    → ◌≡◌ {A = Option (Content × AnyReply)} (Some (table (inserted_if so m k v), Flag so)) (Some (
+pub next_if_so : (map : FinMap int_cmp ℤ) (before after : Entries) (key value : ℤ) (so flag : Bool)
+    → from_sorted before ≡ map → Ordered before → Ordered after → Changes before after key (Some value)
+    → so ≡ flag → flag ≡ true
+    → ◌≡◌ {A = Option (Content × AnyReply)} (Some (table (inserted_if so map key value), Flag so)) (Some (
       table
-          (from_sorted fs),
-      Flag b,
+          (from_sorted after),
+      Flag flag,
     ))
-next_if_so m es fs k v so b is he hf changes told holds =
-    ap (λ c. Some (table (inserted_if c m k v), Flag c)) told
-    ∙ ap (λ c. Some (table (inserted_if c m k v), Flag b)) holds
-    ∙ ap (λ n. Some (table n, Flag b)) (table_inserted m es fs k v is he hf changes)
+next_if_so map before after key value so flag is ordered ordered' changes told holds =
+    ap (λ c. Some (table (inserted_if c map key value), Flag c)) told
+    ∙ ap (λ c. Some (table (inserted_if c map key value), Flag flag)) holds
+    ∙ ap (λ n. Some (table n, Flag flag)) (table_inserted map before after key value is ordered ordered' changes)
 
-pub next_if_not : (m : FinMap int_cmp ℤ) (k v : ℤ) (so b : Bool) → so ≡ b → b ≡ false
-    → ◌≡◌ {A = Option (Content × AnyReply)} (Some (table (inserted_if so m k v), Flag so)) (Some (table m, Flag b))
-next_if_not m k v so b told fails =
-    ap (λ c. Some (table (inserted_if c m k v), Flag c)) told
-    ∙ ap (λ c. Some (table (inserted_if c m k v), Flag b)) fails
+-- and replies that it is not so where it does not change
+pub next_if_not : (map : FinMap int_cmp ℤ) (key value : ℤ) (so flag : Bool) → so ≡ flag → flag ≡ false
+    → ◌≡◌ {A = Option (Content × AnyReply)} (Some (table (inserted_if so map key value), Flag so))
+    (Some (table map, Flag flag))
+next_if_not map key value so flag told fails =
+    ap (λ c. Some (table (inserted_if c map key value), Flag c)) told
+    ∙ ap (λ c. Some (table (inserted_if c map key value), Flag flag)) fails
 
-pub absent-at_key : (m : FinMap int_cmp ℤ) (es : Entries) (k : ℤ) → from_sorted es ≡ m → Ordered es
-    → is_absent m k ≡ not (is_some (at_key k es))
-absent-at_key m es k is he = ap (λ o. not (is_some o)) (table_at_key m es k is he)
+pub absent-at_key : (map : FinMap int_cmp ℤ) (pairs : Entries) (key : ℤ) → from_sorted pairs ≡ map → Ordered pairs
+    → is_absent map key ≡ not (is_some (at_key key pairs))
+absent-at_key map pairs key is ordered = ap (λ o. not (is_some o)) (table_at_key map pairs key is ordered)
 
-pub has-at_key : (m : FinMap int_cmp ℤ) (es : Entries) (k a : ℤ) → from_sorted es ≡ m → Ordered es
-    → has_value m k a ≡ contains_value (at_key k es) a
-has-at_key m es k a is he = ap (λ o. contains_value o a) (table_at_key m es k is he)
+pub has-at_key : (map : FinMap int_cmp ℤ) (pairs : Entries) (key value : ℤ) → from_sorted pairs ≡ map
+    → Ordered pairs → has_value map key value ≡ contains_value (at_key key pairs) value
+has-at_key map pairs key value is ordered = ap (λ o. contains_value o value) (table_at_key map pairs key is ordered)
 
 pub contains-eq : (o : Option ℤ) (a : ℤ) → contains_value o a ≡ option_eq int_eq o (Some a)
 contains-eq None a = refl
 contains-eq (Some v) a = refl
 
-pub next-assoc : (m : FinMap int_cmp ℤ) (es fs : Entries) (k v : ℤ) → from_sorted es ≡ m → Ordered es
-    → Ordered fs → Changes es fs k (Some v)
-    → next (table m) (Assoc k v) ≡ Some (table (from_sorted fs), Value None)
-next-assoc m es fs k v is he hf changes = ap (λ n. Some (table n, Value None))
-    (table_inserted m es fs k v is he hf changes)
+pub next-assoc : (map : FinMap int_cmp ℤ) (before after : Entries) (key value : ℤ) → from_sorted before ≡ map
+    → Ordered before → Ordered after → Changes before after key (Some value)
+    → next (table map) (Assoc key value) ≡ Some (table (from_sorted after), Value None)
+next-assoc map before after key value is ordered ordered' changes = ap (λ n. Some (table n, Value None))
+    (table_inserted map before after key value is ordered ordered' changes)
 
-pub next-dissoc : (m : FinMap int_cmp ℤ) (es fs : Entries) (k : ℤ) → from_sorted es ≡ m → Ordered es
-    → Ordered fs → Changes es fs k None
-    → next (table m) (Dissoc k) ≡ Some (table (from_sorted fs), Value None)
-next-dissoc m es fs k is he hf changes =
-    ap (λ n. Some (table n, Value None)) (ap (λ n. remove n k) (sym is)
-    ∙ sym (from_sorted-remove es fs k he hf changes))
+pub next-dissoc : (map : FinMap int_cmp ℤ) (before after : Entries) (key : ℤ) → from_sorted before ≡ map
+    → Ordered before → Ordered after → Changes before after key None
+    → next (table map) (Dissoc key) ≡ Some (table (from_sorted after), Value None)
+next-dissoc map before after key is ordered ordered' changes =
+    ap (λ n. Some (table n, Value None)) (ap (λ n. remove n key) (sym is)
+    ∙ sym (from_sorted-remove before after key ordered ordered' changes))
 
 in_table : Content → FinMap int_cmp ℤ
 in_table (table m) = m
@@ -171,21 +184,31 @@ table-injective : (m n : FinMap int_cmp ℤ) → table m ≡ table n → m ≡ n
 unfolding in_table
 table-injective m n e = ap in_table e
 
-pub same_tables : (m n : FinMap int_cmp ℤ) (es fs : Entries) (r : Bool) → from_sorted es ≡ m → from_sorted fs ≡ n
-    → Ordered es → Ordered fs → Decides r (es ≡ fs) → Decides r (table m ≡ table n)
-same_tables m n es fs r em fn he hf decides = (
-  λ t. ap table (sym em ∙ ap from_sorted (decides.0 t) ∙ fn),
-  λ e. decides.1 (from_sorted-injective es fs he hf (em ∙ table-injective m n e ∙ sym fn)),
+-- two tables are compared by their entries
+pub same_tables : (map map' : FinMap int_cmp ℤ) (pairs pairs' : Entries) (answer : Bool) → from_sorted pairs ≡ map
+    → from_sorted pairs' ≡ map'
+    → Ordered pairs → Ordered pairs' → Decides answer (pairs ≡ pairs') → Decides answer (table map ≡ table map')
+same_tables map map' pairs pairs' answer is is' ordered ordered' decides = (
+  λ t. ap table (sym is ∙ ap from_sorted (decides.0 t) ∙ is'),
+  λ same. decides.1
+      (from_sorted-injective pairs pairs' ordered ordered' (is ∙ table-injective map map' same ∙ sym is')),
 )
 
-pub same_put : (k k' v v' : ℤ) → k ≡ k' → v ≡ v' → of_map.Put k v ≡ of_map.Put k' v'
-same_put k k' v v' e f = λ i. of_map.Put (e i) (f i)
+-- two puts of one key and one value are one
+pub same_put : (key key' value value' : ℤ) → key ≡ key' → value ≡ value' → of_map.Put key value ≡ of_map.Put key' value'
+same_put key key' value value' e f = λ i. of_map.Put (e i) (f i)
 
-pub same_assoc : (k k' v v' : ℤ) → k ≡ k' → v ≡ v' → of_map.Assoc k v ≡ of_map.Assoc k' v'
-same_assoc k k' v v' e f = λ i. of_map.Assoc (e i) (f i)
+-- so are two assocs
+pub same_assoc : (key key' value value' : ℤ) → key ≡ key' → value ≡ value'
+    → of_map.Assoc key value ≡ of_map.Assoc key' value'
+same_assoc key key' value value' e f = λ i. of_map.Assoc (e i) (f i)
 
-pub same_put_if_absent : (k k' v v' : ℤ) → k ≡ k' → v ≡ v' → of_map.PutIfAbsent k v ≡ of_map.PutIfAbsent k' v'
-same_put_if_absent k k' v v' e f = λ i. of_map.PutIfAbsent (e i) (f i)
+-- and two puts where the key is absent
+pub same_put_if_absent : (key key' value value' : ℤ) → key ≡ key' → value ≡ value'
+    → of_map.PutIfAbsent key value ≡ of_map.PutIfAbsent key' value'
+same_put_if_absent key key' value value' e f = λ i. of_map.PutIfAbsent (e i) (f i)
 
-pub same_replace : (k k' a a' b b' : ℤ) → k ≡ k' → a ≡ a' → b ≡ b' → of_map.Replace k a b ≡ of_map.Replace k' a' b'
-same_replace k k' a a' b b' e f g = λ i. of_map.Replace (e i) (f i) (g i)
+-- and two replacements
+pub same_replace : (key key' old old' new new' : ℤ) → key ≡ key' → old ≡ old' → new ≡ new'
+    → of_map.Replace key old new ≡ of_map.Replace key' old' new'
+same_replace key key' old old' new new' e f g = λ i. of_map.Replace (e i) (f i) (g i)

@@ -7,7 +7,7 @@ use Rattle.events.specs.Operations.{ObjectCalls}
 use Rattle.checker.specs.declared.refusal.Refusal.TheVariants.{NoMemory}
 use Rattle.checker.specs.Checking.{AreForThese, IsLeastBesides}
 use Rattle.checker.specs.Refusals.{AreValid, IsFirstRefusal}
-use Rattle.checker.proofs.Certificates.{AreFine, are_objects, next_fine, next_is_first, one_more_fine, all_valid}
+use Rattle.checker.proofs.Certificates.{AreFine, are_objects, next_fine, next_is_first, fine_with_next, all_valid}
 use Rattle.checker.proofs.Certificates.{least_strange, strange_is_not_valid}
 use Rattle.checker.proofs.all.check_all.Goals as goal
 use Rattle.checker.proofs.all.check_all.Goals.{In_err-check_object_at, After-strange_object}
@@ -56,7 +56,7 @@ loop-object-preserved c =
     record {
       objects = l.invariant.objects;
       fine = subst (AreFine es certificates) (sym whole)
-          (one_more_fine es certificates (take i fs) o l.invariant.fine fine);
+          (fine_with_next es certificates (take i fs) o l.invariant.fine fine);
     }
 
 -- at the end all objects are checked

@@ -1,7 +1,7 @@
 -- `search_all_by`: the answers are on the objects of the history in rising order, and if all were found their
 -- certificates are valid. Each turn adds the answer on the next object of the split.
 use Rattle.checker.proofs.Certificates.{are_objects}
-use Rattle.checker.proofs.Collected.{no_answers, one_more_answer, on_all, distinct, valid}
+use Rattle.checker.proofs.Collected.{no_answers, answer_to_next, on_all, distinct, valid}
 use Rattle.search.specs.Answers.{certificate_found}
 use Rattle.search.proofs.Certificates.{IsWithin, certifies, not_linearizable}
 use Rattle.search.proofs.all.search_all_by.Goals as goal
@@ -14,7 +14,7 @@ loop-object-init c = no_answers _ _ _ _
 
 pub loop-object-preserved : goal.loop-object-preserved
 loop-object-preserved c =
-    one_more_answer _ (IsWithin c.args.limit) _ _ _ _ _ _ c.search_by-answer.result c.loop-object-test.true
+    answer_to_next _ (IsWithin c.args.limit) _ _ _ _ _ _ c.search_by-answer.result c.loop-object-test.true
     c.object-item.is c.object.ensures
     c.in_ok-push.ensures.items c.search_by-answer.ensures c.loop-object.invariant
 
