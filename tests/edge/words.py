@@ -381,7 +381,7 @@ def bad_words_are_told(program, report):
 
 def not_utf_8(program, report):
     """Words that are no UTF-8 are refused."""
-    message = "fcbench: a word of the command line is not UTF-8\n"
+    message = "fcbench: an argument is not UTF-8\n"
     for words in ((b"\xff",), (b"check", b"h\xc3.edn", b"c.edn"), (b"search", b"\xed\xa0\x80"), ("judge", b"\xff"), ("draw", b"h\xc3.edn")):
         report.answers(f"refused: {words}", program.run(*words), "", 64, message)
 

@@ -16,7 +16,7 @@ use Rattle.model.specs.Lists.{In}
 use Rattle.model.proofs.Lists.{in_from_contains, contains_from_in, all_from_in}
 use Rattle.events.specs.declared.operations.End.{End}
 use Rattle.events.specs.declared.operations.End.TheVariants.{Returned, Pending, Failed}
-use Rattle.events.specs.declared.operations.Invocation.{Invocation}
+use Rattle.events.specs.declared.operations.Operation.{Operation}
 use Rattle.events.specs.Operations.{call_with, call_of, calls_of, return_of, ReplyDiffers, Agrees}
 use Rattle.checker.specs.declared.refusal.Refusal.{Refusal}
 use Rattle.checker.specs.declared.refusal.Refusal.TheVariants.{BadOrder}
@@ -46,7 +46,7 @@ read_at marks k read mark inside is same = get_or_default marks k false read ins
 -- ---- at an entry
 
 -- the walk is at an entry whose operation is at this place, and it has not been there
-pub record IsHere (kind : Kind) (ops : List Invocation) (order : List ℤ) (i : ℕ) (seen : List Bool)
+pub record IsHere (kind : Kind) (ops : List Operation) (order : List ℤ) (i : ℕ) (seen : List Bool)
     (content : Content) (greatest : Option ℕ) (entry : ℤ) (place : ℕ) (call : Call) : Type 0 where
   pub walk : Walk kind ops (take i order) seen content greatest
   pub at : slice_get order i ≡ Some entry
@@ -58,8 +58,8 @@ none_from None h = refl
 none_from (Some x) h = absurd (h refl)
 
 -- The walk is at entry i of the order, which names the call of the operation at this place.
-module _ (kind : Kind) (ops : List Invocation) (order : List ℤ) (i : ℕ) (seen : List Bool) (content : Content)
-    (greatest : Option ℕ) (entry : ℤ) (place : ℕ) (call : Call) (default : Invocation) where
+module _ (kind : Kind) (ops : List Operation) (order : List ℤ) (i : ℕ) (seen : List Bool) (content : Content)
+    (greatest : Option ℕ) (entry : ℤ) (place : ℕ) (call : Call) (default : Operation) where
   reaches : IsHere kind ops order i seen content greatest entry place call
       → Reaches kind (calls_of ops) order i entry call content
   reaches here = record {
@@ -153,12 +153,12 @@ module _ (kind : Kind) (ops : List Invocation) (order : List ℤ) (i : ℕ) (see
 -- ---- at the end
 
 -- the walk is over
-pub at_end : (kind : Kind) (ops : List Invocation) (order : List ℤ) (i : ℕ) (seen : List Bool) (content : Content)
+pub at_end : (kind : Kind) (ops : List Operation) (order : List ℤ) (i : ℕ) (seen : List Bool) (content : Content)
     (greatest : Option ℕ)
     → Walk kind ops (take i order) seen content greatest → length order ≤ i → Walk kind ops order seen content greatest
 at_end kind ops order i seen content greatest walk long = rw (take_all i order long) at walk
 
-returned_call : (o : Invocation) → is_some (return_of o.«end») ≡ true → (c : Call) × (call_of o ≡ Some c)
+returned_call : (o : Operation) → is_some (return_of o.«end») ≡ true → (c : Call) × (call_of o ≡ Some c)
 returned_call o e = go o.«end» e
   where
     go : (f : End) → is_some (return_of f) ≡ true → (c : Call) × (call_with o.number o.op f ≡ Some c)
@@ -174,10 +174,10 @@ returned_call o e = go o.«end» e
     go Failed q = absurd (cc q)
 
 -- The walk has passed the whole order.
-module _ (kind : Kind) (ops : List Invocation) (order : List ℤ) (seen : List Bool) (content : Content)
+module _ (kind : Kind) (ops : List Operation) (order : List ℤ) (seen : List Bool) (content : Content)
     (greatest : Option ℕ) where
   -- a call that returned and was passed is in the order
-  stands_marked : (place : ℕ) (default : Invocation) (call : Call) → Walk kind ops order seen content greatest
+  stands_marked : (place : ℕ) (default : Operation) (call : Call) → Walk kind ops order seen content greatest
       → place < length ops → call_of (get_or ops place default) ≡ Some call → get_or seen place false ≡ true
       → In (pos call.number) order
   stands_marked place default call walk inside is marked =
@@ -186,7 +186,7 @@ module _ (kind : Kind) (ops : List Invocation) (order : List ℤ) (seen : List B
       (stands_true (get_or ops place default).number order (sym (walk.marks place default inside) ∙ marked))
 
   -- if all operations that returned are marked, the order is valid
-  pub all_marked : (default : Invocation) → AllPairs (λ a b. a.number < b.number) ops
+  pub all_marked : (default : Operation) → AllPairs (λ a b. a.number < b.number) ops
       → Walk kind ops order seen content greatest → AreMarked ops seen (length ops)
       → IsValidOrder kind (calls_of ops) order
   all_marked default rising walk marked =
@@ -203,11 +203,11 @@ module _ (kind : Kind) (ops : List Invocation) (order : List ℤ) (seen : List B
       (pos c.number, stands, known.1 ∙ ap Some same))
 
   -- the first operation that returned and is not marked is the least that the order leaves out
-  pub omitted_at : (number : ℕ) (default : Invocation) → AllPairs (λ a b. a.number < b.number) ops
+  pub omitted_at : (number : ℕ) (default : Operation) → AllPairs (λ a b. a.number < b.number) ops
       → Walk kind ops order seen content greatest → IsFirstUnmarked ops seen number
       → IsLeastOmitted kind (calls_of ops) order number
   omitted_at number default rising walk first =
-      let made : Invocation = get_or ops first.place default in
+      let made : Operation = get_or ops first.place default in
       let call = returned_call made (first.returned default) in
       let parts = call_parts made call.0 call.1 in
       let fresh : In (pos made.number) order → ⊥ =

@@ -14,7 +14,7 @@ use Rattle.std.proofs.lemmas.Bool.{cases_order}
 use Rattle.model.specs.Orders.{Call}
 use Rattle.model.specs.Lists.{In}
 use Rattle.model.proofs.Lists.{Pairs, pairs_from_all}
-use Rattle.events.specs.declared.operations.Invocation.{Invocation}
+use Rattle.events.specs.declared.operations.Operation.{Operation}
 use Rattle.events.specs.declared.operations.End.TheVariants.{Returned, Failed}
 use Rattle.model.specs.declared.AnyOp.TheVariants.{Enqueue}
 use Rattle.model.specs.declared.AnyReply.TheVariants.{Value}
@@ -30,7 +30,7 @@ index_rises : (a b : ℕ) (z : ℤ) → a ≤ b → ordering_index (int_cmp (pos
 index_rises a b z l = grind (arith, ints)
 
 -- so operations whose numbers rise can be searched
-pub search_rises : (ops : List Invocation) (entry : ℤ) → AllPairs (λ a b. a.number < b.number) ops
+pub search_rises : (ops : List Operation) (entry : ℤ) → AllPairs (λ a b. a.number < b.number) ops
     → IsNonDecreasingBy (λ o. ordering_index (int_cmp (pos o.number) entry)) ops
 search_rises ops entry rising i j d l m = elim (cases_order i j) [
   | inl s ↦ rw s (omega arith)
@@ -42,28 +42,28 @@ search_rises ops entry rising i j d l m = elim (cases_order i j) [
 ]
 
 -- the calls of operations whose numbers rise
-pub rising_calls : (ops : List Invocation) → Pairs (λ a b. a.number < b.number) ops → Rising (calls_of ops)
+pub rising_calls : (ops : List Operation) → Pairs (λ a b. a.number < b.number) ops → Rising (calls_of ops)
 rising_calls [] h = tt
 rising_calls (o ∷ ops) h = go (call_of o) refl (rising_calls ops h.1)
   where
     above : (c : Call) → call_of o ≡ Some c → (e : Call) → In e (calls_of ops) → c.number < e.number
     above c q e i = below (operation_of ops e i)
       where
-        below : ((p : Invocation) × In p ops × (p.number ≡ e.number)) → c.number < e.number
+        below : ((p : Operation) × In p ops × (p.number ≡ e.number)) → c.number < e.number
         below p =
             let g = h.0 p.0 p.1 in
             let n = (call_parts o c q).0 in
             let m = p.2 in
             omega arith
 
-        operation_of : (os : List Invocation) (e : Call) → In e (calls_of os)
-            → (p : Invocation) × In p os × (p.number ≡ e.number)
+        operation_of : (os : List Operation) (e : Call) → In e (calls_of os)
+            → (p : Operation) × In p os × (p.number ≡ e.number)
         operation_of [] e i = absurd i
         operation_of (p ∷ os) e i = pick (call_of p) refl i (operation_of os e)
           where
             pick : (r : Option Call) → call_of p ≡ r → In e (cons_option r (calls_of os))
-                → (In e (calls_of os) → (p : Invocation) × In p os × (p.number ≡ e.number))
-                → (x : Invocation) × In x (p ∷ os) × (x.number ≡ e.number)
+                → (In e (calls_of os) → (p : Operation) × In p os × (p.number ≡ e.number))
+                → (x : Operation) × In x (p ∷ os) × (x.number ≡ e.number)
             pick None q j f = let x = f j in (x.0, inr x.1, x.2)
             pick (Some d) q j f = elim j [
               | inl s ↦ (p, inl refl, (call_parts p d q).0 ∙ ap (λ (x : Call). x.number) (sym s))
@@ -75,11 +75,11 @@ rising_calls (o ∷ ops) h = go (call_of o) refl (rising_calls ops h.1)
     go (Some c) q rest = (above c q, rest)
 
 -- an operation, for a default that nothing reads
-abbrev pub placeholder_operation : Invocation
+abbrev pub placeholder_operation : Operation
 placeholder_operation = record { number = 0; op = Enqueue (pos 0); «end» = Returned 0 (Value None) }
 
 -- a number that no call's operation has names no call
-pub not_named : (ops : List Invocation) (entry : ℤ) (default : Invocation)
+pub not_named : (ops : List Operation) (entry : ℤ) (default : Operation)
     → ((k : ℕ) (c : Call) → k < length ops → pos (get_or ops k default).number ≡ entry
     → call_of (get_or ops k default) ≡ Some c → ⊥) → call_with_number (calls_of ops) entry ≡ None
 not_named ops entry default h = go (call_with_number (calls_of ops) entry) refl
@@ -93,12 +93,12 @@ not_named ops entry default h = go (call_with_number (calls_of ops) entry) refl
         absurd (h p.0 c p.1 n (p.2 default))
 
 -- what the search found names the call
-pub found_by_number : (ops : List Invocation) (entry : ℤ) (place : ℕ) (default : Invocation)
+pub found_by_number : (ops : List Operation) (entry : ℤ) (place : ℕ) (default : Operation)
     → AllPairs (λ a b. a.number < b.number) ops → place < length ops
     → pos (get_or ops place default).number ≡ entry → (get_or ops place default).«end» ≢ Failed
     → (call : Call) × AtHand ops entry place call
 found_by_number ops entry place default rising inside is done =
-    let made : Invocation = get_or ops place default in
+    let made : Operation = get_or ops place default in
     let call = call_from made done in
     let number : pos call.0.number ≡ entry = ap pos (sym (call_parts made call.0 call.1).0) ∙ is in
     let own = names_itself (calls_of ops) call.0
@@ -112,7 +112,7 @@ found_by_number ops entry place default rising inside is done =
       },
     )
 
-pub found_here : (ops : List Invocation) (entry : ℤ) (place : ℕ) (default : Invocation)
+pub found_here : (ops : List Operation) (entry : ℤ) (place : ℕ) (default : Operation)
     → AllPairs (λ a b. a.number < b.number) ops → place < length ops
     → int_cmp (pos (get_or ops place default).number) entry ≡ Equal → (get_or ops place default).«end» ≢ Failed
     → (c : Call) × AtHand ops entry place c
@@ -121,7 +121,7 @@ found_here ops entry place default rising inside eq done =
     (int_ranked (pos (get_or ops place default).number) entry Equal (sym eq)) done
 
 -- what failed names no call
-pub failed_here : (ops : List Invocation) (entry : ℤ) (place : ℕ) (default : Invocation)
+pub failed_here : (ops : List Operation) (entry : ℤ) (place : ℕ) (default : Operation)
     → AllPairs (λ a b. a.number < b.number) ops → place < length ops
     → int_cmp (pos (get_or ops place default).number) entry ≡ Equal → call_of (get_or ops place default) ≡ None
     → call_with_number (calls_of ops) entry ≡ None
@@ -137,7 +137,7 @@ failed_here ops entry place default rising inside eq none = not_named ops entry 
     ])
 
 -- a search that found nothing says that no operation has the number
-pub none_here : (ops : List Invocation) (entry : ℤ) (i : ℕ) (default : Invocation)
+pub none_here : (ops : List Operation) (entry : ℤ) (i : ℕ) (default : Operation)
     → IsPartitionPoint (λ o. int_cmp (pos o.number) entry ≡ Less) (λ o. int_cmp (pos o.number) entry ≡ Greater) ops i
     → call_with_number (calls_of ops) entry ≡ None
 none_here ops entry i default h =

@@ -16,7 +16,7 @@ use Rattle.model.specs.Lists.{In}
 use Rattle.model.proofs.Lists.{in_append, in_from_contains, contains_from_in, all_from_in, all_at, in_left, in_right}
 use Rattle.events.specs.declared.operations.End.{End}
 use Rattle.events.specs.declared.operations.End.TheVariants.{Failed}
-use Rattle.events.specs.declared.operations.Invocation.{Invocation}
+use Rattle.events.specs.declared.operations.Operation.{Operation}
 use Rattle.events.specs.Operations.{call_with, call_of, calls_of, return_of}
 use Rattle.checker.specs.Faults.{call_with_number, IsGreatest}
 use Rattle.checker.specs.Ends.{IsEarly}
@@ -32,11 +32,11 @@ at_most_of : (n top : ℕ) (z : ℤ) → z ≡ pos n → n ≤ top → z ≤ℤ 
 at_most_of n top z e l = omega (arith, ints)
 
 -- operations at different places have different numbers, whichever default each read has
-pub numbers_apart : (ops : List Invocation) (k j : ℕ) (default other : Invocation)
+pub numbers_apart : (ops : List Operation) (k j : ℕ) (default other : Operation)
     → AllPairs (λ a b. a.number < b.number) ops → k < length ops → j < length ops → k ≢ j
     → (get_or ops k default).number ≢ (get_or ops j other).number
 numbers_apart ops k j default other rising l m apart same =
-    let read = ap (λ (y : Invocation). y.number) (get_or_default ops j default other m) in
+    let read = ap (λ (y : Operation). y.number) (get_or_default ops j default other m) in
     elim (cases_order k j) [
       | inl s ↦ apart s
       | inr r ↦ elim r [
@@ -88,23 +88,23 @@ TopIs (Some g) o = IsGreatest (pos g) o
 -- ---- what the walk knows
 
 -- what is known after the entries of the order
-pub record Walk (kind : Kind) (ops : List Invocation) (order : List ℤ) (seen : List Bool) (content : Content)
+pub record Walk (kind : Kind) (ops : List Operation) (order : List ℤ) (seen : List Bool) (content : Content)
     (greatest : Option ℕ) : Type 0 where
   pub so_far : SoFar kind (calls_of ops) order content
   pub of_kind : kind_with content ≡ kind
   pub long : length seen ≡ length ops
-  pub marks : (k : ℕ) (d : Invocation) → k < length ops → get_or seen k false ≡ stands_in (get_or ops k d).number order
+  pub marks : (k : ℕ) (d : Operation) → k < length ops → get_or seen k false ≡ stands_in (get_or ops k d).number order
   pub top : TopIs greatest order
 
 -- ---- operations and their calls
 
 -- the operation of a call
-pub call_parts : (o : Invocation) (c : Call) → call_of o ≡ Some c
+pub call_parts : (o : Operation) (c : Call) → call_of o ≡ Some c
     → (o.number ≡ c.number) × (o.op ≡ c.op) × (return_of o.«end» ≡ c.returned)
 call_parts o c e = grind arith
 
 -- an operation that did not fail is a call
-pub call_from : (o : Invocation) → o.«end» ≢ Failed → (c : Call) × (call_of o ≡ Some c)
+pub call_from : (o : Operation) → o.«end» ≢ Failed → (c : Call) × (call_of o ≡ Some c)
 call_from o ne = go o.«end» ne
   where
     go : (f : End) → f ≢ Failed → (c : Call) × (call_with o.number o.op f ≡ Some c)
@@ -112,24 +112,24 @@ call_from o ne = go o.«end» ne
     go e h = (record { number = o.number; op = o.op; returned = return_of e }, refl)
 
 -- the operation of each call
-pub place_of_call : (ops : List Invocation) (c : Call) → In c (calls_of ops)
-    → (k : ℕ) × (k < length ops) × ((d : Invocation) → call_of (get_or ops k d) ≡ Some c)
+pub place_of_call : (ops : List Operation) (c : Call) → In c (calls_of ops)
+    → (k : ℕ) × (k < length ops) × ((d : Operation) → call_of (get_or ops k d) ≡ Some c)
 place_of_call [] c i = absurd i
 place_of_call (o ∷ ops) c i = go (call_of o) refl i (place_of_call ops c)
   where
-    behind : ((k : ℕ) × (k < length ops) × ((d : Invocation) → call_of (get_or ops k d) ≡ Some c))
-        → (k : ℕ) × (k < suc (length ops)) × ((d : Invocation) → call_of (get_or (o ∷ ops) k d) ≡ Some c)
+    behind : ((k : ℕ) × (k < length ops) × ((d : Operation) → call_of (get_or ops k d) ≡ Some c))
+        → (k : ℕ) × (k < suc (length ops)) × ((d : Operation) → call_of (get_or (o ∷ ops) k d) ≡ Some c)
     behind k = (suc k.0, omega (arith, k.1), k.2)
 
     go : (r : Option Call) → call_of o ≡ r → In c (cons_option r (calls_of ops))
-        → (In c (calls_of ops) → (k : ℕ) × (k < length ops) × ((d : Invocation) → call_of (get_or ops k d) ≡ Some c))
+        → (In c (calls_of ops) → (k : ℕ) × (k < length ops) × ((d : Operation) → call_of (get_or ops k d) ≡ Some c))
         → (k : ℕ) × (k < suc (length ops))
-        × ((d : Invocation) → call_of (get_or (o ∷ ops) k d) ≡ Some c)
+        × ((d : Operation) → call_of (get_or (o ∷ ops) k d) ≡ Some c)
     go None q j f = behind (f j)
     go (Some e) q j f = elim j [ inl s ↦ (0, omega arith, λ d. q ∙ ap Some (sym s)) | inr t ↦ behind (f t) ]
 
 -- the call at a place of the operations is one of the calls
-pub call_at_place : (ops : List Invocation) (k : ℕ) (d : Invocation) (c : Call) → k < length ops
+pub call_at_place : (ops : List Operation) (k : ℕ) (d : Operation) (c : Call) → k < length ops
     → call_of (get_or ops k d) ≡ Some c → In c (calls_of ops)
 call_at_place [] k d c l e = absurd (omega arith)
 call_at_place (o ∷ ops) zero d c l e = rw e (inl refl)
@@ -140,7 +140,7 @@ call_at_place (o ∷ ops) (suc k) d c l e = behind (call_of o) (call_at_place op
     behind (Some e) i = inr i
 
 -- a call is the one that its number names
-pub one_call : (ops : List Invocation) (a b : Call) (default : Invocation) → AllPairs (λ a b. a.number < b.number) ops
+pub one_call : (ops : List Operation) (a b : Call) (default : Operation) → AllPairs (λ a b. a.number < b.number) ops
     → In a (calls_of ops) → In b (calls_of ops) → a.number ≡ b.number → a ≡ b
 one_call ops a b default rising i j same =
     let p = place_of_call ops a i in
@@ -191,21 +191,21 @@ top_more (Some g) o n top t e = record {
 -- ---- one entry more
 
 -- the entry at hand is that of the operation at this place
-pub record AtHand (ops : List Invocation) (entry : ℤ) (place : ℕ) (call : Call) : Type 0 where
+pub record AtHand (ops : List Operation) (entry : ℤ) (place : ℕ) (call : Call) : Type 0 where
   pub within : place < length ops
   pub found : call_with_number (calls_of ops) entry ≡ Some call
-  pub is : (d : Invocation) → call_of (get_or ops place d) ≡ Some call
+  pub is : (d : Operation) → call_of (get_or ops place d) ≡ Some call
 
 -- the entry is the number of that operation
-pub number_at : (ops : List Invocation) (entry : ℤ) (place : ℕ) (call : Call) (default : Invocation)
+pub number_at : (ops : List Operation) (entry : ℤ) (place : ℕ) (call : Call) (default : Operation)
     → AtHand ops entry place call → entry ≡ pos (get_or ops place default).number
 number_at ops entry place call default hand =
     found_number (calls_of ops) entry call hand.found
     ∙ ap pos (sym (call_parts (get_or ops place default) call (hand.is default)).0)
 
 -- The entries of the order are passed, and the next is that of the operation at this place, which is not marked.
-module _ (kind : Kind) (ops : List Invocation) (order : List ℤ) (seen : List Bool) (content : Content)
-    (greatest : Option ℕ) (entry : ℤ) (place : ℕ) (call : Call) (default : Invocation) where
+module _ (kind : Kind) (ops : List Operation) (order : List ℤ) (seen : List Bool) (content : Content)
+    (greatest : Option ℕ) (entry : ℤ) (place : ℕ) (call : Call) (default : Operation) where
   -- the order does not have the entry yet
   pub away : Walk kind ops order seen content greatest → AtHand ops entry place call → get_or seen place false ≡ false
       → In entry order → ⊥
@@ -221,7 +221,7 @@ module _ (kind : Kind) (ops : List Invocation) (order : List ℤ) (seen : List B
       → top ≡ option_map_or (λ by. max by (get_or ops place default).number) greatest (get_or ops place default).number
       → Walk kind ops (order ++ entry ∷ []) (set seen place true) after (Some top)
   walk_more after top rising walk hand fresh early step kept new_top =
-      let made : Invocation = get_or ops place default in
+      let made : Operation = get_or ops place default in
       let parts = call_parts made call (hand.is default) in
       let its_number : entry ≡ pos made.number = number_at ops entry place call default hand in
       record {
@@ -237,14 +237,14 @@ module _ (kind : Kind) (ops : List Invocation) (order : List ℤ) (seen : List B
       nothing a b e = grind arith
 
       -- each mark says whether the number of its operation is in the order
-      mark : (j : ℕ) (other : Invocation) → j < length ops
+      mark : (j : ℕ) (other : Operation) → j < length ops
           → get_or (set seen place true) j false
           ≡ stands_in (get_or ops j other).number (order ++ pos (get_or ops place default).number ∷ [])
       mark j other inside = elim (cases_eq j place) [
         | inl is ↦
             let same : (get_or ops j other).number ≡ (get_or ops place default).number =
                 ap (λ i. (get_or ops i other).number) is
-                ∙ ap (λ (y : Invocation). y.number) (get_or_default ops place other default hand.within) in
+                ∙ ap (λ (y : Operation). y.number) (get_or_default ops place other default hand.within) in
             let long = walk.long in
             let within = hand.within in
             let here : get_or (set seen place true) j false ≡ true =

@@ -6,13 +6,13 @@ ghost use Rattle.model.specs.Orders.{Call};
 ghost use Rattle.events.specs.Operations.{call_of, calls_of};
 ghost use Rattle.checker.specs.Faults.{call_with_number};
 
-use events::{End, Invocation};
+use events::{End, Operation};
 
 /// How many operations beside the last one are looked at before all are searched.
 const NEARBY: usize = 24;
 
 /// The place of the operation with this number, if it did not fail and is near this place.
-fn nearby_place(ops: &[Invocation], entry: i64, near: usize) -> Option<usize>
+fn nearby_place(ops: &[Operation], entry: i64, near: usize) -> Option<usize>
     requires { AllPairs (λ a b. a.number < b.number) ops.now }
     ensures { IfSome result (λ k. (k < length ops.now)
         × ((c : Call) × (call_with_number (calls_of ops.now) entry ≡ Some c)
@@ -43,7 +43,7 @@ fn nearby_place(ops: &[Invocation], entry: i64, near: usize) -> Option<usize>
 
 /// The place of the operation with this number, if there is one that did not fail. It is looked for
 /// near this place first.
-pub(crate) fn place_of(ops: &[Invocation], entry: i64, near: usize) -> Option<usize>
+pub(crate) fn place_of(ops: &[Operation], entry: i64, near: usize) -> Option<usize>
     requires { AllPairs (λ a b. a.number < b.number) ops.now }
     ensures some { IfSome result (λ k. (k < length ops.now)
         × ((c : Call) × (call_with_number (calls_of ops.now) entry ≡ Some c)
@@ -58,7 +58,7 @@ pub(crate) fn place_of(ops: &[Invocation], entry: i64, near: usize) -> Option<us
 
 /// The place of the operation with this number, if there is one that did not fail, by a search
 /// among all.
-fn place_among(ops: &[Invocation], entry: i64) -> Option<usize>
+fn place_among(ops: &[Operation], entry: i64) -> Option<usize>
     requires { AllPairs (λ a b. a.number < b.number) ops.now }
     ensures some { IfSome result (λ k. (k < length ops.now)
         × ((c : Call) × (call_with_number (calls_of ops.now) entry ≡ Some c)

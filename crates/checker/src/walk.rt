@@ -9,7 +9,7 @@ ghost use Rattle.model.specs.declared.AnyOp.{AnyOp};
 ghost use Rattle.model.specs.declared.AnyReply.{AnyReply};
 ghost use Rattle.model.specs.Objects.{empty, kind_of};
 ghost use Rattle.model.specs.Orders.{IsValidOrder};
-ghost use Rattle.events.specs.declared.operations.Invocation.{Invocation};
+ghost use Rattle.events.specs.declared.operations.Operation.{Operation};
 ghost use Rattle.events.specs.Operations.{calls_of};
 ghost use Rattle.checker.specs.Ends.{IsLate, IsEarly, AreMarked, IsFirstUnmarked};
 ghost use Rattle.checker.specs.Faults.{IsFirstFault};
@@ -17,7 +17,7 @@ ghost use Rattle.checker.specs.Refusals.{RefusesOrder};
 
 use crate::place::place_of;
 use crate::refusal::{OrderFault, Refusal};
-use events::{End, Invocation};
+use events::{End, Operation};
 use seq_objects::{AnyOp, AnyReply, Kind, SeqObject};
 use std::alloc::Global;
 
@@ -44,7 +44,7 @@ fn greatest_with(greatest: Option<u32>, number: u32) -> u32
 }
 
 /// The number of the first operation that returned and is not marked.
-fn first_omitted(ops: &[Invocation], seen: &[bool]) -> Option<u32>
+fn first_omitted(ops: &[Operation], seen: &[bool]) -> Option<u32>
     requires { length seen.now ≡ length ops.now }
     ensures none { IfNone result (AreMarked ops.now seen.now (length ops.now)) }
     ensures some { IfSome result (λ n. IsFirstUnmarked ops.now seen.now n) }
@@ -71,7 +71,7 @@ fn check_entries<S: SeqObject<Op = AnyOp, Reply = AnyReply>>(
     number: u32,
     kind: Kind,
     mut object: S,
-    ops: &[Invocation],
+    ops: &[Operation],
     order: &[i64],
 ) -> Result<(), Refusal>
     requires empty { S.content object ≡ empty kind }
@@ -127,7 +127,7 @@ pub fn check_order<S: SeqObject<Op = AnyOp, Reply = AnyReply>>(
     number: u32,
     kind: Kind,
     object: S,
-    ops: &[Invocation],
+    ops: &[Operation],
     order: &[i64],
 ) -> Result<(), Refusal>
     requires empty { S.content object ≡ empty kind }

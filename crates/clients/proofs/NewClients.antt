@@ -7,7 +7,7 @@ use lib.ListN.{get_elem?}
 use Rattle.atomic_table.proofs.Lists.{at_longer, at_last}
 use Rattle.publication_list.proofs.RosterMaking.{at_end}
 use Rattle.combiner.specs.Passes.{KeepsCalls}
-use Rattle.publication.specs.Handles.{AllBegun, DeskId, Known, begun}
+use Rattle.publication.specs.Handles.{AreAllNew, DeskId, Known, new_client_known}
 use Rattle.clients.specs.Made.{AreNew, HasMadeNoCall}
 
 inside : {A : Type 0} (l : List A) (i : ℕ) (a : A) → get_elem? l i ≡ some a → i < length l
@@ -16,9 +16,10 @@ inside (x ∷ xs) zero a e = omega arith
 inside (x ∷ xs) (suc i) a e = let low = inside xs i a e in omega arith
 
 -- the clients that a desk was made with
-pub all_new : (d : DeskId) (cs : List Known) → AllBegun d cs → AreNew d cs
+pub all_new : (d : DeskId) (cs : List Known) → AreAllNew d cs → AreNew d cs
 all_new d cs begins c k at =
-    let is : k ≡ begun d c = some-injective k (begun d c) (sym at ∙ begins c (inside cs c k at)) in
+    let is : k ≡ new_client_known d c =
+        some-injective k (new_client_known d c) (sym at ∙ begins c (inside cs c k at)) in
     record {
       desk = ap (λ z. z.desk) is;
       number = ap (λ z. z.knows.number) is;

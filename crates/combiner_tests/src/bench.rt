@@ -1,7 +1,7 @@
 //! A desk with its clients in their seats, so that a test names a client by its number.
 
 ghost use Rattle.std.specs.Prelude.{◌≡◌, ◌+◌, ◌<◌, length, IfOk, IfSome};
-ghost use Rattle.publication.specs.Handles.{AllBegun};
+ghost use Rattle.publication.specs.Handles.{AreAllNew};
 ghost use Rattle.publication.specs.Making.{AreEmpty};
 ghost use Rattle.combiner_tests.specs.Seats.{AreSeated};
 ghost use Rattle.model.specs.Objects.{empty, kind_with};
@@ -78,10 +78,10 @@ fn objects_of(alloc: Global, kinds: &[Kind], left: Option<u32>) -> Result<Vec<Re
 
 /// The last of the clients.
 fn next(desk: &Desk<Refusing>, clients: &mut Vec<Client<Refusing>>) -> Client<Refusing>
-    requires { (0 < length clients.old.items) × AllBegun desk.now.id clients.old.items }
+    requires { (0 < length clients.old.items) × AreAllNew desk.now.id clients.old.items }
     ensures client { result.desk ≡ desk.now.id }
     ensures others { (length clients.new.items + 1 ≡ length clients.old.items)
-        × AllBegun desk.now.id clients.new.items }
+        × AreAllNew desk.now.id clients.new.items }
 {
     match clients.pop() {
         Some(client) => client,
@@ -95,7 +95,7 @@ fn seated(
     desk: &Desk<Refusing>,
     mut clients: Vec<Client<Refusing>>,
 ) -> Result<NumberMap<Client<Refusing>>, AllocError>
-    requires { AllBegun desk.now.id clients.items }
+    requires { AreAllNew desk.now.id clients.items }
     ensures { IfOk result (AreSeated desk.now.id) }
 {
     let mut seats = NumberMap::new(alloc);

@@ -12,8 +12,8 @@ use Rattle.report.specs.Lines.{verdict_text}
 use Rattle.history_commands.specs.Outputs.{IsExactly, IsOutOfMemory, IsVerdictOutput, status_number, status_of}
 use Rattle.history_commands.specs.declared.output.Output.{Output}
 use Rattle.history_commands.specs.declared.status.Status.{Status}
-use Rattle.history_commands.specs.declared.status.Status.TheVariants.{Yes, No, Malformed, Undecided, OutOfMemory}
-use Rattle.history_commands.specs.declared.status.Status.TheVariants.{NoThread, Failed, Usage}
+use Rattle.history_commands.specs.declared.status.Status.TheVariants.{No, OutOfMemory}
+use Rattle.history_commands.specs.declared.status.Status.TheVariants.{Failed}
 use Rattle.commands.specs.Leaves.{IsMade, Leaves}
 
 -- an output of one relation is an output of another

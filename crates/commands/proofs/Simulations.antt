@@ -1,5 +1,5 @@
 -- The output for a schedule of which there is a record is a yes, except where an allocation fails.
-use Rattle.std.proofs.Common.{◌≡◌, ◌≢◌, ◌∙◌, ℕ, List, inl, inr, sym}
+use Rattle.std.proofs.Common.{◌≡◌, ◌≢◌, ℕ, List, inl, inr}
 use Rattle.simulation.specs.Plays.{header_kinds}
 use Rattle.history_commands.specs.declared.status.Status.{Status}
 use Rattle.history_commands.specs.declared.status.Status.TheVariants as status_is

@@ -1,13 +1,13 @@
 -- The exit status of a command tells of the history in its first file: the number 0 is that of a yes alone, and 1 that
 -- of a no alone. By cases on the status of its output.
-use Rattle.std.proofs.Common.{◌≡◌, ◌≢◌, ◌∙◌, ℕ, true, List, Option, inl, inr, sym, refl, Bool}
+use Rattle.std.proofs.Common.{◌≡◌, ◌≢◌, ◌∙◌, ℕ, true, List, Option, inl, inr, sym, Bool}
 use Rattle.command_line.specs.declared.asking.Line.{Line}
-use Rattle.command_line.specs.declared.asking.Line.TheVariants.{Check, Search, Refute, Verify, Run, Simulate, OnFolder}
+use Rattle.command_line.specs.declared.asking.Line.TheVariants.{Check, Search, Refute, Verify}
 use Rattle.judging.specs.Checks.{IsLinearizableRead, IsNotLinearizableRead}
 use Rattle.history_commands.specs.Outputs.{status_number}
 use Rattle.history_commands.specs.declared.status.Status.{Status}
-use Rattle.history_commands.specs.declared.status.Status.TheVariants.{Yes, No, Malformed, Undecided, OutOfMemory}
-use Rattle.history_commands.specs.declared.status.Status.TheVariants.{NoThread, Failed, Usage}
+use Rattle.history_commands.specs.declared.status.Status.TheVariants.{Yes, No, OutOfMemory}
+use Rattle.history_commands.specs.declared.status.Status.TheVariants.{Failed}
 use Rattle.history_commands.proofs.Numbers.{no_by_number, yes_by_number}
 use Rattle.commands.specs.Leaves.{Leaves}
 use Rattle.commands.specs.Performed.{IsPerformedOn, says_no, says_yes}

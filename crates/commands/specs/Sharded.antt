@@ -49,12 +49,12 @@ IsSplitOutput count left left_after files files_after status out =
 
 -- If a split says that an object needs more shards, this is so: what was read of the source has
 -- a map on it.
-abbrev pub IsWhereFewShards : ℕ → SplitFailure → Option (List ℕ) → Option (List ℕ) → Type 0
-IsWhereFewShards count (failure.FewShards x) left left_after =
-    IsSplitFault count (split.FewShards x) left left_after
-IsWhereFewShards count failure.Unread left left_after = ⊤
-IsWhereFewShards count failure.Unwritten left left_after = ⊤
-IsWhereFewShards count failure.NoMemory left left_after = ⊤
+abbrev pub IsWhereTooFewShards : ℕ → SplitFailure → Option (List ℕ) → Option (List ℕ) → Type 0
+IsWhereTooFewShards count (failure.TooFewShards x) left left_after =
+    IsSplitFault count (split.TooFewShards x) left left_after
+IsWhereTooFewShards count failure.Unread left left_after = ⊤
+IsWhereTooFewShards count failure.Unwritten left left_after = ⊤
+IsWhereTooFewShards count failure.NoMemory left left_after = ⊤
 
 -- ---- a merge
 

@@ -9,7 +9,7 @@ ghost use Rattle.commands.specs.Leaves.{Leaves};
 ghost use Rattle.commands.specs.Sharded as spec;
 ghost use Rattle.commands.specs.Sharded.{AreShardsRead, FolderHoldsSplit, IsMergeOf};
 ghost use Rattle.commands.specs.Sharded.{IsMergeOfFolder};
-ghost use Rattle.commands.specs.Sharded.{IsSplitOutput, IsWhereFewShards, split_fault_line};
+ghost use Rattle.commands.specs.Sharded.{IsSplitOutput, IsWhereTooFewShards, split_fault_line};
 ghost use Rattle.history.specs.Faults.{max_maps};
 ghost use Rattle.std.specs.List.{list_any};
 ghost use Rattle.shards.specs.Folders.{WasDivided};
@@ -42,7 +42,7 @@ pub enum SplitFailure {
     /// The files of the shards could not be written.
     Unwritten,
     /// The history has a map on this object, which needs more shards.
-    FewShards(u32),
+    TooFewShards(u32),
     /// An allocation failed. That is an error and not the status 3, which says that the folder has
     /// all maps.
     NoMemory,
@@ -199,13 +199,13 @@ fn split_output<F: Source, D: Folder>(
     ensures made { IfOk result (λ o. IsSplitOutput shards
         (F.remaining history.old) (F.remaining history.new)
         (D.files folder.old) (D.files folder.new) o.status o.text.items) }
-    ensures few_shards { IfErr result (λ e. IsWhereFewShards shards e
+    ensures few_shards { IfErr result (λ e. IsWhereTooFewShards shards e
         (F.remaining history.old) (F.remaining history.new)) }
 {
     match split_over(alloc, history, folder, shards) {
         Ok(division) => Ok(division_output(alloc, &division)?),
         Err(SplitFault::Malformed(fault)) => Ok(malformed_output(alloc, fault)?),
-        Err(SplitFault::FewShards(object)) => Err(SplitFailure::FewShards(object)),
+        Err(SplitFault::TooFewShards(object)) => Err(SplitFailure::TooFewShards(object)),
         Err(SplitFault::NoMemory) => Err(SplitFailure::NoMemory),
         Err(SplitFault::Read) => Err(SplitFailure::Unread),
         Err(SplitFault::Write) => Err(SplitFailure::Unwritten),
@@ -232,7 +232,7 @@ pub fn split_history<F: Source, D: Folder, S: Sink>(
         (told : Division) × WasDivided shards told
         (F.remaining history.old) (F.remaining history.new)
         (D.files folder.old) (D.files folder.new)) }
-    ensures few_shards { IfErr result (λ e. IsWhereFewShards shards e
+    ensures few_shards { IfErr result (λ e. IsWhereTooFewShards shards e
         (F.remaining history.old) (F.remaining history.new)) }
     ensures leaves { IfOk result (λ number. Leaves (IsSplitOutput shards
         (F.remaining history.old) (F.remaining history.new)

@@ -5,26 +5,26 @@ use Rattle.std.specs.List.{cons_option}
 use Rattle.model.specs.Orders.{HasNoValidOrder}
 use Rattle.events.specs.declared.operations.End.{End}
 use Rattle.events.specs.declared.operations.End.TheVariants.{Failed}
-use Rattle.events.specs.declared.operations.Invocation.{Invocation}
+use Rattle.events.specs.declared.operations.Operation.{Operation}
 use Rattle.events.specs.Operations.{call_with, calls_of, ObjectCalls, IsObjectHistory}
 use Rattle.cuts.specs.Cuts.{IsPart, NoneFailed}
 use Rattle.cuts.specs.CutOperations.{has_failed}
 use Rattle.cuts.proofs.Kept.{own, own_is, as_filter}
 use Rattle.cuts.proofs.CutOperations.{cut_history, cut_lives, did_not_fail}
 
-abbrev lives : Invocation → Bool
+abbrev lives : Operation → Bool
 lives o = not (has_failed o.«end»)
 
-operation_lives : (o p : Invocation) → own lives o ≡ Some p → p.«end» ≡ Failed → ⊥
+operation_lives : (o p : Operation) → own lives o ≡ Some p → p.«end» ≡ Failed → ⊥
 operation_lives o p e = grind (arith, did_not_fail)
 
 pub alone_history : (h : ObjectCalls) → IsObjectHistory h
     → IsObjectHistory (record { object = h.object; kind = h.kind; ops = filter (λ o. not (has_failed o.«end»)) h.ops })
 alone_history h is = subst
-    (λ (ops : List Invocation). IsObjectHistory (record { object = h.object; kind = h.kind; ops = ops }))
+    (λ (ops : List Operation). IsObjectHistory (record { object = h.object; kind = h.kind; ops = ops }))
     (as_filter lives h.ops) (cut_history h.object h.kind h.ops (own lives) (λ o p i e. own_is lives o p e) is)
 
-pub alone_calls : (ops : List Invocation) → calls_of (filter (λ o. not (has_failed o.«end»)) ops) ≡ calls_of ops
+pub alone_calls : (ops : List Operation) → calls_of (filter (λ o. not (has_failed o.«end»)) ops) ≡ calls_of ops
 alone_calls [] = refl
 alone_calls (o ∷ ops) = go o.«end» (alone_calls ops)
   where

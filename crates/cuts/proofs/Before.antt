@@ -8,7 +8,7 @@ use Rattle.model.specs.declared.AnyReply.{AnyReply}
 use Rattle.model.specs.Orders.{Call, IsValidOrder}
 use Rattle.events.specs.declared.operations.End.{End}
 use Rattle.events.specs.declared.operations.End.TheVariants.{Returned, Pending, Failed}
-use Rattle.events.specs.declared.operations.Invocation.{Invocation}
+use Rattle.events.specs.declared.operations.Operation.{Operation}
 use Rattle.events.specs.Operations.{call_with, call_of, calls_of, ObjectCalls, IsObjectHistory}
 use Rattle.cuts.specs.Parts.{call_before, calls_before}
 use Rattle.cuts.specs.Cuts.{IsPart}
@@ -17,7 +17,7 @@ use Rattle.cuts.proofs.CutOperations.{bind, filter_map-filter, IsCutOperation, c
 use Rattle.cuts.proofs.CutOperations.{cut_lives, calls_end}
 use Rattle.cuts.proofs.Prefixes.{prefix_valid}
 
-operation_is : (until : ℕ) (o p : Invocation) → operation_before until o ≡ Some p → IsCutOperation o p
+operation_is : (until : ℕ) (o p : Operation) → operation_before until o ≡ Some p → IsCutOperation o p
 operation_is until o p e = lives (has_failed o.«end») e
   where
     was : (end : End) (at : ℕ) (reply : AnyReply) → end_before until end ≡ Returned at reply
@@ -45,13 +45,13 @@ operation_is until o p e = lives (has_failed o.«end») e
     lives true e = absurd (cc e)
     lives false e = go (nat_lt o.number until) e
 
-operation_lives : (until : ℕ) (o p : Invocation) → operation_before until o ≡ Some p → p.«end» ≢ Failed
+operation_lives : (until : ℕ) (o p : Operation) → operation_before until o ≡ Some p → p.«end» ≢ Failed
 operation_lives until o p e = grind arith
 
 abbrev call_then : ℕ → Call → Option Call
 call_then until c = cond (nat_lt c.number until) (Some (call_before until c)) None
 
-operation_call : (until : ℕ) (o : Invocation)
+operation_call : (until : ℕ) (o : Operation)
     → bind (operation_before until o) call_of ≡ bind (call_of o) (call_then until)
 operation_call until o = go o.«end»
   where
@@ -64,7 +64,7 @@ pub before_history : (until : ℕ) (h : ObjectCalls) → IsObjectHistory h
 before_history until h is =
     cut_history h.object h.kind h.ops (operation_before until) (λ o p i e. operation_is until o p e) is
 
-pub before_calls : (until : ℕ) (ops : List Invocation)
+pub before_calls : (until : ℕ) (ops : List Operation)
     → calls_of (filter_map (operation_before until) ops) ≡ calls_before until (calls_of ops)
 before_calls until ops =
     cut_calls (operation_before until) (call_then until) ops (operation_call until)

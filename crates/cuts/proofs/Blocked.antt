@@ -15,7 +15,7 @@ use Rattle.model.proofs.Lists.{in_from_contains, contains_from_in, all_at, all_f
 use Rattle.cuts.specs.Parts.{ended_before}
 use Rattle.cuts.specs.Kinds.Containers.{puts_in, is_value_ahead}
 use Rattle.events.specs.declared.operations.End.{End}
-use Rattle.events.specs.declared.operations.Invocation.{Invocation}
+use Rattle.events.specs.declared.operations.Operation.{Operation}
 use Rattle.events.specs.Operations.{call_with, call_of, calls_of, return_of, ObjectCalls, IsObjectHistory}
 use Rattle.cuts.specs.CutOperations.{is_put, is_over, op_found, op_first_put, op_ahead_before, op_is_settled}
 use Rattle.cuts.specs.CutOperations.{are_settled, op_is_put_ahead, op_may_take, op_may_precede, IsRemoval}
@@ -28,38 +28,38 @@ use Rattle.cuts.proofs.Booleans.{false_is_not_true}
 
 -- ---- operations and calls
 
-is_put_ahead-calls : (keeps : ℤ → Bool) (from before : ℕ) (ops : List Invocation)
+is_put_ahead-calls : (keeps : ℤ → Bool) (from before : ℕ) (ops : List Operation)
     → count_by (λ o. op_is_put_ahead keeps from before o.number o.op o.«end») ops ≡ count_by
     (is_put_ahead keeps from before) (calls_of ops)
 is_put_ahead-calls keeps from before ops = count_calls
     (λ o. op_is_put_ahead keeps from before o.number o.op o.«end») (is_put_ahead keeps from before)
     (λ o. go o o.«end») ops
   where
-    go : (o : Invocation) (e : End) → op_is_put_ahead keeps from before o.number o.op e ≡ passes
+    go : (o : Operation) (e : End) → op_is_put_ahead keeps from before o.number o.op e ≡ passes
         (is_put_ahead keeps from before) (call_with o.number o.op e)
     go o e = grind arith
 
-may_precede-calls : (keeps : ℤ → Bool) (number at : ℕ) (ops : List Invocation)
+may_precede-calls : (keeps : ℤ → Bool) (number at : ℕ) (ops : List Operation)
     → count_by (op_may_precede keeps number at) ops ≡ count_by (may_precede keeps number at) (calls_of ops)
 may_precede-calls keeps number at ops = count_calls (op_may_precede keeps number at) (may_precede keeps number at)
     (λ o. go o o.«end») ops
   where
-    go : (o : Invocation) (e : End)
+    go : (o : Operation) (e : End)
         → (op_may_take keeps o.op e && not (o.number == number || nat_lt at o.number)) ≡ passes
         (may_precede keeps number at) (call_with o.number o.op e)
     go o e = search rules
 
-first_put-calls : (b : ℤ) (ops : List Invocation) → op_first_put b ops ≡ first_put b (calls_of ops)
+first_put-calls : (b : ℤ) (ops : List Operation) → op_first_put b ops ≡ first_put b (calls_of ops)
 first_put-calls b [] = refl
 first_put-calls b (o ∷ os) = go o.«end» (first_put-calls b os)
   where
     go : (e : End) → op_first_put b os ≡ first_put b (calls_of os)
-        → option_map_or (λ (o : Invocation). o.number)
+        → option_map_or (λ (o : Operation). o.number)
         (cond (is_put (int_eq b) o.op e) (Some o) (find (λ o. is_put (int_eq b) o.op o.«end») os)) 0
         ≡ first_put b (cons_option (call_with o.number o.op e) (calls_of os))
     go e h = grind arith
 
-ahead_before-calls : (found : Option ℤ) (op : AnyOp) (number : ℕ) (ops : List Invocation)
+ahead_before-calls : (found : Option ℤ) (op : AnyOp) (number : ℕ) (ops : List Operation)
     → op_ahead_before found op number ops ≡ ahead_before found op number (calls_of ops)
 ahead_before-calls found op number ops = grind (arith, first_put-calls)
 
@@ -70,19 +70,19 @@ call_removal : (op : AnyOp) (number : ℕ) (e : End) (x : ℕ × Option ℤ) →
     → call_with number op e ≡ Some (record { number = number; op = op; returned = return_of e })
 call_removal op number e x q = grind arith
 
-is_settled-calls : (found : Option ℤ) (op : AnyOp) (from : ℕ) (ops : List Invocation)
+is_settled-calls : (found : Option ℤ) (op : AnyOp) (from : ℕ) (ops : List Operation)
     → are_settled found op from ops ≡ is_settled found op from (calls_of ops)
 is_settled-calls None op from ops = refl
 is_settled-calls (Some b) Pop from ops = each ops
   where
-    with_operation : (o : Invocation) (es : List Call) (e : End) (t : Bool)
+    with_operation : (o : Operation) (es : List Call) (e : End) (t : Bool)
         → t ≡ list_all (λ e. not (puts_in (int_eq b) e.op) || ended_before from e.returned) es
         → ((not (is_put (int_eq b) o.op e) || is_over from e) && t) ≡ list_all
         (λ e. not (puts_in (int_eq b) e.op) || ended_before from e.returned)
         (cons_option (call_with o.number o.op e) es)
     with_operation o es e t h = grind arith
 
-    each : (ops : List Invocation) → list_all (op_is_settled b from) ops ≡ list_all
+    each : (ops : List Operation) → list_all (op_is_settled b from) ops ≡ list_all
         (λ e. not (puts_in (int_eq b) e.op) || ended_before from e.returned) (calls_of ops)
     each [] = refl
     each (o ∷ os) = with_operation o (calls_of os) o.«end» (list_all (op_is_settled b from) os) (each os)
@@ -91,7 +91,7 @@ is_settled-calls (Some b) op from ops = refl
 -- ---- a blocked removal as an operation
 
 -- the removal of a number, as a call
-blocked_from : (ops : List Invocation) (number from : ℕ) (op : AnyOp) (at : ℕ) (found : Option ℤ)
+blocked_from : (ops : List Operation) (number from : ℕ) (op : AnyOp) (at : ℕ) (found : Option ℤ)
     (t : IsRemoval ops number op at found) → are_settled found op from ops ≡ true
     → count_by (op_may_precede (is_value_ahead found op) number at) ops < count_by
     (λ o. op_is_put_ahead (is_value_ahead found op) from (op_ahead_before found op number ops) o.number
@@ -128,7 +128,7 @@ blocked_from ops number from op at found t settled l =
     less few few' many many' e f l = omega arith
 
 -- the removal of a blocked number, as an operation
-pub blocked_operation : (ops : List Invocation) (number from : ℕ) (b : IsBlocked number from (calls_of ops))
+pub blocked_operation : (ops : List Operation) (number from : ℕ) (b : IsBlocked number from (calls_of ops))
     → IsRemoval ops number b.removal.op b.at b.found
 blocked_operation ops number from b =
     let o = in_filter_map call_of b.removal ops (in_from_contains (calls_of ops) b.removal b.known) in
@@ -142,19 +142,19 @@ blocked_operation ops number from b =
     }
 
 -- two removals with one number are one
-one_removal : (ops : List Invocation) (number : ℕ) (op op' : AnyOp) (at at' : ℕ) (found found' : Option ℤ)
+one_removal : (ops : List Operation) (number : ℕ) (op op' : AnyOp) (at at' : ℕ) (found found' : Option ℤ)
     → AllPairs (λ a b. a.number < b.number) ops → IsRemoval ops number op at found
     → IsRemoval ops number op' at' found'
     → (op ≡ op') × (at ≡ at') × (found ≡ found')
 one_removal ops number op op' at at' found found' rising one other =
-    let own : one.operation ≡ other.operation = one_number (λ (z : Invocation). z.number) one.operation other.operation
+    let own : one.operation ≡ other.operation = one_number (λ (z : Operation). z.number) one.operation other.operation
     ops (pairs_from_all (λ a b. a.number < b.number) ops rising)
     (in_from_contains ops one.operation one.known) (in_from_contains ops other.operation other.known)
     (one.named ∙ sym other.named) in
-    let ops_same : op ≡ op' = sym one.same ∙ ap (λ (z : Invocation). z.op) own ∙ other.same in
+    let ops_same : op ≡ op' = sym one.same ∙ ap (λ (z : Operation). z.op) own ∙ other.same in
     let told : ◌≡◌ {A = Option (ℕ × Option ℤ)} (Some (at, found)) (Some (at', found')) =
     sym one.told ∙ ap (λ (z : AnyOp). op_found z one.operation.«end») ops_same
-    ∙ ap (λ (z : Invocation). op_found op' z.«end») own ∙ other.told in
+    ∙ ap (λ (z : Operation). op_found op' z.«end») own ∙ other.told in
     let parts = pair_first at at' found found' told in
     (ops_same, parts.0, parts.1)
 
@@ -228,7 +228,7 @@ blocked_shows h number from is b order v =
     over a c l m = omega arith
 
 -- the same, of operations that are those of the history
-pub decided_of : (h : ObjectCalls) (ops : List Invocation) (number own from : ℕ) (op : AnyOp) (at : ℕ)
+pub decided_of : (h : ObjectCalls) (ops : List Operation) (number own from : ℕ) (op : AnyOp) (at : ℕ)
     (found : Option ℤ) (ahead takes : ℕ) → IsObjectHistory h → ops ≡ h.ops → own ≡ number
     → IsRemoval ops number op at found
     → ahead ≡ count_by
@@ -239,16 +239,16 @@ pub decided_of : (h : ObjectCalls) (ops : List Invocation) (number own from : �
     (IsBlocked number from (calls_of h.ops)) (IsBlocked number from (calls_of h.ops) → ⊥)
 decided_of h ops number own from op at found ahead takes is same named t e f =
     let e' = e
-    ∙ ap (λ (os : List Invocation). count_by
+    ∙ ap (λ (os : List Operation). count_by
     (λ o. op_is_put_ahead (is_value_ahead found op) from (op_ahead_before found op own os) o.number o.op
     o.«end») os) same
     ∙ ap (λ (k : ℕ). count_by
     (λ o. op_is_put_ahead (is_value_ahead found op) from (op_ahead_before found op k h.ops) o.number
     o.op o.«end») h.ops) named in
     let f' = f
-    ∙ ap (λ (os : List Invocation). count_by (op_may_precede (is_value_ahead found op) own at) os) same
+    ∙ ap (λ (os : List Operation). count_by (op_may_precede (is_value_ahead found op) own at) os) same
     ∙ ap (λ (k : ℕ). count_by (op_may_precede (is_value_ahead found op) k at) h.ops) named in
-    subst (λ (os : List Invocation). MatchBool (are_settled found op from os && nat_lt takes ahead)
+    subst (λ (os : List Operation). MatchBool (are_settled found op from os && nat_lt takes ahead)
     (IsBlocked number from (calls_of h.ops)) (IsBlocked number from (calls_of h.ops) → ⊥)) (sym same)
     (ahead_decided h number from op at found ahead takes is
-    (subst (λ (os : List Invocation). IsRemoval os number op at found) same t) e' f')
+    (subst (λ (os : List Operation). IsRemoval os number op at found) same t) e' f')

@@ -9,7 +9,7 @@ use Rattle.model.specs.declared.Kind.{Kind}
 use Rattle.model.specs.Orders.{Call, HasNoValidOrder}
 use Rattle.events.specs.declared.operations.End.{End}
 use Rattle.events.specs.declared.operations.End.TheVariants.{Returned, Pending, Failed}
-use Rattle.events.specs.declared.operations.Invocation.{Invocation}
+use Rattle.events.specs.declared.operations.Operation.{Operation}
 use Rattle.events.specs.Operations.{call_with, call_of, calls_of, ObjectCalls, IsObjectHistory}
 use Rattle.cuts.specs.declared.counting.Count.{Count}
 use Rattle.cuts.specs.declared.counting.Counted.{Counted}
@@ -25,8 +25,8 @@ abbrev pub passes : (Call → Bool) → Option Call → Bool
 passes q None = false
 passes q (Some c) = q c
 
-pub tally_calls : (p : Invocation → Bool) (q : Call → Bool) → ((o : Invocation) → p o ≡ passes q (call_of o))
-    → (ops : List Invocation) → tally p ops ≡ tally q (calls_of ops)
+pub tally_calls : (p : Operation → Bool) (q : Call → Bool) → ((o : Operation) → p o ≡ passes q (call_of o))
+    → (ops : List Operation) → tally p ops ≡ tally q (calls_of ops)
 tally_calls p q same [] = refl
 tally_calls p q same (o ∷ ops) = ap (λ b. one b + tally p ops) (same o) ∙ go (call_of o) (tally_calls p q same ops)
   where
@@ -36,11 +36,11 @@ tally_calls p q same (o ∷ ops) = ap (λ b. one b + tally p ops) (same o) ∙ g
     go (Some c) h = ap (λ (n : ℕ). one (q c) + n) h
 
 -- as many operations pass a test as calls do
-pub count_calls : (p : Invocation → Bool) (q : Call → Bool) → ((o : Invocation) → p o ≡ passes q (call_of o))
-    → (ops : List Invocation) → count_by p ops ≡ count_by q (calls_of ops)
+pub count_calls : (p : Operation → Bool) (q : Call → Bool) → ((o : Operation) → p o ≡ passes q (call_of o))
+    → (ops : List Operation) → count_by p ops ≡ count_by q (calls_of ops)
 count_calls p q same ops = sym (count_tally p ops) ∙ tally_calls p q same ops ∙ count_tally q (calls_of ops)
 
-set_count : (what : Counted) (from : ℕ) (ops : List Invocation)
+set_count : (what : Counted) (from : ℕ) (ops : List Operation)
     → count_by (λ o. is_set what from o.op o.«end») ops ≡ set_since what from (calls_of ops)
 set_count what from ops = count_calls (λ o. is_set what from o.op o.«end») (set_from what from) (λ o. go o o.«end») ops
   where
@@ -48,17 +48,17 @@ set_count what from ops = count_calls (λ o. is_set what from o.op o.«end») (s
     and_true true = refl
     and_true false = refl
 
-    go : (o : Invocation) (e : End) → is_set what from o.op e ≡ passes (set_from what from) (call_with o.number o.op e)
+    go : (o : Operation) (e : End) → is_set what from o.op e ≡ passes (set_from what from) (call_with o.number o.op e)
     go o (Returned at r) = refl
     go o Pending = and_true (sets what o.op None)
     go o Failed = refl
 
-gone_count : (what : Counted) (from : ℕ) (ops : List Invocation)
+gone_count : (what : Counted) (from : ℕ) (ops : List Operation)
     → count_by (λ o. is_gone what from o.number o.op o.«end») ops ≡ taken_since what from (calls_of ops)
 gone_count what from ops =
     count_calls (λ o. is_gone what from o.number o.op o.«end») (taken_from what from) (λ o. go o o.«end») ops
   where
-    go : (o : Invocation) (e : End)
+    go : (o : Operation) (e : End)
         → is_gone what from o.number o.op e ≡ passes (taken_from what from) (call_with o.number o.op e)
     go o (Returned at r) = refl
     go o Pending = ap (λ b. b && not (nat_lt o.number from)) (sym (none_taken what o.op))

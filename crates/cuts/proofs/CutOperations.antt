@@ -13,7 +13,7 @@ use Rattle.model.specs.Lists.{In}
 use Rattle.model.proofs.Lists.{all_from_in, all_at, all_from_pairs, pairs_from_all}
 use Rattle.events.specs.declared.operations.End.{End}
 use Rattle.events.specs.declared.operations.End.TheVariants.{Returned, Pending, Failed}
-use Rattle.events.specs.declared.operations.Invocation.{Invocation}
+use Rattle.events.specs.declared.operations.Operation.{Operation}
 use Rattle.events.specs.Operations.{call_of, calls_of, return_of, EndsAfter, ObjectCalls, IsObjectHistory}
 use Rattle.cuts.specs.Cuts.{IsPart, NoneFailed}
 use Rattle.cuts.specs.CutOperations.{has_failed}
@@ -45,22 +45,22 @@ map-same (x ∷ xs) = ap (λ ys. x ∷ ys) (map-same xs)
 -- ---- cut_operations
 
 -- an operation of a part with the number and the kind of the whole's, which returned at the same number if it returned
-pub record IsCutOperation (o p : Invocation) : Type 0 where
+pub record IsCutOperation (o p : Operation) : Type 0 where
   pub number : p.number ≡ o.number
   pub kind : kind_of p.op ≡ kind_of o.op
   pub returned : (at : ℕ) (reply : AnyReply) → p.«end» ≡ Returned at reply
       → (own : AnyReply) × (o.«end» ≡ Returned at own)
 
 -- the same, with the kind of its operation
-pub record IsCutOperationOf (into : Kind) (o p : Invocation) : Type 0 where
+pub record IsCutOperationOf (into : Kind) (o p : Operation) : Type 0 where
   pub number : p.number ≡ o.number
   pub kind : kind_of p.op ≡ into
   pub returned : (at : ℕ) (reply : AnyReply) → p.«end» ≡ Returned at reply
       → (own : AnyReply) × (o.«end» ≡ Returned at own)
 
 -- what becomes of an object's operations one by one, as operations of another kind, is an object's history
-pub cut_into : (object : ℕ) (kind into : Kind) (ops : List Invocation) (cut_operation : Invocation → Option Invocation)
-    → ((o p : Invocation) → In o ops → cut_operation o ≡ Some p → IsCutOperationOf into o p)
+pub cut_into : (object : ℕ) (kind into : Kind) (ops : List Operation) (cut_operation : Operation → Option Operation)
+    → ((o p : Operation) → In o ops → cut_operation o ≡ Some p → IsCutOperationOf into o p)
     → IsObjectHistory (record { object = object; kind = kind; ops = ops })
     → IsObjectHistory (record { object = object; kind = into; ops = filter_map cut_operation ops })
 cut_into object kind into ops cut_operation is h = record {
@@ -96,8 +96,8 @@ cut_into object kind into ops cut_operation is h = record {
     go number Failed f = tt
 
 -- what becomes of an object's operations one by one, with their numbers and their kind, is an object's history
-pub cut_history : (object : ℕ) (kind : Kind) (ops : List Invocation) (cut_operation : Invocation → Option Invocation)
-    → ((o p : Invocation) → In o ops → cut_operation o ≡ Some p → IsCutOperation o p)
+pub cut_history : (object : ℕ) (kind : Kind) (ops : List Operation) (cut_operation : Operation → Option Operation)
+    → ((o p : Operation) → In o ops → cut_operation o ≡ Some p → IsCutOperation o p)
     → IsObjectHistory (record { object = object; kind = kind; ops = ops })
     → IsObjectHistory (record { object = object; kind = kind; ops = filter_map cut_operation ops })
 cut_history object kind ops cut_operation is h =
@@ -110,8 +110,8 @@ cut_history object kind ops cut_operation is h =
     }) h
 
 -- what becomes of operations one by one is, as calls, what becomes of their calls
-pub cut_calls : (cut_operation : Invocation → Option Invocation) (part : Call → Option Call) (ops : List Invocation)
-    → ((o : Invocation) → bind (cut_operation o) call_of ≡ bind (call_of o) part)
+pub cut_calls : (cut_operation : Operation → Option Operation) (part : Call → Option Call) (ops : List Operation)
+    → ((o : Operation) → bind (cut_operation o) call_of ≡ bind (call_of o) part)
     → calls_of (filter_map cut_operation ops) ≡ filter_map part (calls_of ops)
 cut_calls cut_operation part [] f = refl
 cut_calls cut_operation part (o ∷ ops) f =
@@ -123,12 +123,12 @@ cut_calls cut_operation part (o ∷ ops) f =
 -- ---- the calls of an object's history
 
 -- an operation's call has the operation's number, what it invokes, and its response
-pub call_cases : (o : Invocation) (c : Call) → call_of o ≡ Some c
+pub call_cases : (o : Operation) (c : Call) → call_of o ≡ Some c
     → (c.number ≡ o.number) × (c.op ≡ o.op) × (c.returned ≡ return_of o.«end»)
 call_cases o c e = grind arith
 
 -- the numbers of calls rise, as those of the operations do
-pub rising_calls : (ops : List Invocation) → AllPairs (λ a b. a.number < b.number) ops
+pub rising_calls : (ops : List Operation) → AllPairs (λ a b. a.number < b.number) ops
     → AllPairs (λ a b. a.number < b.number) (calls_of ops)
 rising_calls ops h = all_from_pairs (λ a b. a.number < b.number) (calls_of ops)
     (pairs_filter_map (λ a b. a.number < b.number) (λ a b. a.number < b.number) call_of ops
@@ -139,7 +139,7 @@ rising_calls ops h = all_from_pairs (λ a b. a.number < b.number) (calls_of ops)
     less low high low' high' l e f = omega arith
 
 -- in an object's history each call that returned did so after it was invoked
-pub calls_end : (object : ℕ) (kind : Kind) (ops : List Invocation)
+pub calls_end : (object : ℕ) (kind : Kind) (ops : List Operation)
     → IsObjectHistory (record { object = object; kind = kind; ops = ops })
     → All (λ e. (r : Return) → e.returned ≡ Some r → e.number < r.at) (calls_of ops)
 calls_end object kind ops h =
@@ -156,8 +156,8 @@ calls_end object kind ops h =
     go number Failed r h q = absurd (cc q)
 
 -- what holds of each operation holds of each call
-pub all_calls : (P : ℕ → AnyOp → Option Return → Type 0) (ops : List Invocation)
-    → ((o : Invocation) → In o ops → (c : Call) → call_of o ≡ Some c → P o.number o.op (return_of o.«end»))
+pub all_calls : (P : ℕ → AnyOp → Option Return → Type 0) (ops : List Operation)
+    → ((o : Operation) → In o ops → (c : Call) → call_of o ≡ Some c → P o.number o.op (return_of o.«end»))
     → All (λ e. P e.number e.op e.returned) (calls_of ops)
 all_calls P ops f = all_from_in (λ e. P e.number e.op e.returned) (calls_of ops) (λ c i.
     let o = in_filter_map call_of c ops i in
@@ -166,7 +166,7 @@ all_calls P ops f = all_from_in (λ e. P e.number e.op e.returned) (calls_of ops
     (subst (λ op. P o.0.number op c.returned) (sym k.1) (subst (P o.0.number o.0.op) (sym k.2) (f o.0 o.1 c o.2))))
 
 -- two objects' histories are equal if their objects, kinds and operations are
-pub same_history : {a b : ℕ} {k l : Kind} {xs ys : List Invocation} → a ≡ b → k ≡ l → xs ≡ ys
+pub same_history : {a b : ℕ} {k l : Kind} {xs ys : List Operation} → a ≡ b → k ≡ l → xs ≡ ys
     → ◌≡◌ {A = ObjectCalls} (record { object = a; kind = k; ops = xs }) (record { object = b; kind = l; ops = ys })
 same_history e f g = λ i. record { object = e i; kind = f i; ops = g i }
 
@@ -178,8 +178,8 @@ part_of_part a b c h k =
 -- ---- failed operations
 
 -- a part has no failed operation if none becomes one
-pub cut_lives : (cut_operation : Invocation → Option Invocation) (ops : List Invocation)
-    → ((o p : Invocation) → cut_operation o ≡ Some p → p.«end» ≢ Failed) → NoneFailed (filter_map cut_operation ops)
+pub cut_lives : (cut_operation : Operation → Option Operation) (ops : List Operation)
+    → ((o p : Operation) → cut_operation o ≡ Some p → p.«end» ≢ Failed) → NoneFailed (filter_map cut_operation ops)
 cut_lives cut_operation ops f =
     all_from_in (λ o. o.«end» ≢ Failed) (filter_map cut_operation ops)
     (λ p i. let o = in_filter_map cut_operation p ops i in f o.0 p o.2)

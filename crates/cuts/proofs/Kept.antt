@@ -13,7 +13,7 @@ use Rattle.model.specs.Lists.{In}
 use Rattle.model.proofs.Lists.{Pairs, all_at, pairs_from_all}
 use Rattle.events.specs.declared.operations.End.{End}
 use Rattle.events.specs.declared.operations.End.TheVariants.{Returned, Pending, Failed}
-use Rattle.events.specs.declared.operations.Invocation.{Invocation}
+use Rattle.events.specs.declared.operations.Operation.{Operation}
 use Rattle.events.specs.Operations.{call_with, call_of, calls_of, return_of, ObjectCalls, IsObjectHistory}
 use Rattle.cuts.specs.Parts.{reply_of, takes_out, is_pending_removal, put_count, taken_count, pending_before}
 use Rattle.cuts.specs.Parts.{kept_calls, IsClosed}
@@ -40,7 +40,7 @@ pub as_filter : {X : Type 0} (p : X → Bool) (xs : List X) → filter_map (own 
 as_filter p xs = filter_map-filter p (λ x. x) xs ∙ map-same (filter p xs)
 
 -- an operation that is kept as it is becomes one with its number, kind and end
-pub own_is : (p : Invocation → Bool) (o q : Invocation) → own p o ≡ Some q → IsCutOperation o q
+pub own_is : (p : Operation → Bool) (o q : Operation) → own p o ≡ Some q → IsCutOperation o q
 own_is p o q e = subst (IsCutOperation o) (same (p o) e)
     (record { number = refl; kind = refl; returned = λ at reply e. (reply, e) })
   where
@@ -48,19 +48,19 @@ own_is p o q e = subst (IsCutOperation o) (same (p o) e)
     same b e = grind arith
 
 -- an operation that is kept only where it did not fail
-own_lives : (p : Invocation → Bool) (o q : Invocation) → own (λ z. not (has_failed z.«end») && p z) o ≡ Some q
+own_lives : (p : Operation → Bool) (o q : Operation) → own (λ z. not (has_failed z.«end») && p z) o ≡ Some q
     → q.«end» ≢ Failed
 own_lives p o q e = grind (arith, did_not_fail)
 
-pub filter_lives : (p : Invocation → Bool) (ops : List Invocation)
+pub filter_lives : (p : Operation → Bool) (ops : List Operation)
     → NoneFailed (filter (λ z. not (has_failed z.«end») && p z) ops)
 filter_lives p ops = subst NoneFailed (as_filter (λ z. not (has_failed z.«end») && p z) ops)
     (cut_lives (own (λ z. not (has_failed z.«end») && p z)) ops (own_lives p))
 
-pub own_call : (p : Invocation → Bool) (o : Invocation) → bind (own p o) call_of ≡ cond (p o) (call_of o) None
+pub own_call : (p : Operation → Bool) (o : Operation) → bind (own p o) call_of ≡ cond (p o) (call_of o) None
 own_call p o = grind arith
 
-operation_call : (kept : ℕ → Bool) (o : Invocation)
+operation_call : (kept : ℕ → Bool) (o : Operation)
     → bind (own (is_kept_call kept) o) call_of ≡ bind (call_of o) (own (λ z. kept z.number))
 operation_call kept o = own_call (is_kept_call kept) o ∙ sym (part o.«end»)
   where
@@ -71,11 +71,11 @@ operation_call kept o = own_call (is_kept_call kept) o ∙ sym (part o.«end»)
 pub kept_history : (kept : ℕ → Bool) (h : ObjectCalls) → IsObjectHistory h
     → IsObjectHistory (record { object = h.object; kind = h.kind; ops = filter (is_kept_call kept) h.ops })
 kept_history kept h is =
-    subst (λ (ops : List Invocation). IsObjectHistory (record { object = h.object; kind = h.kind; ops = ops }))
+    subst (λ (ops : List Operation). IsObjectHistory (record { object = h.object; kind = h.kind; ops = ops }))
     (as_filter (is_kept_call kept) h.ops)
     (cut_history h.object h.kind h.ops (own (is_kept_call kept)) (λ o p i e. own_is (is_kept_call kept) o p e) is)
 
-pub kept_calls_of : (kept : ℕ → Bool) (ops : List Invocation)
+pub kept_calls_of : (kept : ℕ → Bool) (ops : List Operation)
     → calls_of (filter (is_kept_call kept) ops) ≡ kept_calls kept (calls_of ops)
 kept_calls_of kept ops = ap calls_of (sym (as_filter (is_kept_call kept) ops))
     ∙ cut_calls (own (is_kept_call kept)) (own (λ z. kept z.number)) ops (operation_call kept)
@@ -83,47 +83,47 @@ kept_calls_of kept ops = ap calls_of (sym (as_filter (is_kept_call kept) ops))
 
 -- ---- how many
 
-put_counts : (keeps : ℤ → Bool) (ops : List Invocation)
+put_counts : (keeps : ℤ → Bool) (ops : List Operation)
     → count_by (λ o. is_put keeps o.op o.«end») ops ≡ put_count keeps (calls_of ops)
 put_counts keeps ops = count_calls (λ o. is_put keeps o.op o.«end») (λ e. puts_in keeps e.op) (λ o. go o o.«end») ops
   where
-    go : (o : Invocation) (e : End)
+    go : (o : Operation) (e : End)
         → is_put keeps o.op e ≡ passes (λ e. puts_in keeps e.op) (call_with o.number o.op e)
     go o e = search rules
 
-taken_counts : (keeps : ℤ → Bool) (ops : List Invocation)
+taken_counts : (keeps : ℤ → Bool) (ops : List Operation)
     → count_by (λ o. is_taken keeps o.op o.«end») ops ≡ taken_count keeps (calls_of ops)
 taken_counts keeps ops = count_calls (λ o. is_taken keeps o.op o.«end»)
     (λ e. takes_out keeps e.op (reply_of e.returned)) (λ o. go o o.«end») ops
   where
-    go : (o : Invocation) (e : End)
+    go : (o : Operation) (e : End)
         → is_taken keeps o.op e ≡ passes (λ e. takes_out keeps e.op (reply_of e.returned)) (call_with o.number o.op e)
     go o e = search (rules, and_false)
 
 -- ---- pending removals
 
-abbrev is_open : Invocation → Bool
+abbrev is_open : Operation → Bool
 is_open o = is_open_removal o.op o.«end»
 
-abbrev open_before : ℕ → List Invocation → ℕ
+abbrev open_before : ℕ → List Operation → ℕ
 open_before n ops = tally (λ o. is_open o && nat_lt o.number n) ops
 
-pending_counts : (n : ℕ) (ops : List Invocation) → open_before n ops ≡ pending_before n (calls_of ops)
+pending_counts : (n : ℕ) (ops : List Operation) → open_before n ops ≡ pending_before n (calls_of ops)
 pending_counts n ops =
     tally_calls (λ o. is_open o && nat_lt o.number n)
     (λ e. is_pending_removal e.op e.returned && nat_lt e.number n) (λ o. go o o.«end») ops
     ∙ count_tally (λ e. is_pending_removal e.op e.returned && nat_lt e.number n) (calls_of ops)
   where
-    go : (o : Invocation) (e : End) → (is_open_removal o.op e && nat_lt o.number n)
+    go : (o : Operation) (e : End) → (is_open_removal o.op e && nat_lt o.number n)
         ≡ passes (λ e. is_pending_removal e.op e.returned && nat_lt e.number n) (call_with o.number o.op e)
     go o e = grind arith
 
 -- one more comes before what is later
-open_more : (o x : Invocation) (ops : List Invocation) (b : Bool) → is_open o ≡ b → o.number < x.number
+open_more : (o x : Operation) (ops : List Operation) (b : Bool) → is_open o ≡ b → o.number < x.number
     → open_before x.number (o ∷ ops) ≡ one b + open_before x.number ops
 open_more o x ops b q l = grind (arith, nat_tests)
 
-open_none : (n : ℕ) (ops : List Invocation) → ((x : Invocation) → In x ops → n ≤ x.number) → open_before n ops ≡ zero
+open_none : (n : ℕ) (ops : List Operation) → ((x : Operation) → In x ops → n ≤ x.number) → open_before n ops ≡ zero
 open_none n [] f = refl
 open_none n (o ∷ ops) f =
     let rest = open_none n ops (λ x i. f x (inr i)) in
@@ -131,7 +131,7 @@ open_none n (o ∷ ops) f =
     grind (arith, nat_tests)
 
 -- a part that leaves out a pending removal among the first ones does not keep the first ones
-pub one_missing : (kept : ℕ → Bool) (most left i : ℕ) (ops : List Invocation) (d : Invocation) → i < length ops
+pub one_missing : (kept : ℕ → Bool) (most left i : ℕ) (ops : List Operation) (d : Operation) → i < length ops
     → keeps_first kept most ops ≡ keeps_first kept left (drop i ops) → is_open (get_or ops i d) ≡ true → zero < left
     → kept (get_or ops i d).number ≡ false → false ≡ keeps_first kept most ops
 one_missing kept most left i ops d lt e o less n =
@@ -139,9 +139,9 @@ one_missing kept most left i ops d lt e o less n =
     grind (arith, nat_tests)
 
 -- a pending removal that the part leaves out comes after this many
-first_kept : (kept : ℕ → Bool) (most : ℕ) (ops : List Invocation) → Pairs (λ a b. a.number < b.number) ops
+first_kept : (kept : ℕ → Bool) (most : ℕ) (ops : List Operation) → Pairs (λ a b. a.number < b.number) ops
     → keeps_first kept most ops ≡ true
-    → (x : Invocation) → In x ops → is_open x ≡ true → kept x.number ≡ false → most ≤ open_before x.number ops
+    → (x : Operation) → In x ops → is_open x ≡ true → kept x.number ≡ false → most ≤ open_before x.number ops
 first_kept kept most [] h k x i o n = absurd i
 first_kept kept most (y ∷ ops) h k x i o n = go (λ m e j. first_kept kept m ops h.1 e x j o n) (is_open y) refl k i
   where
@@ -150,8 +150,8 @@ first_kept kept most (y ∷ ops) h k x i o n = go (λ m e j. first_kept kept m o
         → cond b ((most == 0 || kept y.number) && keeps_first kept (most - 1) ops) (keeps_first kept most ops) ≡ true
         → In x (y ∷ ops) → most ≤ open_before x.number (y ∷ ops)
     go again b q e (inl w) =
-        let left_out = ap (λ (u : Invocation). kept u.number) (sym w) ∙ n in
-        let opened = ap (λ (u : Invocation). is_open u) (sym w) ∙ o in
+        let left_out = ap (λ (u : Operation). kept u.number) (sym w) ∙ n in
+        let opened = ap (λ (u : Operation). is_open u) (sym w) ∙ o in
         grind (arith, nat_tests)
     go again true q e (inr j) =
         let l = again (most - 1) (both_true (most == 0 || kept y.number) (keeps_first kept (most - 1) ops) e).1 j in
@@ -162,19 +162,19 @@ first_kept kept most (y ∷ ops) h k x i o n = go (λ m e j. first_kept kept m o
         let m = open_more y x ops false q (h.0 x j) in
         omega arith
 
-kept_first : (kept : ℕ → Bool) (most : ℕ) (ops : List Invocation) → Pairs (λ a b. a.number < b.number) ops
-    → ((x : Invocation) → In x ops → is_open x ≡ true → kept x.number ≡ false → most ≤ open_before x.number ops)
+kept_first : (kept : ℕ → Bool) (most : ℕ) (ops : List Operation) → Pairs (λ a b. a.number < b.number) ops
+    → ((x : Operation) → In x ops → is_open x ≡ true → kept x.number ≡ false → most ≤ open_before x.number ops)
     → keeps_first kept most ops ≡ true
 kept_first kept most [] h f = refl
 kept_first kept most (y ∷ ops) h f = go (λ m g. kept_first kept m ops h.1 g) (is_open y) refl
   where
     none_open : open_before y.number (y ∷ ops) ≡ 0
     none_open = open_none y.number (y ∷ ops) (λ x i. elim i [
-      | inl w ↦ subst (λ (u : Invocation). y.number ≤ u.number) (sym w) (omega arith)
+      | inl w ↦ subst (λ (u : Operation). y.number ≤ u.number) (sym w) (omega arith)
       | inr j ↦ let le = h.0 x j in omega arith
     ])
 
-    go : ((m : ℕ) → ((x : Invocation) → In x ops → is_open x ≡ true → kept x.number ≡ false
+    go : ((m : ℕ) → ((x : Operation) → In x ops → is_open x ≡ true → kept x.number ≡ false
         → m ≤ open_before x.number ops)
         → keeps_first kept m ops ≡ true) → (b : Bool) → is_open y ≡ b
         → cond b ((most == 0 || kept y.number) && keeps_first kept (most - 1) ops) (keeps_first kept most ops) ≡ true
@@ -197,7 +197,7 @@ all_keeps : (vs : Values) → keeps_all vs ≡ true → (v : ℤ) → keeps_valu
 all_keeps values.All e v = refl
 all_keeps (values.Only s) e v = absurd (cc e)
 
-pub closed_calls : (vs : Values) (kept : ℕ → Bool) (ops : List Invocation) → AllPairs (λ a b. a.number < b.number) ops
+pub closed_calls : (vs : Values) (kept : ℕ → Bool) (ops : List Operation) → AllPairs (λ a b. a.number < b.number) ops
     → keeps_first kept (count_by (λ o. is_put (keeps_value vs) o.op o.«end») ops - count_by
     (λ o. is_taken (keeps_value vs) o.op o.«end») ops) ops
     ≡ true → list_all (λ o. op_fits (keeps_all vs) (keeps_value vs) (kept o.number) o.op o.«end») ops ≡ true
@@ -231,19 +231,19 @@ closed_calls vs kept ops rising first h = record {
         → put - taken ≤ before → put' ≤ taken' + before'
     sums put put' taken taken' before before' a b d l = omega arith
 
-pub closed_fits : (vs : Values) (kept : ℕ → Bool) (ops : List Invocation)
+pub closed_fits : (vs : Values) (kept : ℕ → Bool) (ops : List Operation)
     → IsClosed (keeps_all vs) (keeps_value vs) kept (calls_of ops)
     → list_all (λ o. op_fits (keeps_all vs) (keeps_value vs) (kept o.number) o.op o.«end») ops ≡ true
 closed_fits vs kept ops h =
     all_pass (λ o. op_fits (keeps_all vs) (keeps_value vs) (kept o.number) o.op o.«end») ops
     (λ o i. go o i o.«end» refl)
   where
-    at : (o : Invocation) → In o ops → (c : Call) → call_of o ≡ Some c
+    at : (o : Operation) → In o ops → (c : Call) → call_of o ≡ Some c
         → fits (keeps_all vs) (keeps_value vs) (kept c.number) c.op (reply_of c.returned) ≡ true
     at o i c e = all_at (λ e. fits (keeps_all vs) (keeps_value vs) (kept e.number) e.op (reply_of e.returned) ≡ true)
         (calls_of ops) h.each c (in_filter_map_from call_of o c ops i e)
 
-    go : (o : Invocation) → In o ops → (e : End) → o.«end» ≡ e
+    go : (o : Operation) → In o ops → (e : End) → o.«end» ≡ e
         → op_fits (keeps_all vs) (keeps_value vs) (kept o.number) o.op e ≡ true
     go o i (Returned when r) q =
         at o i (record { number = o.number; op = o.op; returned = Some (record { at = when; reply = r }) })
@@ -252,7 +252,7 @@ closed_fits vs kept ops h =
         (ap (call_with o.number o.op) q)
     go o i Failed q = refl
 
-pub closed_first : (vs : Values) (kept : ℕ → Bool) (ops : List Invocation) → AllPairs (λ a b. a.number < b.number) ops
+pub closed_first : (vs : Values) (kept : ℕ → Bool) (ops : List Operation) → AllPairs (λ a b. a.number < b.number) ops
     → IsClosed (keeps_all vs) (keeps_value vs) kept (calls_of ops)
     → keeps_first kept (count_by (λ o. is_put (keeps_value vs) o.op o.«end») ops - count_by
     (λ o. is_taken (keeps_value vs) o.op o.«end») ops) ops ≡ true
@@ -268,7 +268,7 @@ closed_first vs kept ops rising h =
     most = count_by (λ o. is_put (keeps_value vs) o.op o.«end») ops - count_by
         (λ o. is_taken (keeps_value vs) o.op o.«end») ops
 
-    go : (o : Invocation) → In o ops → (e : End) → o.«end» ≡ e → is_open_removal o.op e ≡ true → kept o.number ≡ false
+    go : (o : Operation) → In o ops → (e : End) → o.«end» ≡ e → is_open_removal o.op e ≡ true → kept o.number ≡ false
         → most ≤ open_before o.number ops
     go o i (Returned when r) q t n = absurd (false_is_not_true t)
     go o i Failed q t n = absurd (false_is_not_true t)

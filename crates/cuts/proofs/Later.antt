@@ -15,7 +15,7 @@ use Rattle.model.specs.Lists.{In}
 use Rattle.model.proofs.Lists.{Pairs, in_from_contains, contains_from_in, all_from_in, all_at, pairs_from_all}
 use Rattle.events.specs.declared.operations.End.{End}
 use Rattle.events.specs.declared.operations.End.TheVariants.{Returned, Pending, Failed}
-use Rattle.events.specs.declared.operations.Invocation.{Invocation}
+use Rattle.events.specs.declared.operations.Operation.{Operation}
 use Rattle.events.specs.Operations.{call_with, call_of, calls_of, return_of, ObjectCalls, IsObjectHistory}
 use Rattle.cuts.specs.Parts.{IsStart, written_before, call_from, calls_from}
 use Rattle.cuts.specs.Kinds.Starts.{leaves, key_of}
@@ -38,9 +38,9 @@ leaves_kind op reply = search rules
 -- ---- where a suffix begins
 
 -- the operation with which a suffix begins
-pub record IsStartOperation (ops : List Invocation) (from at : ℕ) (first : Option (AnyOp × AnyReply))
+pub record IsStartOperation (ops : List Operation) (from at : ℕ) (first : Option (AnyOp × AnyReply))
     (reply : AnyReply) : Type 0 where
-  pub operation : Invocation
+  pub operation : Operation
   pub known : In operation ops
   pub number : operation.number ≡ from
   pub ended : operation.«end» ≡ Returned at reply
@@ -51,23 +51,23 @@ returned_end : (e : End) (at : ℕ) (reply : AnyReply) → return_of e ≡ Some 
     → e ≡ Returned at reply
 returned_end e at reply q = grind arith
 
-on_key_each : (ops : List Invocation) (key : Option ℤ) → All (λ e. key_of e.op ≡ key) (calls_of ops)
+on_key_each : (ops : List Operation) (key : Option ℤ) → All (λ e. key_of e.op ≡ key) (calls_of ops)
     → All (IsOnKey key) ops
 on_key_each ops key h = all_from_in (IsOnKey key) ops (λ o i. go o i o.«end» refl)
   where
-    at : (o : Invocation) → In o ops → (r : Option Return)
+    at : (o : Operation) → In o ops → (r : Option Return)
         → call_of o ≡ Some (record { number = o.number; op = o.op; returned = r }) → key_of o.op ≡ key
     at o i r e = all_at (λ e. key_of e.op ≡ key) (calls_of ops) h
         (record { number = o.number; op = o.op; returned = r })
         (in_filter_map_from call_of o (record { number = o.number; op = o.op; returned = r }) ops i e)
 
-    go : (o : Invocation) → In o ops → (e : End) → o.«end» ≡ e → IsOnKey key o
+    go : (o : Operation) → In o ops → (e : End) → o.«end» ≡ e → IsOnKey key o
     go o i (Returned t r) q = inr (at o i (Some (record { at = t; reply = r })) (ap (call_with o.number o.op) q))
     go o i Pending q = inr (at o i None (ap (call_with o.number o.op) q))
     go o i Failed q = inl (ap has_failed q)
 
 -- the call with which a suffix begins is one of the operations
-pub start_operation : (ops : List Invocation) (from at : ℕ) (first : Option (AnyOp × AnyReply))
+pub start_operation : (ops : List Operation) (from at : ℕ) (first : Option (AnyOp × AnyReply))
     (s : IsStart (calls_of ops) from at first) → IsStartOperation ops from at first s.reply
 start_operation ops from at first s =
     let o = in_filter_map call_of s.call ops (in_from_contains (calls_of ops) s.call s.known) in
@@ -83,7 +83,7 @@ start_operation ops from at first s =
     }
 
 -- a suffix may begin with an operation that returned, if its reply tells what it left
-pub start_from : (ops : List Invocation) (o : Invocation) (at : ℕ) (reply : AnyReply)
+pub start_from : (ops : List Operation) (o : Operation) (at : ℕ) (reply : AnyReply)
     (first : Option (AnyOp × AnyReply)) → Contains ops o
     → o.«end» ≡ Returned at reply → leaves o.op reply ≡ Some first → All (IsOnKey (key_of o.op)) ops
     → IsStart (calls_of ops) o.number at first
@@ -126,7 +126,7 @@ one_suffix from calls a b rising p q =
     ∙ ap (λ (z : Option (AnyOp × AnyReply)). calls_from from q.at z calls) first ∙ sym q.named
 
 -- an operation that is not over before the first one
-later_is : (first : Option (AnyOp × AnyReply)) (at : ℕ) (o : Invocation) → IsCutOperation o (operation_later first at o)
+later_is : (first : Option (AnyOp × AnyReply)) (at : ℕ) (o : Operation) → IsCutOperation o (operation_later first at o)
 later_is first at o = whole (nat_lt at o.number)
   where
     pending : IsCutOperation o (as_pending o.number o.op)
@@ -151,7 +151,7 @@ later_is first at o = whole (nat_lt at o.number)
 
 operation_is : (h : ObjectCalls) (from at : ℕ) (first : Option (AnyOp × AnyReply)) (reply : AnyReply)
     → IsObjectHistory h
-    → IsStartOperation h.ops from at first reply → (o p : Invocation) → In o h.ops
+    → IsStartOperation h.ops from at first reply → (o p : Operation) → In o h.ops
     → operation_from from at first o ≡ Some p → IsCutOperation o p
 operation_is h from at first said is s o p i e = failed (has_failed o.«end») e
   where
@@ -159,17 +159,17 @@ operation_is h from at first said is s o p i e = failed (has_failed o.«end») e
         → option_map (as_returned from at) f ≡ Some p → IsCutOperation o p
     begins None q n e = absurd (cc e)
     begins (Some x) q n e =
-        let own = one_number (λ (z : Invocation). z.number) o s.operation h.ops
+        let own = one_number (λ (z : Operation). z.number) o s.operation h.ops
         (pairs_from_all (λ a b. a.number < b.number) h.ops is.rising) i s.known (n ∙ sym s.number) in
         let k = subst (λ (z : Option (Option (AnyOp × AnyReply))). IfSome z
         (λ f. IfSome f (λ p. kind_of p.0 ≡ kind_of s.operation.op)))
         (s.told ∙ ap (λ (z : Option (AnyOp × AnyReply)). Some z) q) (leaves_kind s.operation.op said) in
         let cut_operation : IsCutOperation o (as_returned from at x) = record {
           number = sym n;
-          kind = k ∙ ap (λ (z : Invocation). kind_of z.op) (sym own);
+          kind = k ∙ ap (λ (z : Operation). kind_of z.op) (sym own);
           returned = λ when reply e. (
             said,
-            ap (λ (z : Invocation). z.«end») own ∙ s.ended
+            ap (λ (z : Operation). z.«end») own ∙ s.ended
                 ∙ ap (λ (z : ℕ). Returned z said) (let same : at ≡ when = cc e in same),
           );
         } in
@@ -191,13 +191,13 @@ operation_is h from at first said is s o p i e = failed (has_failed o.«end») e
     failed true e = absurd (cc e)
     failed false e = own_or (o.number == from) refl e
 
-operation_lives : (from at : ℕ) (first : Option (AnyOp × AnyReply)) (o p : Invocation)
+operation_lives : (from at : ℕ) (first : Option (AnyOp × AnyReply)) (o p : Operation)
     → operation_from from at first o ≡ Some p → p.«end» ≢ Failed
 operation_lives from at first o p e = grind (arith, did_not_fail)
 
 -- ---- calls
 
-operation_call : (from at : ℕ) (first : Option (AnyOp × AnyReply)) (o : Invocation)
+operation_call : (from at : ℕ) (first : Option (AnyOp × AnyReply)) (o : Operation)
     → bind (operation_from from at first o) call_of ≡ bind (call_of o) (call_from from at first)
 operation_call from at first o = grind arith
 
@@ -214,7 +214,7 @@ from_history h from at first is s =
     (operation_is h from at first s.reply is (start_operation h.ops from at first s)) is
 
 -- the calls of a suffix of the operations are the suffix of the calls
-pub from_calls : (from at : ℕ) (first : Option (AnyOp × AnyReply)) (ops : List Invocation)
+pub from_calls : (from at : ℕ) (first : Option (AnyOp × AnyReply)) (ops : List Operation)
     → calls_of (filter_map (operation_from from at first) ops) ≡ calls_from from at first (calls_of ops)
 from_calls from at first ops =
     cut_calls (operation_from from at first) (call_from from at first) ops (operation_call from at first)

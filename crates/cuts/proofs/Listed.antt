@@ -24,12 +24,12 @@ use Rattle.cuts.specs.Parts.{IsStart, pending_call, call_later}
 use Rattle.cuts.specs.Kinds.Starts.{key_of}
 use Rattle.cuts.specs.Parts.{returned_call, call_from, call_before, calls_before, kept_calls}
 use Rattle.cuts.specs.Recasts.{recast}
-use Rattle.cuts.specs.declared.kinds.Place.{Place}
-use Rattle.cuts.specs.declared.kinds.Place.TheVariants.{OfRegister, OfKey}
-use Rattle.cuts.specs.Kinds.{kind_of_part}
+use Rattle.cuts.specs.declared.kinds.CellId.{CellId}
+use Rattle.cuts.specs.declared.kinds.CellId.TheVariants.{OfRegister, OfKey}
+use Rattle.cuts.specs.Kinds.{kind_at_cell}
 use Rattle.cuts.specs.Cells.{done_at, opened_at, call_at, calls_at}
 use Rattle.cuts.specs.Absent.{is_put_before, is_taken_before}
-use Rattle.cuts.specs.Cuts.{keeps_value, keeps_number, IsSuffix, Names, NamesPart, kind_cut, part_kind}
+use Rattle.cuts.specs.Cuts.{keeps_value, keeps_number, IsSuffix, Names, NamesPart, kind_after_cut, kind_after_cuts}
 use Rattle.cuts.specs.Listed.{has_number, listed}
 use Rattle.cuts.proofs.Sequences.{one_number, in_filter_map}
 use Rattle.cuts.proofs.Overlaps.{before_facts, cut_of, in_time_cut, later_replies}
@@ -92,18 +92,18 @@ from_kinds kind from calls part are h x i =
     ]
 
 -- what a call becomes at a cell or an entry is of the kind of the part
-kinds_at : (place : Place) (keeps : ℤ → Bool) (other : ℤ) (kept : ℕ → Bool) (kind : Kind) (calls part : List Call)
+kinds_at : (place : CellId) (keeps : ℤ → Bool) (other : ℤ) (kept : ℕ → Bool) (kind : Kind) (calls part : List Call)
     → AreCalls kind calls → part ≡ calls_at place keeps other kept calls → (x : Call) → In x part
-    → kind_of x.op ≡ kind_of_part place kind
+    → kind_of x.op ≡ kind_at_cell place kind
 kinds_at place keeps other kept kind calls part are is x i =
     let y = in_filter_map (call_at place keeps other kept) x calls (subst (In x) is i) in
     let into = into_part place keeps other in
     recast_kind (done_at place keeps other (kept y.0.number)) (opened_at place keeps other)
-    (kind_of_part place (kind_of y.0.op)) y.0 x (into.returned (kept y.0.number) y.0.op) (into.unfinished y.0.op) y.2
-    ∙ ap (kind_of_part place) (are.kinds y.0 y.1)
+    (kind_at_cell place (kind_of y.0.op)) y.0 x (into.returned (kept y.0.number) y.0.op) (into.unfinished y.0.op) y.2
+    ∙ ap (kind_at_cell place) (are.kinds y.0 y.1)
 
 kinds_named : (cut : Cut) (kind : Kind) (calls part : List Call) → AreCalls kind calls → Names cut calls part
-    → (x : Call) → In x part → kind_of x.op ≡ kind_cut cut kind
+    → (x : Call) → In x part → kind_of x.op ≡ kind_after_cut cut kind
 kinds_named (From number) kind calls part are h x i = from_kinds kind number calls part are h x i
 kinds_named (Until number) kind calls part are h x i =
     let y = in_map (call_before number) x (filter (λ e. nat_lt e.number number) calls) (subst (In x) h i) in
@@ -117,7 +117,7 @@ kinds_named (Entry key values other numbers) kind calls part are h x i =
     kinds_at (OfKey key) (keeps_value values) other (keeps_number numbers) kind calls part are h x i
 
 after_cut : (cut : Cut) (kind : Kind) (calls part : List Call) → AreCalls kind calls → Names cut calls part
-    → AreCalls (kind_cut cut kind) part
+    → AreCalls (kind_after_cut cut kind) part
 after_cut cut kind calls part are h =
     let t = timed_named cut calls part are.rising h in
     record {
@@ -297,10 +297,10 @@ from_step kind from calls part kept order are suffix covers valid = go (kept fro
     )
 
 -- and of what becomes of them at a cell or an entry
-step_at : (place : Place) (keeps : ℤ → Bool) (other : ℤ) (chosen : ℕ → Bool) (kind : Kind) (calls part : List Call)
+step_at : (place : CellId) (keeps : ℤ → Bool) (other : ℤ) (chosen : ℕ → Bool) (kind : Kind) (calls part : List Call)
     (kept : ℕ → Bool) (order : List ℤ) → part ≡ calls_at place keeps other chosen calls
     → IsValidOrder kind (kept_calls kept calls) order
-    → (o : List ℤ) × IsValidOrder (kind_of_part place kind) (kept_calls kept part) o
+    → (o : List ℤ) × IsValidOrder (kind_at_cell place kind) (kept_calls kept part) o
 step_at place keeps other chosen kind calls part kept order is valid =
     let found = part_valid place kind (kept_calls kept calls) keeps other chosen order valid in
     let same : calls_at place keeps other chosen (kept_calls kept calls) ≡ kept_calls kept part =
@@ -308,13 +308,13 @@ step_at place keeps other chosen kind calls part kept order is valid =
     (λ y x i e. (recast_timed (done_at place keeps other (chosen y.number)) (opened_at place keeps other) y x
     e).number))
     ∙ ap (kept_calls kept) (sym is) in
-    (found.0, subst (λ cs. IsValidOrder (kind_of_part place kind) cs found.0) same found.1)
+    (found.0, subst (λ cs. IsValidOrder (kind_at_cell place kind) cs found.0) same found.1)
 
 -- and of what a cut makes of them
 step : (cut : Cut) (kind : Kind) (calls part : List Call) (kept : ℕ → Bool) (order : List ℤ) → AreCalls kind calls
     → Names cut calls part
     → Covers kept calls part → IsValidOrder kind (kept_calls kept calls) order
-    → (o : List ℤ) × IsValidOrder (kind_cut cut kind) (kept_calls kept part) o
+    → (o : List ℤ) × IsValidOrder (kind_after_cut cut kind) (kept_calls kept part) o
 step (From number) kind calls part kept order are names covers valid =
     from_step kind number calls part kept order are names covers valid
 step (Until number) kind calls part kept order are names covers valid =
@@ -355,7 +355,7 @@ numbers_named : (cuts : List Cut) (kind : Kind) (calls part : List Call) → Are
 numbers_named [] kind calls part are h x i = (x, subst (In x) h i, refl)
 numbers_named (cut ∷ cuts) kind calls part are h x i =
     let t = timed_named cut calls h.0 are.rising h.1 in
-    let z = numbers_named cuts (kind_cut cut kind) h.0 part (after_cut cut kind calls h.0 are h.1) h.2 x i in
+    let z = numbers_named cuts (kind_after_cut cut kind) h.0 part (after_cut cut kind calls h.0 are h.1) h.2 x i in
     let y = in_filter_map t.becomes z.0 calls (subst (In z.0) t.named z.1) in
     (y.0, y.1, z.2 ∙ (t.timed y.0 z.0 y.1 y.2).number)
 
@@ -363,7 +363,7 @@ numbers_named (cut ∷ cuts) kind calls part are h x i =
 steps : (cuts : List Cut) (kind : Kind) (calls part : List Call) (kept : ℕ → Bool) (order : List ℤ)
     → AreCalls kind calls → NamesPart cuts calls part
     → Covers kept calls part → IsValidOrder kind (kept_calls kept calls) order
-    → (o : List ℤ) × IsValidOrder (part_kind cuts kind) (kept_calls kept part) o
+    → (o : List ℤ) × IsValidOrder (kind_after_cuts cuts kind) (kept_calls kept part) o
 steps [] kind calls part kept order are names covers valid =
     (order, subst (λ cs. IsValidOrder kind (kept_calls kept cs) order) (sym names) valid)
 steps (cut ∷ cuts) kind calls part kept order are names covers valid =
@@ -371,7 +371,7 @@ steps (cut ∷ cuts) kind calls part kept order are names covers valid =
     let t = timed_named cut calls names.0 are.rising names.1 in
     let first : Covers kept calls names.0 = λ e i q.
     let y = covers e i q in
-    let z = numbers_named cuts (kind_cut cut kind) names.0 part next names.2 y.0 y.1 in
+    let z = numbers_named cuts (kind_after_cut cut kind) names.0 part next names.2 y.0 y.1 in
     (z.0, z.1, sym z.2 ∙ y.2) in
     let rest : Covers kept names.0 part = λ e i q.
     let z = in_filter_map t.becomes e calls (subst (In e) t.named i) in
@@ -379,7 +379,7 @@ steps (cut ∷ cuts) kind calls part kept order are names covers valid =
     let y = covers z.0 z.1 (ap kept (sym same) ∙ q) in
     (y.0, y.1, y.2 ∙ sym same) in
     let o = step cut kind calls names.0 kept order are names.1 first valid in
-    steps cuts (kind_cut cut kind) names.0 part kept o.0 next names.2 rest o.1
+    steps cuts (kind_after_cut cut kind) names.0 part kept o.0 next names.2 rest o.1
 
 with_number : (part : List Call) (n : ℕ) → has_number part n ≡ true → (y : Call) × In y part × (y.number ≡ n)
 with_number [] n e = absurd (cc e)
@@ -398,7 +398,7 @@ has_own (x ∷ part) y i = grind (arith, nat_tests, has_own part y)
 pub listed_valid : (cuts : List Cut) (kind : Kind) (calls part : List Call) (order : List ℤ)
     → All (λ e. kind_of e.op ≡ kind) calls → AllPairs (λ a b. a.number < b.number) calls
     → All (λ e. (r : Return) → e.returned ≡ Some r → e.number < r.at) calls → NamesPart cuts calls part
-    → IsValidOrder kind (listed part calls) order → (o : List ℤ) × IsValidOrder (part_kind cuts kind) part o
+    → IsValidOrder kind (listed part calls) order → (o : List ℤ) × IsValidOrder (kind_after_cuts cuts kind) part o
 listed_valid cuts kind calls part order kinds rising ends named v =
     let are : AreCalls kind calls = record {
       rising = pairs_from_all (λ a b. a.number < b.number) calls rising;
@@ -408,6 +408,6 @@ listed_valid cuts kind calls part order kinds rising ends named v =
     } in
     let o = steps cuts kind calls part (has_number part) order are named (λ e i q. with_number part e.number q) v in (
       o.0,
-      subst (λ cs. IsValidOrder (part_kind cuts kind) cs o.0)
+      subst (λ cs. IsValidOrder (kind_after_cuts cuts kind) cs o.0)
           (filter_all (λ (e : Call). has_number part e.number) part (λ e i. has_own part e i)) o.1,
     )

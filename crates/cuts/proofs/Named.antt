@@ -13,8 +13,8 @@ use Rattle.model.specs.Lists.{In}
 use Rattle.model.proofs.Lists.{Pairs, in_from_contains, pairs_from_all}
 use Rattle.cuts.specs.declared.cutting.Cut.{Cut}
 use Rattle.cuts.specs.declared.cutting.Cut.TheVariants.{From, Until, Without, Keep, Cell, Entry}
-use Rattle.cuts.specs.declared.kinds.Place.{Place}
-use Rattle.cuts.specs.declared.kinds.Place.TheVariants.{OfRegister, OfKey}
+use Rattle.cuts.specs.declared.kinds.CellId.{CellId}
+use Rattle.cuts.specs.declared.kinds.CellId.TheVariants.{OfRegister, OfKey}
 use Rattle.cuts.specs.Cells.{done_at, opened_at, call_at, calls_at}
 use Rattle.cuts.specs.Parts.{return_before, call_before, calls_before, ended_before, call_later, returned_call}
 use Rattle.cuts.specs.Parts.{call_from}
@@ -106,7 +106,7 @@ from_timed from calls part rising h y x i e = own (y.number == from) refl e
     own false q e = over (ended_before from y.returned) e
 
 -- what a call becomes at a cell
-timed_at : (place : Place) (keeps : ℤ → Bool) (other : ℤ) (kept : ℕ → Bool) (calls part : List Call)
+timed_at : (place : CellId) (keeps : ℤ → Bool) (other : ℤ) (kept : ℕ → Bool) (calls part : List Call)
     → part ≡ calls_at place keeps other kept calls → AreTimed calls part
 timed_at place keeps other kept calls part h = record {
   becomes = call_at place keeps other kept;

@@ -11,7 +11,7 @@ use Rattle.model.proofs.Lists.{Pairs}
 use Rattle.cuts.specs.declared.cutting.Cut.{Cut}
 use Rattle.cuts.specs.declared.cutting.Cut.TheVariants.{From, Without}
 use Rattle.cuts.specs.Absent.{IsWithout}
-use Rattle.cuts.specs.Cuts.{IsSuffix, Names, NamesPart, kind_cut, part_kind}
+use Rattle.cuts.specs.Cuts.{IsSuffix, Names, NamesPart, kind_after_cut, kind_after_cuts}
 use Rattle.cuts.proofs.Later.{one_suffix}
 
 -- a suffix that was cut out is the one that the cut names
@@ -72,11 +72,12 @@ none_left cuts i d whole now lt h none part k =
 
 -- the cuts leave the same kind as those of them that are left leave of what the others cut
 abbrev pub IsKindSoFar : List Cut → ℕ → Kind → Kind → Type 0
-IsKindSoFar cuts i whole now = part_kind cuts whole ≡ part_kind (drop i cuts) now
+IsKindSoFar cuts i whole now = kind_after_cuts cuts whole ≡ kind_after_cuts (drop i cuts) now
 
 -- and the kind that it leaves is the kind so far
 pub kind_further : (cuts : List Cut) (i : ℕ) (default : Cut) (whole now next : Kind) → i < length cuts
-    → IsKindSoFar cuts i whole now → next ≡ kind_cut (get_or cuts i default) now → IsKindSoFar cuts (i + 1) whole next
+    → IsKindSoFar cuts i whole now → next ≡ kind_after_cut (get_or cuts i default) now
+    → IsKindSoFar cuts (i + 1) whole next
 kind_further cuts i default whole now next inside so_far is =
-    so_far ∙ ap (λ (cs : List Cut). part_kind cs now) (left cuts i default inside)
-    ∙ ap (part_kind (drop (i + 1) cuts)) (sym is)
+    so_far ∙ ap (λ (cs : List Cut). kind_after_cuts cs now) (left cuts i default inside)
+    ∙ ap (kind_after_cuts (drop (i + 1) cuts)) (sym is)

@@ -11,7 +11,7 @@ use Rattle.model.specs.Objects.{Content, next, kind_of}
 use Rattle.model.specs.Orders.{Call, Return}
 use Rattle.events.specs.declared.operations.End.{End}
 use Rattle.events.specs.declared.operations.End.TheVariants.{Returned, Pending, Failed}
-use Rattle.events.specs.declared.operations.Invocation.{Invocation}
+use Rattle.events.specs.declared.operations.Operation.{Operation}
 use Rattle.events.specs.Operations.{call_of}
 use Rattle.cuts.specs.Recasts.{recast}
 use Rattle.cuts.specs.CutOperations.{as_pending, as_returned, op_recast}
@@ -112,7 +112,7 @@ pub record IsInto (done : Done) (pending : Open) (into : AnyOp → Kind) : Type 
   pub unfinished : (op : AnyOp) → IfSome (pending op) (λ f. kind_of f ≡ into op)
 
 pub recast_operation : (done : Done) (pending : Open) (into : AnyOp → Kind) → IsInto done pending into
-    → (kept : Bool) (o p : Invocation)
+    → (kept : Bool) (o p : Operation)
     → op_recast (done kept) pending o.number o.op o.«end» ≡ Some p → IsCutOperationOf (into o.op) o p
 recast_operation done pending into is kept o p e = go o.«end» refl e
   where
@@ -140,11 +140,11 @@ recast_operation done pending into is kept o p e = go o.«end» refl e
     go Pending q e = unfinished (pending o.op) (is.unfinished o.op) e
     go Failed q e = absurd (cc e)
 
-pub recast_lives : (done : Done) (pending : Open) (kept : Bool) (o p : Invocation)
+pub recast_lives : (done : Done) (pending : Open) (kept : Bool) (o p : Operation)
     → op_recast (done kept) pending o.number o.op o.«end» ≡ Some p → p.«end» ≢ Failed
 recast_lives done pending kept o p e = grind arith
 
-pub recast_call : (done : Done) (pending : Open) (kept : ℕ → Bool) (o : Invocation)
+pub recast_call : (done : Done) (pending : Open) (kept : ℕ → Bool) (o : Operation)
     → bind (op_recast (done (kept o.number)) pending o.number o.op o.«end») call_of
     ≡ bind (call_of o) (λ e. recast (done (kept e.number)) pending e.number e.op e.returned)
 recast_call done pending kept o = grind arith

@@ -6,8 +6,8 @@ use Rattle.std.specs.List.{filter_map}
 use Rattle.model.specs.declared.AnyOp.{AnyOp}
 use Rattle.model.specs.declared.AnyReply.{AnyReply}
 use Rattle.model.specs.Orders.{Call}
-use Rattle.cuts.specs.declared.kinds.Place.{Place}
-use Rattle.cuts.specs.declared.kinds.Place.TheVariants.{OfRegister, OfKey}
+use Rattle.cuts.specs.declared.kinds.CellId.{CellId}
+use Rattle.cuts.specs.declared.kinds.CellId.TheVariants.{OfRegister, OfKey}
 use Rattle.cuts.specs.declared.touches.Need.{Need}
 use Rattle.cuts.specs.declared.touches.Need.TheVariants.{Any, Is}
 use Rattle.cuts.specs.declared.touches.Leave.{Leave}
@@ -60,26 +60,26 @@ touched_op keeps other t =
 
 -- what an operation that returned becomes, as a call of a register, in the part at this cell;
 -- `None`: the part leaves it out
-abbrev pub done_at : Place → (ℤ → Bool) → ℤ → Bool → AnyOp → AnyReply → Option (AnyOp × AnyReply)
+abbrev pub done_at : CellId → (ℤ → Bool) → ℤ → Bool → AnyOp → AnyReply → Option (AnyOp × AnyReply)
 done_at place keeps other kept op reply =
     touched_call (keeps_content (keeps_none place) keeps) other kept (own_call place op reply)
     (touch_at place op (Some reply))
 
 -- what a pending operation becomes in the part at this cell: it stays only if it can leave a kept
 -- content
-abbrev pub opened_at : Place → (ℤ → Bool) → ℤ → AnyOp → Option AnyOp
+abbrev pub opened_at : CellId → (ℤ → Bool) → ℤ → AnyOp → Option AnyOp
 opened_at place keeps other op =
     touched_op (keeps_content (keeps_none place) keeps) other (touch_at place op None)
 
 -- what a call becomes, as one of a register, in the part at this cell; `None`: the part leaves it
 -- out
-abbrev pub call_at : Place → (ℤ → Bool) → ℤ → (ℕ → Bool) → Call → Option Call
+abbrev pub call_at : CellId → (ℤ → Bool) → ℤ → (ℕ → Bool) → Call → Option Call
 call_at place keeps other kept e = recast (done_at place keeps other (kept e.number))
     (opened_at place keeps other) e.number e.op e.returned
 
 -- The part of these calls at one cell of the object, as calls of a register. It keeps these values
 -- of the cell, and has one other value in place of all others.
-abbrev pub calls_at : Place → (ℤ → Bool) → ℤ → (ℕ → Bool) → List Call → List Call
+abbrev pub calls_at : CellId → (ℤ → Bool) → ℤ → (ℕ → Bool) → List Call → List Call
 calls_at place keeps other kept calls = filter_map (call_at place keeps other kept) calls
 
 -- The part of a register's calls that keeps some values, and "no value", and has one other value in

@@ -9,11 +9,11 @@ use Rattle.model.specs.declared.AnyOp.{AnyOp}
 use Rattle.model.specs.declared.AnyReply.{AnyReply}
 use Rattle.events.specs.declared.operations.End.{End}
 use Rattle.events.specs.declared.operations.End.TheVariants.{Returned, Pending, Failed}
-use Rattle.events.specs.declared.operations.Invocation.{Invocation}
+use Rattle.events.specs.declared.operations.Operation.{Operation}
 use Rattle.cuts.specs.declared.counting.Counted.{Counted}
 use Rattle.cuts.specs.Ahead.{found_in}
 use Rattle.cuts.specs.Kinds.Counting.{sets, takes}
-use Rattle.cuts.specs.declared.kinds.Place.{Place}
+use Rattle.cuts.specs.declared.kinds.CellId.{CellId}
 use Rattle.cuts.specs.Cells.{done_at, opened_at}
 use Rattle.cuts.specs.Kinds.Register.{setting}
 use Rattle.cuts.specs.Parts.{takes_out, written_before}
@@ -42,11 +42,11 @@ is_open_removal op Pending = is_removal op
 is_open_removal op Failed = false
 
 -- the operation did not fail, and its number is kept
-abbrev pub is_kept_call : (ℕ → Bool) → Invocation → Bool
+abbrev pub is_kept_call : (ℕ → Bool) → Operation → Bool
 is_kept_call kept o = not (has_failed o.«end») && kept o.number
 
 -- whether the first pending removals, this many, are kept
-abbrev pub keeps_first : (ℕ → Bool) → ℕ → List Invocation → Bool
+abbrev pub keeps_first : (ℕ → Bool) → ℕ → List Operation → Bool
 keeps_first kept most [] = true
 keeps_first kept most (o ∷ ops) =
     if is_open_removal o.op o.«end»
@@ -75,7 +75,7 @@ end_before until Failed = Failed
 
 -- what an operation becomes in the prefix up to this number; `None`: it failed, or was not invoked
 -- before this number
-abbrev pub operation_before : ℕ → Invocation → Option Invocation
+abbrev pub operation_before : ℕ → Operation → Option Operation
 operation_before until o =
     if has_failed o.«end» then None
     else (if nat_lt o.number until
@@ -100,19 +100,19 @@ op_is_taken_before v before op Failed = false
 
 -- whether an operation put in the value and was invoked before this number, or took it out and
 -- returned before it
-abbrev pub is_cut_out : ℤ → ℕ → Invocation → Bool
+abbrev pub is_cut_out : ℤ → ℕ → Operation → Bool
 is_cut_out v before o =
     op_is_put_before v before o.number o.op o.«end» || op_is_taken_before v before o.op o.«end»
 
 -- whether an operation did not fail, and did neither of these before this number: put in the value,
 -- or take it out
-abbrev pub stays : ℤ → ℕ → Invocation → Bool
+abbrev pub stays : ℤ → ℕ → Operation → Bool
 stays v before o = not (has_failed o.«end») && not (is_cut_out v before o)
 
 -- ---- a suffix
 
 -- the operation failed, or it is on this key (`None`: it has no key)
-abbrev pub IsOnKey : Option ℤ → Invocation → Type 0
+abbrev pub IsOnKey : Option ℤ → Operation → Type 0
 IsOnKey key o = (has_failed o.«end» ≡ true) ⊎ (key_of o.op ≡ key)
 
 -- whether an operation returned before this number
@@ -122,17 +122,17 @@ is_over from Pending = false
 is_over from Failed = false
 
 -- a write of this value, invoked at the first number and returned at the second
-abbrev pub as_write : ℕ → ℕ → ℤ → Invocation
+abbrev pub as_write : ℕ → ℕ → ℤ → Operation
 as_write number at v =
     record { number = number; op = (setting (Some v)).0; «end» = Returned at (setting (Some v)).1 }
 
 -- a pending operation
-abbrev pub as_pending : ℕ → AnyOp → Invocation
+abbrev pub as_pending : ℕ → AnyOp → Operation
 as_pending number op = record { number = number; op = op; «end» = Pending }
 
 -- an operation that overlaps the first one: if that left a value, a write or a swap that was not
 -- refused is a write, and any other is pending
-abbrev pub overlapping_operation : Option (AnyOp × AnyReply) → ℕ → AnyOp → End → Invocation
+abbrev pub overlapping_operation : Option (AnyOp × AnyReply) → ℕ → AnyOp → End → Operation
 overlapping_operation first number op (Returned at reply) =
     option_map_or (as_write number at) (written_before first op reply) (as_pending number op)
 overlapping_operation first number op Pending = as_pending number op
@@ -140,18 +140,18 @@ overlapping_operation first number op Failed = as_pending number op
 
 -- what an operation of a suffix becomes: it stays as it is if it was invoked after `at`, where the
 -- suffix's first operation returned
-abbrev pub operation_later : Option (AnyOp × AnyReply) → ℕ → Invocation → Invocation
+abbrev pub operation_later : Option (AnyOp × AnyReply) → ℕ → Operation → Operation
 operation_later first at o =
     if nat_lt at o.number then o else overlapping_operation first o.number o.op o.«end»
 
 -- an operation with this reply, invoked at the first number and returned at the second
-abbrev pub as_returned : ℕ → ℕ → AnyOp × AnyReply → Invocation
+abbrev pub as_returned : ℕ → ℕ → AnyOp × AnyReply → Operation
 as_returned from at first =
     record { number = from; op = first.0; «end» = Returned at first.1 }
 
 -- what an operation becomes in the suffix that begins with the operation `from`; `None`: it failed,
 -- or the suffix leaves it out
-abbrev pub operation_from : ℕ → ℕ → Option (AnyOp × AnyReply) → Invocation → Option Invocation
+abbrev pub operation_from : ℕ → ℕ → Option (AnyOp × AnyReply) → Operation → Option Operation
 operation_from from at first o =
     if has_failed o.«end» then None
     else (if o.number == from then option_map (as_returned from at) first
@@ -182,13 +182,13 @@ op_found op Pending = None
 op_found op Failed = None
 
 -- the number of the first operation that did not fail and puts in the value; 0: there is none
-abbrev pub op_first_put : ℤ → List Invocation → ℕ
-op_first_put v ops = option_map_or (λ (o : Invocation). o.number)
+abbrev pub op_first_put : ℤ → List Operation → ℕ
+op_first_put v ops = option_map_or (λ (o : Operation). o.number)
     (find (λ o. is_put (int_eq v) o.op o.«end») ops) 0
 
 -- The number before which a put must have returned to count: the removal's own, or, if the removal
 -- found a value in a queue, the number of the first put of this value if that is less.
-abbrev pub op_ahead_before : Option ℤ → AnyOp → ℕ → List Invocation → ℕ
+abbrev pub op_ahead_before : Option ℤ → AnyOp → ℕ → List Operation → ℕ
 op_ahead_before None op number ops = number
 op_ahead_before (Some b) op number ops =
     if takes_first op then min number (op_first_put b ops) else number
@@ -202,12 +202,12 @@ op_is_put_ahead keeps from before number op Pending = false
 op_is_put_ahead keeps from before number op Failed = false
 
 -- whether an operation failed, or puts in another value, or returned before this number
-abbrev pub op_is_settled : ℤ → ℕ → Invocation → Bool
+abbrev pub op_is_settled : ℤ → ℕ → Operation → Bool
 op_is_settled b from o = not (is_put (int_eq b) o.op o.«end») || is_over from o.«end»
 
 -- If a removal found a value in a stack: whether each put of this value returned before this
 -- number. Otherwise it is true.
-abbrev pub are_settled : Option ℤ → AnyOp → ℕ → List Invocation → Bool
+abbrev pub are_settled : Option ℤ → AnyOp → ℕ → List Operation → Bool
 are_settled None op from ops = true
 are_settled (Some b) op from ops =
     if takes_last op then list_all (op_is_settled b from) ops else true
@@ -220,14 +220,14 @@ op_may_take keeps op Failed = false
 
 -- whether another operation than the removal of this number took out one of these values, or may
 -- have, and was not invoked after `at`, where the removal returned
-abbrev pub op_may_precede : (ℤ → Bool) → ℕ → ℕ → Invocation → Bool
+abbrev pub op_may_precede : (ℤ → Bool) → ℕ → ℕ → Operation → Bool
 op_may_precede keeps number at o =
     op_may_take keeps o.op o.«end» && not (o.number == number || nat_lt at o.number)
 
 -- the operation of this number is a removal that returned at `at`, and this is what it found
-pub record IsRemoval (ops : List Invocation) (number : ℕ) (op : AnyOp) (at : ℕ)
+pub record IsRemoval (ops : List Operation) (number : ℕ) (op : AnyOp) (at : ℕ)
     (found : Option ℤ) : Type 0 where
-  pub operation : Invocation
+  pub operation : Operation
   pub known : Contains ops operation
   pub named : operation.number ≡ number
   pub same : operation.op ≡ op
@@ -238,13 +238,13 @@ pub record IsRemoval (ops : List Invocation) (number : ℕ) (op : AnyOp) (at : �
 -- what an operation becomes if one that returned becomes what `done` says, and a pending one what
 -- `pending` says; `None`: it failed, or the part leaves it out
 abbrev pub op_recast : (AnyOp → AnyReply → Option (AnyOp × AnyReply)) → (AnyOp → Option AnyOp)
-    → ℕ → AnyOp → End → Option Invocation
+    → ℕ → AnyOp → End → Option Operation
 op_recast done pending number op (Returned at reply) =
     option_map (as_returned number at) (done op reply)
 op_recast done pending number op Pending = option_map (as_pending number) (pending op)
 op_recast done pending number op Failed = None
 
 -- what an operation becomes in the part at this cell; `None`: it failed, or the part leaves it out
-abbrev pub operation_at : Place → (ℤ → Bool) → ℤ → (ℕ → Bool) → Invocation → Option Invocation
+abbrev pub operation_at : CellId → (ℤ → Bool) → ℤ → (ℕ → Bool) → Operation → Option Operation
 operation_at place keeps other kept o = op_recast (done_at place keeps other (kept o.number))
     (opened_at place keeps other) o.number o.op o.«end»

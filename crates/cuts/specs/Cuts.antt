@@ -7,12 +7,12 @@ use Rattle.model.specs.declared.AnyOp.{AnyOp}
 use Rattle.model.specs.declared.AnyReply.{AnyReply}
 use Rattle.model.specs.Orders.{Call, HasNoValidOrder}
 use Rattle.events.specs.declared.operations.End.TheVariants.{Failed}
-use Rattle.events.specs.declared.operations.Invocation.{Invocation}
+use Rattle.events.specs.declared.operations.Operation.{Operation}
 use Rattle.events.specs.Operations.{ObjectCalls, calls_of}
 use Rattle.cuts.specs.Absent.{IsWithout}
 use Rattle.cuts.specs.Cells.{cell_calls, entry_calls}
-use Rattle.cuts.specs.Kinds.{kind_of_part}
-use Rattle.cuts.specs.declared.kinds.Place.TheVariants.{OfKey}
+use Rattle.cuts.specs.Kinds.{kind_at_cell}
+use Rattle.cuts.specs.declared.kinds.CellId.TheVariants.{OfKey}
 use Rattle.cuts.specs.Parts.{IsClosed, kept_calls, calls_before, IsStart, calls_from}
 use Rattle.cuts.specs.declared.keeping.Values.{Values}
 use Rattle.cuts.specs.declared.keeping.Values.TheVariants as which
@@ -20,7 +20,7 @@ use Rattle.cuts.specs.declared.cutting.Cut.{Cut}
 use Rattle.cuts.specs.declared.cutting.Cut.TheVariants.{From, Until, Without, Keep, Cell, Entry}
 
 -- none of these operations failed
-abbrev pub NoneFailed : List Invocation → Type 0
+abbrev pub NoneFailed : List Operation → Type 0
 NoneFailed ops = All (λ o. o.«end» ≢ Failed) ops
 
 -- A part is of the same object, maybe as an object of another kind, and has no failed operations.
@@ -76,15 +76,15 @@ NamesPart (cut ∷ cuts) calls part =
     (next : List Call) × Names cut calls next × NamesPart cuts next part
 
 -- the kind of the part that a cut of an object of this kind names
-abbrev pub kind_cut : Cut → Kind → Kind
-kind_cut (From number) kind = kind
-kind_cut (Until number) kind = kind
-kind_cut (Without value before) kind = kind
-kind_cut (Keep values numbers) kind = kind
-kind_cut (Cell values other numbers) kind = kind
-kind_cut (Entry key values other numbers) kind = kind_of_part (OfKey key) kind
+abbrev pub kind_after_cut : Cut → Kind → Kind
+kind_after_cut (From number) kind = kind
+kind_after_cut (Until number) kind = kind
+kind_after_cut (Without value before) kind = kind
+kind_after_cut (Keep values numbers) kind = kind
+kind_after_cut (Cell values other numbers) kind = kind
+kind_after_cut (Entry key values other numbers) kind = kind_at_cell (OfKey key) kind
 
 -- the kind of the part that cuts of an object of this kind name, one after another
-abbrev pub part_kind : List Cut → Kind → Kind
-part_kind [] kind = kind
-part_kind (cut ∷ cuts) kind = part_kind cuts (kind_cut cut kind)
+abbrev pub kind_after_cuts : List Cut → Kind → Kind
+kind_after_cuts [] kind = kind
+kind_after_cuts (cut ∷ cuts) kind = kind_after_cuts cuts (kind_after_cut cut kind)

@@ -8,12 +8,12 @@ ghost use Rattle.cuts.specs.Cuts.{IsPart};
 ghost use Rattle.cuts.specs.CutOperations.{stays, op_is_put_before, op_is_taken_before};
 
 use crate::kinds::containers::{is_removal, put_value};
-use events::{End, Invocation, ObjectHistory};
+use events::{End, Operation, ObjectHistory};
 use seq_objects::AnyReply;
 use std::alloc::{AllocError, Global};
 
 /// Whether an operation that did not fail puts in this value, and was invoked before this number.
-fn puts_before(value: i64, before: u32, operation: &Invocation) -> bool
+fn puts_before(value: i64, before: u32, operation: &Operation) -> bool
     ensures { result ≡ op_is_put_before value before operation.now.number operation.now.op
         operation.now.«end» }
 {
@@ -27,7 +27,7 @@ fn puts_before(value: i64, before: u32, operation: &Invocation) -> bool
 }
 
 /// Whether an operation took out this value, and returned before this number.
-fn takes_before(value: i64, before: u32, operation: &Invocation) -> bool
+fn takes_before(value: i64, before: u32, operation: &Operation) -> bool
     ensures { result ≡ op_is_taken_before value before operation.now.op operation.now.«end» }
 {
     match operation.end {
@@ -40,7 +40,7 @@ fn takes_before(value: i64, before: u32, operation: &Invocation) -> bool
 }
 
 /// How many operations put in the value and were invoked before this number.
-fn put_count(value: i64, before: u32, operations: &[Invocation]) -> usize
+fn put_count(value: i64, before: u32, operations: &[Operation]) -> usize
     ensures { result ≡ count_by (λ o. op_is_put_before value before o.number o.op o.«end»)
         operations.now }
 {
@@ -51,7 +51,7 @@ fn put_count(value: i64, before: u32, operations: &[Invocation]) -> usize
 }
 
 /// How many operations took out the value and returned before this number.
-fn taken_count(value: i64, before: u32, operations: &[Invocation]) -> usize
+fn taken_count(value: i64, before: u32, operations: &[Operation]) -> usize
     ensures { result ≡ count_by (λ o. op_is_taken_before value before o.op o.«end»)
         operations.now }
 {
@@ -63,7 +63,7 @@ fn taken_count(value: i64, before: u32, operations: &[Invocation]) -> usize
 
 /// Whether at least as many removals of the value returned before this number as puts of it were
 /// invoked.
-fn is_absent(value: i64, before: u32, operations: &[Invocation]) -> bool
+fn is_absent(value: i64, before: u32, operations: &[Operation]) -> bool
     ensures yes { result ≡ true → IsAbsent value before (calls_of operations.now) }
     ensures no { IsAbsent value before (calls_of operations.now) → result ≡ true }
 {
@@ -75,8 +75,8 @@ fn cut_operations(
     alloc: Global,
     value: i64,
     before: u32,
-    operations: &[Invocation],
-) -> Result<Vec<Invocation>, AllocError>
+    operations: &[Operation],
+) -> Result<Vec<Operation>, AllocError>
     ensures { IfOk result (λ v. v.items ≡ filter (stays value before) operations.now) }
 {
     operations

@@ -17,7 +17,7 @@ ghost use Rattle.cuts.specs.CutOperations.{op_may_precede, op_may_take};
 
 use crate::kinds::containers::{is_removal, is_value_ahead, put_value, takes_first, takes_last};
 use crate::suffix::{is_before, operation_at};
-use events::{End, Invocation, ObjectHistory};
+use events::{End, Operation, ObjectHistory};
 use seq_objects::{AnyOp, AnyReply};
 
 /// A removal that returned: its number, that of its response, and what it found.
@@ -43,7 +43,7 @@ fn found_by(op: AnyOp, end: End) -> Option<(u32, Option<i64>)>
 }
 
 /// The removal of this number, if it is one that returned.
-fn removal_at(operations: &[Invocation], number: u32) -> Option<Removal>
+fn removal_at(operations: &[Operation], number: u32) -> Option<Removal>
     requires { AllPairs (λ a b. a.number < b.number) operations.now }
     ensures some { IfSome result (λ t. IsRemoval operations.now number t.op t.at t.found) }
     ensures named { IfSome result (λ t. t.number ≡ number) }
@@ -73,7 +73,7 @@ fn puts_in(removal: Removal, op: AnyOp) -> bool
 }
 
 /// Whether an operation that did not fail puts in this value.
-fn puts_value(value: i64, operation: &Invocation) -> bool
+fn puts_value(value: i64, operation: &Operation) -> bool
     ensures { result ≡ is_put (int_eq value) operation.now.op operation.now.«end» }
 {
     if operation.end == End::Failed {
@@ -86,7 +86,7 @@ fn puts_value(value: i64, operation: &Invocation) -> bool
 }
 
 /// The first operation that did not fail and puts in this value.
-fn first_put_of(operations: &[Invocation], value: i64) -> Option<Invocation>
+fn first_put_of(operations: &[Operation], value: i64) -> Option<Operation>
     ensures { result ≡ find (λ o. is_put (int_eq value) o.op o.«end») operations.now }
 {
     for operation in operations {
@@ -98,7 +98,7 @@ fn first_put_of(operations: &[Invocation], value: i64) -> Option<Invocation>
 }
 
 /// Its number; 0: there is none.
-fn first_put(operations: &[Invocation], value: i64) -> u32
+fn first_put(operations: &[Operation], value: i64) -> u32
     ensures { result ≡ op_first_put value operations.now }
 {
     match first_put_of(operations, value) {
@@ -108,7 +108,7 @@ fn first_put(operations: &[Invocation], value: i64) -> u32
 }
 
 /// The number before which a put must have returned, so that it definitely was ahead.
-fn ahead_before(operations: &[Invocation], removal: Removal) -> u32
+fn ahead_before(operations: &[Operation], removal: Removal) -> u32
     ensures { result ≡ op_ahead_before removal.found removal.op removal.number operations.now }
 {
     match removal.found {
@@ -121,21 +121,21 @@ fn ahead_before(operations: &[Invocation], removal: Removal) -> u32
 }
 
 /// Whether an operation failed, or puts in another value, or returned before this number.
-fn is_settled(value: i64, from: u32, operation: &Invocation) -> bool
+fn is_settled(value: i64, from: u32, operation: &Operation) -> bool
     ensures { result ≡ op_is_settled value from operation.now }
 {
     !puts_value(value, operation) || is_before(operation.end, from)
 }
 
 /// Whether each operation failed, or puts in another value, or returned before this number.
-fn all_settled(operations: &[Invocation], value: i64, from: u32) -> bool
+fn all_settled(operations: &[Operation], value: i64, from: u32) -> bool
     ensures { result ≡ list_all (op_is_settled value from) operations.now }
 {
     operations.iter().all(|o| is_settled(value, from, o))
 }
 
 /// Whether, if the removal found a value in a stack, each put of it returned before this number.
-fn are_settled(operations: &[Invocation], removal: Removal, from: u32) -> bool
+fn are_settled(operations: &[Operation], removal: Removal, from: u32) -> bool
     ensures { result ≡ cut_operations.are_settled removal.found removal.op from operations.now }
 {
     match removal.found {
@@ -146,7 +146,7 @@ fn are_settled(operations: &[Invocation], removal: Removal, from: u32) -> bool
 }
 
 /// Whether an operation put in what definitely was ahead.
-fn is_ahead(removal: Removal, from: u32, before: u32, operation: &Invocation) -> bool
+fn is_ahead(removal: Removal, from: u32, before: u32, operation: &Operation) -> bool
     ensures { result ≡ op_is_put_ahead (containers.is_value_ahead removal.found removal.op) from
         before operation.now.number operation.now.op operation.now.«end» }
 {
@@ -175,7 +175,7 @@ fn may_take(removal: Removal, op: AnyOp, end: End) -> bool
 }
 
 /// Whether an operation may have taken out such a value before the removal.
-fn may_precede(removal: Removal, operation: &Invocation) -> bool
+fn may_precede(removal: Removal, operation: &Operation) -> bool
     ensures { result ≡ op_may_precede (containers.is_value_ahead removal.found removal.op)
         removal.number removal.at operation.now }
 {
@@ -185,7 +185,7 @@ fn may_precede(removal: Removal, operation: &Invocation) -> bool
 
 /// How many operations put in what definitely was ahead, and how many may have taken such a value
 /// out before the removal.
-fn times(operations: &[Invocation], removal: Removal, from: u32) -> (usize, usize)
+fn times(operations: &[Operation], removal: Removal, from: u32) -> (usize, usize)
     ensures ahead { result.0 ≡ count_by (λ o. op_is_put_ahead
         (containers.is_value_ahead removal.found removal.op) from
         (op_ahead_before removal.found removal.op removal.number operations.now)

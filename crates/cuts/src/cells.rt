@@ -10,10 +10,10 @@ ghost use Rattle.cuts.specs.CutOperations.{operation_at};
 ghost use Rattle.cuts.specs.Kinds as kinds;
 
 use crate::keeping::Values;
-use crate::kinds::Place;
+use crate::kinds::CellId;
 use crate::kinds::register::{finding, replacing, setting};
 use crate::touches::{Leave, Need, Touch};
-use events::{End, Invocation, ObjectHistory};
+use events::{End, Operation, ObjectHistory};
 use seq_objects::{AnyOp, AnyReply, Kind};
 use std::alloc::{AllocError, Global};
 use std::collections::BTreeSet;
@@ -21,7 +21,7 @@ use std::collections::BTreeSet;
 /// A cell, and the value in place of each content that is not kept.
 #[derive(Clone, Copy)]
 struct CellCut {
-    place: Place,
+    place: CellId,
     other: i64,
 }
 
@@ -118,8 +118,8 @@ fn cut_operation(
     cell: CellCut,
     values: &Values,
     numbers: &BTreeSet<u32>,
-    operation: &Invocation,
-) -> Option<Invocation>
+    operation: &Operation,
+) -> Option<Operation>
     ensures { result ≡ operation_at cell.place (keeps_value values.now) cell.other
         (keeps_number numbers.now) operation.now }
 {
@@ -128,7 +128,7 @@ fn cut_operation(
         End::Returned { at, reply } => {
             let kept = numbers.contains(&number);
             let (op, reply) = returned_op(cell, values, kept, operation.op, reply)?;
-            Some(Invocation {
+            Some(Operation {
                 number,
                 op,
                 end: End::Returned { at, reply },
@@ -136,7 +136,7 @@ fn cut_operation(
         }
         End::Pending => {
             let op = pending_op(cell, values, operation.op)?;
-            Some(Invocation {
+            Some(Operation {
                 number,
                 op,
                 end: End::Pending,
@@ -149,11 +149,11 @@ fn cut_operation(
 /// The operations of the part.
 fn cut_operations(
     alloc: Global,
-    operations: &[Invocation],
+    operations: &[Operation],
     cell: CellCut,
     values: &Values,
     numbers: &BTreeSet<u32>,
-) -> Result<Vec<Invocation>, AllocError>
+) -> Result<Vec<Operation>, AllocError>
     ensures { IfOk result (λ v. v.items ≡ filter_map (operation_at cell.place
         (keeps_value values.now) cell.other (keeps_number numbers.now)) operations.now) }
 {
@@ -173,13 +173,13 @@ fn part_at(
 ) -> Result<ObjectHistory, AllocError>
     ensures part { IfOk result (λ p. IsPart history.now p) }
     ensures kind { IfOk result (λ p.
-        p.kind ≡ kinds.kind_of_part cell.place history.now.kind) }
+        p.kind ≡ kinds.kind_at_cell cell.place history.now.kind) }
     ensures calls { IfOk result (λ p. calls_of p.ops ≡ spec.calls_at cell.place
         (keeps_value values.now) cell.other (keeps_number numbers.now)
         (calls_of history.now.ops)) }
 {
     let ops = cut_operations(alloc, history.ops(), cell, values, numbers)?;
-    let kind = cell.place.kind_of_part(history.kind());
+    let kind = cell.place.kind_at_cell(history.kind());
     Ok(ObjectHistory::new(history.object(), kind, ops))
 }
 
@@ -202,7 +202,7 @@ pub(crate) fn cell_part(
         ≡ spec.cell_calls (keeps_value values.now) other (keeps_number numbers.now)
         (calls_of history.now.ops)) }
 {
-    let place = Place::OfRegister;
+    let place = CellId::OfRegister;
     part_at(alloc, history, CellCut { place, other }, values, numbers)
 }
 
@@ -226,6 +226,6 @@ pub(crate) fn entry_part(
         ≡ spec.entry_calls key (keeps_value values.now) other (keeps_number numbers.now)
         (calls_of history.now.ops)) }
 {
-    let place = Place::OfKey(key);
+    let place = CellId::OfKey(key);
     part_at(alloc, history, CellCut { place, other }, values, numbers)
 }

@@ -8,8 +8,8 @@ ghost use Rattle.cuts.specs.Counts as counts;
 ghost use Rattle.cuts.specs.Counts.{IsOverdrawn};
 ghost use Rattle.cuts.specs.CutOperations.{is_set, is_gone};
 
-use crate::kinds::counting::{is_single, sets, takes};
-use events::{End, Invocation, ObjectHistory};
+use crate::kinds::counting::{may_count_from_any, sets, takes};
+use events::{End, Operation, ObjectHistory};
 use seq_objects::Kind;
 
 /// What is counted: a content, or a part of one.
@@ -37,7 +37,7 @@ pub struct Count {
 
 /// Whether an operation that did not fail sets the content, and had not returned before the count
 /// begins.
-fn sets_since(count: Count, operation: &Invocation) -> bool
+fn sets_since(count: Count, operation: &Operation) -> bool
     ensures { result ≡ is_set count.counted count.from operation.now.op operation.now.«end» }
 {
     match operation.end {
@@ -50,7 +50,7 @@ fn sets_since(count: Count, operation: &Invocation) -> bool
 }
 
 /// Whether an operation was invoked where the count begins or later, and took the content away.
-fn takes_since(count: Count, operation: &Invocation) -> bool
+fn takes_since(count: Count, operation: &Operation) -> bool
     ensures { result ≡ is_gone count.counted count.from operation.now.number operation.now.op
         operation.now.«end» }
 {
@@ -73,11 +73,11 @@ fn most_before(kind: Kind, count: Count) -> Option<usize>
             _ => Some(0),
         };
     }
-    if is_single(kind) { Some(1) } else { None }
+    if may_count_from_any(kind) { Some(1) } else { None }
 }
 
 /// How many operations set the content, and how many took it away, in this order.
-fn times(operations: &[Invocation], count: Count) -> (usize, usize)
+fn times(operations: &[Operation], count: Count) -> (usize, usize)
     ensures set { result.0
         ≡ count_by (λ o. is_set count.counted count.from o.op o.«end») operations.now }
     ensures taken { result.1

@@ -3,7 +3,7 @@
 ghost use Rattle.std.specs.Prelude.{◌≡◌, List, None, IfOk, IfSome, filter, not};
 ghost use Rattle.model.specs.Orders.{Call};
 ghost use Rattle.events.specs.Operations.{calls_of};
-ghost use Rattle.cuts.specs.Cuts.{IsPart, Names, NamesPart, kind_cut, part_kind};
+ghost use Rattle.cuts.specs.Cuts.{IsPart, Names, NamesPart, kind_after_cut, kind_after_cuts};
 ghost use Rattle.cuts.specs.CutOperations.{has_failed};
 
 use crate::absent::part_without;
@@ -11,7 +11,7 @@ use crate::cells::{cell_part, entry_part};
 use crate::keeping::{Values, closed_part};
 use crate::prefix::prefix_until;
 use crate::suffix::suffix_from;
-use events::{End, Invocation, ObjectHistory};
+use events::{End, Operation, ObjectHistory};
 use std::alloc::{AllocError, Global};
 use std::collections::BTreeSet;
 
@@ -53,7 +53,7 @@ pub enum Cut {
 }
 
 /// The operations that did not fail.
-fn calls_among(alloc: Global, operations: &[Invocation]) -> Result<Vec<Invocation>, AllocError>
+fn calls_among(alloc: Global, operations: &[Operation]) -> Result<Vec<Operation>, AllocError>
     ensures { IfOk result (λ v. v.items ≡ filter (λ o. not (has_failed o.«end»)) operations.now) }
 {
     operations
@@ -81,7 +81,7 @@ fn cut_by(
 ) -> Result<Option<ObjectHistory>, AllocError>
     ensures part { IfOk result (λ o. IfSome o (λ p. IsPart history.now p)) }
     ensures kind { IfOk result (λ o. IfSome o (λ p.
-        p.kind ≡ kind_cut cut.now history.now.kind)) }
+        p.kind ≡ kind_after_cut cut.now history.now.kind)) }
     ensures named { IfOk result (λ o. IfSome o (λ p.
         Names cut.now (calls_of history.now.ops) (calls_of p.ops))) }
     ensures one { IfOk result (λ o. IfSome o (λ p. (part : List Call)
@@ -124,7 +124,7 @@ pub fn part_by(
     // If no order of the part is valid, none of the whole is. None of its operations failed.
     ensures part { IfOk result (λ o. IfSome o (λ p. IsPart history.now p)) }
     ensures kind { IfOk result (λ o. IfSome o (λ p.
-        p.kind ≡ part_kind cuts.now history.now.kind)) }
+        p.kind ≡ kind_after_cuts cuts.now history.now.kind)) }
     // The calls of the part are those that the cuts name.
     ensures named { IfOk result (λ o. IfSome o (λ p.
         NamesPart cuts.now (calls_of history.now.ops) (calls_of p.ops))) }

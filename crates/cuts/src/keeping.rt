@@ -11,7 +11,7 @@ ghost use Rattle.cuts.specs.CutOperations.{is_kept_call, keeps_first};
 
 use crate::kinds::containers::{is_removal, put_value};
 use crate::kinds::keeping::reply_fits;
-use events::{End, Invocation, ObjectHistory};
+use events::{End, Operation, ObjectHistory};
 use seq_objects::AnyReply;
 use std::alloc::{AllocError, Global};
 use std::collections::BTreeSet;
@@ -42,7 +42,7 @@ impl Values {
 
 /// If `kept`, whether a part may keep the operation; otherwise, whether it may leave it out. A
 /// failed one may be either.
-fn operation_fits(values: &Values, kept: bool, operation: &Invocation) -> bool
+fn operation_fits(values: &Values, kept: bool, operation: &Operation) -> bool
     ensures { result ≡ op_fits (keeps_all values.now) (keeps_value values.now) kept
         operation.now.op operation.now.«end» }
 {
@@ -54,7 +54,7 @@ fn operation_fits(values: &Values, kept: bool, operation: &Invocation) -> bool
 }
 
 /// Whether an operation that did not fail puts in a kept value.
-fn puts(values: &Values, operation: &Invocation) -> bool
+fn puts(values: &Values, operation: &Operation) -> bool
     ensures { result ≡ is_put (keeps_value values.now) operation.now.op operation.now.«end» }
 {
     match operation.end {
@@ -67,7 +67,7 @@ fn puts(values: &Values, operation: &Invocation) -> bool
 }
 
 /// Whether an operation returned a kept value that it took out.
-fn takes(values: &Values, operation: &Invocation) -> bool
+fn takes(values: &Values, operation: &Operation) -> bool
     ensures { result ≡ is_taken (keeps_value values.now) operation.now.op operation.now.«end» }
 {
     match operation.end {
@@ -80,7 +80,7 @@ fn takes(values: &Values, operation: &Invocation) -> bool
 }
 
 /// How many kept values can be left for pending removals.
-fn left_over(values: &Values, operations: &[Invocation]) -> usize
+fn left_over(values: &Values, operations: &[Operation]) -> usize
     ensures { result ≡ count_by (λ o. is_put (keeps_value values.now) o.op o.«end») operations.now
         - count_by (λ o. is_taken (keeps_value values.now) o.op o.«end») operations.now }
 {
@@ -90,14 +90,14 @@ fn left_over(values: &Values, operations: &[Invocation]) -> usize
 }
 
 /// Whether the operation is a removal that is pending.
-fn is_pending_removal(operation: &Invocation) -> bool
+fn is_pending_removal(operation: &Operation) -> bool
     ensures { result ≡ is_open_removal operation.now.op operation.now.«end» }
 {
     is_removal(operation.op) && operation.end == End::Pending
 }
 
 /// Whether the first `most` pending removals, or all if there are fewer, have numbers of this set.
-fn has_first(numbers: &BTreeSet<u32>, most: usize, operations: &[Invocation]) -> bool
+fn has_first(numbers: &BTreeSet<u32>, most: usize, operations: &[Operation]) -> bool
     ensures { result ≡ keeps_first (keeps_number numbers.now) most operations.now }
 {
     let mut left = most;
@@ -113,7 +113,7 @@ fn has_first(numbers: &BTreeSet<u32>, most: usize, operations: &[Invocation]) ->
 }
 
 /// Whether a part may keep each operation with one of these numbers, and leave out each other one.
-fn all_fit(values: &Values, numbers: &BTreeSet<u32>, operations: &[Invocation]) -> bool
+fn all_fit(values: &Values, numbers: &BTreeSet<u32>, operations: &[Operation]) -> bool
     ensures { result ≡ list_all (λ o. op_fits (keeps_all values.now) (keeps_value values.now)
         (keeps_number numbers.now o.number) o.op o.«end») operations.now }
 {
@@ -123,7 +123,7 @@ fn all_fit(values: &Values, numbers: &BTreeSet<u32>, operations: &[Invocation]) 
 }
 
 /// Whether the operations with these numbers make a closed part.
-fn is_closed(values: &Values, numbers: &BTreeSet<u32>, operations: &[Invocation]) -> bool
+fn is_closed(values: &Values, numbers: &BTreeSet<u32>, operations: &[Operation]) -> bool
     requires { AllPairs (λ a b. a.number < b.number) operations.now }
     ensures yes { result ≡ true
         → IsClosedPart values.now numbers.now (calls_of operations.now) }
@@ -139,8 +139,8 @@ fn is_closed(values: &Values, numbers: &BTreeSet<u32>, operations: &[Invocation]
 fn cut_operations(
     alloc: Global,
     numbers: &BTreeSet<u32>,
-    operations: &[Invocation],
-) -> Result<Vec<Invocation>, AllocError>
+    operations: &[Operation],
+) -> Result<Vec<Operation>, AllocError>
     ensures { IfOk result (λ v. v.items
         ≡ filter (is_kept_call (keeps_number numbers.now)) operations.now) }
 {

@@ -18,26 +18,26 @@ use seq_objects::{AnyOp, AnyReply, Kind};
 
 /// A cell of an object: a register is one, and a map has one for each key.
 #[derive(Clone, Copy)]
-pub(crate) enum Place {
+pub(crate) enum CellId {
     OfRegister,
     OfKey(i64),
 }
 
-impl Place {
+impl CellId {
     /// Whether a part keeps "no value" of this cell.
     pub(crate) fn keeps_none(self) -> bool
         ensures { result ≡ spec.keeps_none self }
     {
-        matches!(self, Place::OfRegister)
+        matches!(self, CellId::OfRegister)
     }
 
     /// The kind of a part of an object of this kind.
-    pub(crate) fn kind_of_part(self, kind: Kind) -> Kind
-        ensures { result ≡ spec.kind_of_part self kind }
+    pub(crate) fn kind_at_cell(self, kind: Kind) -> Kind
+        ensures { result ≡ spec.kind_at_cell self kind }
     {
         match self {
-            Place::OfRegister => kind,
-            Place::OfKey(_) => Kind::Register,
+            CellId::OfRegister => kind,
+            CellId::OfKey(_) => Kind::Register,
         }
     }
 
@@ -46,8 +46,8 @@ impl Place {
         ensures { result ≡ spec.own_call self op reply }
     {
         match self {
-            Place::OfRegister => Some((op, reply)),
-            Place::OfKey(_) => None,
+            CellId::OfRegister => Some((op, reply)),
+            CellId::OfKey(_) => None,
         }
     }
 
@@ -57,8 +57,8 @@ impl Place {
         ensures { result ≡ spec.touch_at self op reply }
     {
         match self {
-            Place::OfRegister => register_touch(op, reply),
-            Place::OfKey(key) => map_touch(key, op, reply),
+            CellId::OfRegister => register_touch(op, reply),
+            CellId::OfKey(key) => map_touch(key, op, reply),
         }
     }
 }

@@ -17,7 +17,7 @@ ghost use Rattle.cuts.specs.Ahead.{ahead_before, found_by, is_put_ahead, is_sett
 ghost use Rattle.cuts.specs.Kinds.Containers.{is_value_ahead};
 ghost use Rattle.cuts.specs.Cells.{cell_calls, entry_calls};
 ghost use Rattle.cuts.specs.Counts.{most_before, set_since, taken_since};
-ghost use Rattle.cuts.specs.Cuts.{NamesPart, part_kind};
+ghost use Rattle.cuts.specs.Cuts.{NamesPart, kind_after_cuts};
 ghost use Rattle.cuts.specs.Listed.{listed};
 ghost use Rattle.cuts.specs.Parts.{IsClosed, kept_calls, calls_before, IsStart, calls_from};
 
@@ -129,5 +129,5 @@ pub fn listed_is_valid()
         → All (λ e. (r : Return) → e.returned ≡ Some r → e.number < r.at) calls
         → NamesPart cuts calls part
         → IsValidOrder kind (listed part calls) order
-        → (of_part : List ℤ) × IsValidOrder (part_kind cuts kind) part of_part }
+        → (of_part : List ℤ) × IsValidOrder (kind_after_cuts cuts kind) part of_part }
 {}

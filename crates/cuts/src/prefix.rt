@@ -7,7 +7,7 @@ ghost use Rattle.cuts.specs.Parts.{calls_before};
 ghost use Rattle.cuts.specs.Cuts.{IsPart};
 ghost use Rattle.cuts.specs.CutOperations.{end_before, operation_before};
 
-use events::{End, Invocation, ObjectHistory};
+use events::{End, Operation, ObjectHistory};
 use std::alloc::{AllocError, Global};
 
 /// How an operation had ended before this number.
@@ -21,14 +21,14 @@ fn end_then(end: End, until: u32) -> End
 }
 
 /// The operation as it was before this number, if it did not fail and was invoked before.
-fn cut_operation(operation: &Invocation, until: u32) -> Option<Invocation>
+fn cut_operation(operation: &Operation, until: u32) -> Option<Operation>
     ensures { result ≡ operation_before until operation.now }
 {
     if operation.end == End::Failed {
         return None;
     }
     if operation.number < until {
-        return Some(Invocation {
+        return Some(Operation {
             number: operation.number,
             op: operation.op,
             end: end_then(operation.end, until),
@@ -40,9 +40,9 @@ fn cut_operation(operation: &Invocation, until: u32) -> Option<Invocation>
 /// The operations as they were before this number.
 fn cut_operations(
     alloc: Global,
-    operations: &[Invocation],
+    operations: &[Operation],
     until: u32,
-) -> Result<Vec<Invocation>, AllocError>
+) -> Result<Vec<Operation>, AllocError>
     ensures { IfOk result (λ v. v.items ≡ filter_map (operation_before until) operations.now) }
 {
     operations

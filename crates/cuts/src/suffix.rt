@@ -17,7 +17,7 @@ ghost use Rattle.cuts.specs.CutOperations.{operation_later, operation_from, IsOn
 
 use crate::kinds::register::setting;
 use crate::kinds::starts::{First, first_of, key_of, written};
-use events::{End, Invocation, ObjectHistory};
+use events::{End, Operation, ObjectHistory};
 use seq_objects::{AnyOp, AnyReply};
 use std::alloc::{AllocError, Global};
 
@@ -42,21 +42,21 @@ fn written_before(first: Option<First>, op: AnyOp, reply: AnyReply) -> Option<i6
 
 /// An operation that overlaps the first one. If the first one left a value, a write becomes a
 /// write, and so does a swap that was not refused. Any other is pending.
-fn overlapping(first: Option<First>, operation: &Invocation) -> Invocation
+fn overlapping(first: Option<First>, operation: &Operation) -> Operation
     ensures { result ≡ overlapping_operation first operation.now.number operation.now.op
         operation.now.«end» }
 {
     if let End::Returned { at, reply } = operation.end {
         if let Some(value) = written_before(first, operation.op, reply) {
             let (op, reply) = setting(Some(value));
-            return Invocation {
+            return Operation {
                 number: operation.number,
                 op,
                 end: End::Returned { at, reply },
             };
         }
     }
-    Invocation {
+    Operation {
         number: operation.number,
         op: operation.op,
         end: End::Pending,
@@ -64,7 +64,7 @@ fn overlapping(first: Option<First>, operation: &Invocation) -> Invocation
 }
 
 /// What an operation becomes that did not return before the first one.
-fn later(start: Start, operation: &Invocation) -> Invocation
+fn later(start: Start, operation: &Operation) -> Operation
     ensures { result ≡ operation_later start.first start.at operation.now }
 {
     if operation.number > start.at {
@@ -84,7 +84,7 @@ pub(crate) fn is_before(end: End, from: u32) -> bool
 }
 
 /// What an operation becomes; `None`: the part leaves it out.
-fn cut_operation(operation: &Invocation, from: u32, start: Start) -> Option<Invocation>
+fn cut_operation(operation: &Operation, from: u32, start: Start) -> Option<Operation>
     ensures { result ≡ operation_from from start.at start.first operation.now }
 {
     if operation.end == End::Failed {
@@ -92,7 +92,7 @@ fn cut_operation(operation: &Invocation, from: u32, start: Start) -> Option<Invo
     }
     if operation.number == from {
         let (op, reply) = start.first?;
-        return Some(Invocation {
+        return Some(Operation {
             number: from,
             op,
             end: End::Returned {
@@ -110,10 +110,10 @@ fn cut_operation(operation: &Invocation, from: u32, start: Start) -> Option<Invo
 /// The operations of the suffix.
 fn cut_operations(
     alloc: Global,
-    operations: &[Invocation],
+    operations: &[Operation],
     from: u32,
     start: Start,
-) -> Result<Vec<Invocation>, AllocError>
+) -> Result<Vec<Operation>, AllocError>
     ensures { IfOk result (λ v. v.items
         ≡ filter_map (operation_from from start.at start.first) operations.now) }
 {
@@ -124,14 +124,14 @@ fn cut_operations(
 }
 
 /// Whether an operation failed, or is on this key; `None`: it has no key.
-fn is_on_key(operation: &Invocation, key: Option<i64>) -> bool
+fn is_on_key(operation: &Operation, key: Option<i64>) -> bool
     ensures { MatchBool result (IsOnKey key operation.now) (IsOnKey key operation.now → ⊥) }
 {
     operation.end == End::Failed || key_of(operation.op) == key
 }
 
 /// Whether each operation failed, or is on this key.
-fn are_on_key(operations: &[Invocation], key: Option<i64>) -> bool
+fn are_on_key(operations: &[Operation], key: Option<i64>) -> bool
     ensures yes { result ≡ true → All (IsOnKey key) operations.now }
     ensures no { result ≡ false → All (IsOnKey key) operations.now → ⊥ }
 {
@@ -139,7 +139,7 @@ fn are_on_key(operations: &[Invocation], key: Option<i64>) -> bool
 }
 
 /// The operation with this number.
-pub(crate) fn operation_at(operations: &[Invocation], number: u32) -> Option<Invocation>
+pub(crate) fn operation_at(operations: &[Operation], number: u32) -> Option<Operation>
     ensures some { IfSome result (λ o. Contains operations.now o × (o.number ≡ number)) }
     ensures none { result ≡ None → All (λ o. o.number ≢ number) operations.now }
 {
@@ -147,7 +147,7 @@ pub(crate) fn operation_at(operations: &[Invocation], number: u32) -> Option<Inv
 }
 
 /// Where the suffix begins that begins with this operation, if there is one.
-fn start_by(operations: &[Invocation], operation: Invocation) -> Option<Start>
+fn start_by(operations: &[Operation], operation: Operation) -> Option<Start>
     requires { Contains operations.now operation }
     ensures some { IfSome result (λ s.
         IsStart (calls_of operations.now) operation.number s.at s.first) }
@@ -167,7 +167,7 @@ fn start_by(operations: &[Invocation], operation: Invocation) -> Option<Start>
 }
 
 /// Where the suffix begins that begins at this number, if there is one.
-fn start_at(operations: &[Invocation], number: u32) -> Option<Start>
+fn start_at(operations: &[Operation], number: u32) -> Option<Start>
     requires { AllPairs (λ a b. a.number < b.number) operations.now }
     ensures some { IfSome result (λ s. IsStart (calls_of operations.now) number s.at s.first) }
     ensures none { result ≡ None → (at : ℕ) (first : Option (AnyOp × AnyReply))

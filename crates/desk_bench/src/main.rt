@@ -7,7 +7,7 @@
 #![tactic(auto)]
 
 ghost use Rattle.std.specs.Prelude.{◌≡◌, ◌+◌, ◌<◌, length, IfOk};
-ghost use Rattle.publication.specs.Handles.{AllBegun};
+ghost use Rattle.publication.specs.Handles.{AreAllNew};
 ghost use Rattle.desk_model.specs.Limits.{max_clients};
 
 use combiner::call;
@@ -58,10 +58,10 @@ fn work<R: Wait>(rt: &R, desk: &Desk<AnyObject>, client: Client<AnyObject>, kind
 
 /// The last of the clients.
 fn next(desk: &Desk<AnyObject>, clients: &mut Vec<Client<AnyObject>>) -> Client<AnyObject>
-    requires { (0 < length clients.old.items) × AllBegun desk.now.id clients.old.items }
+    requires { (0 < length clients.old.items) × AreAllNew desk.now.id clients.old.items }
     ensures client { result.desk ≡ desk.now.id }
     ensures others { (length clients.new.items + 1 ≡ length clients.old.items)
-        × AllBegun desk.now.id clients.new.items }
+        × AreAllNew desk.now.id clients.new.items }
 {
     match clients.pop() {
         Some(client) => client,
@@ -94,7 +94,7 @@ fn four_work<R: Threads + Wait + Sync>(
     clients: &mut Vec<Client<AnyObject>>,
     kind: Kind,
 )
-    requires { (length clients.old.items ≡ 4) × AllBegun desk.now.id clients.old.items }
+    requires { (length clients.old.items ≡ 4) × AreAllNew desk.now.id clients.old.items }
 {
     let (a, b) = (next(desk, clients), next(desk, clients));
     let (c, d) = (next(desk, clients), next(desk, clients));
@@ -116,7 +116,7 @@ fn all_work<R: Threads + Wait + Sync>(
     clients: &mut Vec<Client<AnyObject>>,
     kind: Kind,
 )
-    requires { AllBegun desk.now.id clients.old.items }
+    requires { AreAllNew desk.now.id clients.old.items }
 {
     match clients.len() {
         1 => work(rt, desk, next(desk, clients), kind),
@@ -132,7 +132,7 @@ fn new_desk(
     clients: u32,
 ) -> Result<(Desk<AnyObject>, Vec<Client<AnyObject>>), AllocError>
     requires { (0 < clients) × (clients < 1 + max_clients) }
-    ensures { IfOk result (λ r. AllBegun r.0.id r.1.items) }
+    ensures { IfOk result (λ r. AreAllNew r.0.id r.1.items) }
 {
     let mut objects = Vec::new(alloc);
     objects.push(AnyObject::empty(alloc, kind))?;

@@ -86,7 +86,7 @@ impl<D: Supply + Drop> In<D> {
     }
 
     /// Whether it failed by an allocation failure.
-    pub fn lacks_memory(&self) -> bool
+    pub fn is_allocation_failure(&self) -> bool
         ensures { result ≡ is_allocation_failure (failure_in self.now) }
     {
         matches!(self.failure, Some(ErrorKind::OutOfMemory))

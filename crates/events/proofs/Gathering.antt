@@ -12,17 +12,17 @@ use Rattle.events.specs.declared.event.Action.TheVariants.{Invoke, Ok, Fail, Inf
 use Rattle.events.specs.declared.event.Event.{Event}
 use Rattle.events.specs.declared.operations.End.{End}
 use Rattle.events.specs.declared.operations.End.TheVariants.{Pending}
-use Rattle.events.specs.declared.operations.Invocation.{Invocation}
+use Rattle.events.specs.declared.operations.Operation.{Operation}
 use Rattle.events.specs.Events.{next_event}
 use Rattle.events.specs.Operations.{end_by, end_at, begun, operations_on, IsGatheredObject}
 
 -- What is known before the event at place k: how the next event of each process ends an operation, and the operations
 -- of each object.
-pub record IsAhead (ends : ℕ → End) (kept : ℕ → Option (List Invocation)) (later : List Event) : Type 0 where
+pub record IsAhead (ends : ℕ → End) (kept : ℕ → Option (List Operation)) (later : List Event) : Type 0 where
   pub ahead : (p : ℕ) → ends p ≡ end_at (next_event p later)
   pub gathered : (x : ℕ) → IsGatheredObject (kept x) (operations_on x later)
 
-pub nothing_ahead : (ends : ℕ → End) (kept : ℕ → Option (List Invocation)) → ((p : ℕ) → ends p ≡ Pending)
+pub nothing_ahead : (ends : ℕ → End) (kept : ℕ → Option (List Operation)) → ((p : ℕ) → ends p ≡ Pending)
     → ((x : ℕ) → kept x ≡ None) → IsAhead ends kept []
 nothing_ahead ends kept n k = record { ahead = n; gathered = λ x. subst (λ o. IsGatheredObject o []) (sym (k x)) refl }
 
@@ -39,7 +39,7 @@ ends_more ends ends' e later h step p = step p ∙ go (e.process == p)
     go false = h p
 
 -- an event that begins no operation
-pub ahead_other : (ends ends' : ℕ → End) (kept : ℕ → Option (List Invocation)) (e : Event) (later : List Event)
+pub ahead_other : (ends ends' : ℕ → End) (kept : ℕ → Option (List Operation)) (e : Event) (later : List Event)
     → IsAhead ends kept later
     → ((how : End) → begun e.number e.action how ≡ []) → WithEnd ends ends' e → IsAhead ends' kept (e ∷ later)
 ahead_other ends ends' kept e later h none step = record {
@@ -53,8 +53,8 @@ ahead_other ends ends' kept e later h none step = record {
     nothing false = refl
 
 -- an event that begins one
-pub ahead_begun : (ends ends' : ℕ → End) (kept kept' : ℕ → Option (List Invocation)) (e : Event) (op : AnyOp)
-    (o : Invocation) (later : List Event)
+pub ahead_begun : (ends ends' : ℕ → End) (kept kept' : ℕ → Option (List Operation)) (e : Event) (op : AnyOp)
+    (o : Operation) (later : List Event)
     → IsAhead ends kept later → e.action ≡ Invoke op → o ≡ record { number = e.number; op = op; «end» = ends e.process }
     → kept' e.object ≡ Some (unwrap_or (kept e.object) [] ++ o ∷ []) → ((x : ℕ) → x ≢ e.object → kept' x ≡ kept x)
     → WithEnd ends ends' e → IsAhead ends' kept' (e ∷ later)
@@ -65,10 +65,10 @@ ahead_begun ends ends' kept kept' e op o later h invokes is own_kept others_kept
   where
     begins : begun e.number e.action (end_at (next_event e.process later)) ≡ o ∷ []
     begins = ap (λ a. begun e.number a (end_at (next_event e.process later))) invokes
-        ∙ ap (λ (x : Invocation). x ∷ [])
+        ∙ ap (λ (x : Operation). x ∷ [])
         (ap (λ (n : End). record { number = e.number; op = op; «end» = n }) (sym (h.ahead e.process)) ∙ sym is)
 
-    pushed_operation : (k : Option (List Invocation)) (ops : List Invocation) → IsGatheredObject k ops
+    pushed_operation : (k : Option (List Operation)) (ops : List Operation) → IsGatheredObject k ops
         → IsGatheredObject (Some (unwrap_or k [] ++ o ∷ [])) (o ∷ ops)
     pushed_operation None ops g = (ap (λ xs. reverse (o ∷ xs)) (sym g), λ q. cc q)
     pushed_operation (Some xs) ops g = (ap (λ ys. ys ++ o ∷ []) g.0 ∙ sym (reverse-append (o ∷ []) ops), λ q. cc q)

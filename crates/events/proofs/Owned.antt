@@ -6,7 +6,7 @@ use Rattle.model.specs.declared.AnyOp.{AnyOp}
 use Rattle.events.specs.declared.event.Action.{Action}
 use Rattle.events.specs.declared.event.Action.TheVariants.{Invoke, Ok, Fail, Info}
 use Rattle.events.specs.declared.event.Event.{Event}
-use Rattle.events.specs.declared.operations.Invocation.{Invocation}
+use Rattle.events.specs.declared.operations.Operation.{Operation}
 use Rattle.events.specs.Events.{next_event, IsProper}
 use Rattle.events.specs.Operations.{end_at, begun, operations_on, operations_in, IsGatheredObject}
 use Rattle.events.proofs.ProcessRuns.{idle, busy, state_by, MayDo, Runs, runs_from_start}
@@ -79,7 +79,7 @@ operations_owned own x (e ∷ es) is h = go (own e.object) refl (operations_owne
     go true q s =
         ap (λ ops. cond (e.object == x) (begun e.number e.action (end_at (next_event e.process (owned own es)))) []
         ++ ops) s
-        ∙ ap (λ (o : List Invocation). cond (e.object == x) o [] ++ operations_on x es)
+        ∙ ap (λ (o : List Operation). cond (e.object == x) o [] ++ operations_on x es)
         (begun_same own e.number e.process e.object e.action es q (runs_next e es h))
     go false q s =
         let ne : (e.object == x) ≡ false =
@@ -106,7 +106,7 @@ abbrev pub in_part : ℕ → ℕ → ℕ → Bool
 in_part part parts x = x % parts == part
 
 -- what was gathered of the events on them is what all events have
-pub gathered_in : (part parts x : ℕ) (es : List Event) (kept : Option (List Invocation)) → IsProper es
+pub gathered_in : (part parts x : ℕ) (es : List Event) (kept : Option (List Operation)) → IsProper es
     → IsGatheredObject kept (operations_on x (owned (in_part part parts) es))
     → IsGatheredObject kept (operations_in part parts x es)
 gathered_in part parts x es kept proper h = go (in_part part parts x) refl

@@ -14,24 +14,24 @@ use Rattle.events.specs.declared.event.Action.TheVariants.{Invoke, Ok, Fail, Inf
 use Rattle.events.specs.declared.event.Event.{Event}
 use Rattle.events.specs.declared.operations.End.{End}
 use Rattle.events.specs.declared.operations.End.TheVariants.{Returned, Pending, Failed}
-use Rattle.events.specs.declared.operations.Invocation.{Invocation}
+use Rattle.events.specs.declared.operations.Operation.{Operation}
 use Rattle.events.specs.Events.{next_event, Follows, IsProper, kind_by, kind_of_object, IsNamed}
 use Rattle.events.specs.Operations.{end_by, end_at, begun, operations_on, EndsAfter, ObjectCalls, IsObjectHistory}
 
 -- the event of an operation
-pub record Begins (x : ℕ) (es : List Event) (o : Invocation) : Type 0 where
+pub record Begins (x : ℕ) (es : List Event) (o : Operation) : Type 0 where
   pub event : Event
   pub stands : In event es
   pub on_object : event.object ≡ x
   pub number : event.number ≡ o.number
   pub invokes : event.action ≡ Invoke o.op
 
-begins_later : (x : ℕ) (e : Event) (es : List Event) (o : Invocation) → Begins x es o → Begins x (e ∷ es) o
+begins_later : (x : ℕ) (e : Event) (es : List Event) (o : Operation) → Begins x es o → Begins x (e ∷ es) o
 begins_later x e es o b =
     record { event = b.event; stands = inr b.stands; on_object = b.on_object; number = b.number; invokes = b.invokes }
 
 -- the operation that an event begins, if it is on the object
-begun_here : (x : ℕ) (e : Event) (how : End) (o : Invocation)
+begun_here : (x : ℕ) (e : Event) (how : End) (o : Operation)
     → In o (cond (e.object == x) (begun e.number e.action how) []) → (e.object ≡ x)
     × (e.number ≡ o.number) × (e.action ≡ Invoke o.op) × (o.«end» ≡ how)
 begun_here x e how o i = go (e.object == x) refl i
@@ -39,9 +39,9 @@ begun_here x e how o i = go (e.object == x) refl i
     named : (a : Action) → In o (begun e.number a how) → (e.number ≡ o.number) × (a ≡ Invoke o.op) × (o.«end» ≡ how)
     named (Invoke op) j = elim j [
       | inl q ↦ (
-        ap (λ (x : Invocation). x.number) (sym q),
-        ap (λ (x : Invocation). Invoke x.op) (sym q),
-        ap (λ (x : Invocation). x.«end») q,
+        ap (λ (x : Operation). x.number) (sym q),
+        ap (λ (x : Operation). Invoke x.op) (sym q),
+        ap (λ (x : Operation). x.«end») q,
       )
       | inr k ↦ absurd k
     ]
@@ -54,7 +54,7 @@ begun_here x e how o i = go (e.object == x) refl i
     go true q j = let n = named e.action j in (eqb-true e.object x q, n.0, n.1, n.2)
     go false q j = absurd j
 
-pub operation_begins : (x : ℕ) (es : List Event) (o : Invocation) → In o (operations_on x es) → Begins x es o
+pub operation_begins : (x : ℕ) (es : List Event) (o : Operation) → In o (operations_on x es) → Begins x es o
 operation_begins x [] o i = absurd i
 operation_begins x (e ∷ es) o i =
     elim (in_append o (cond (e.object == x) (begun e.number e.action (end_at (next_event e.process es))) [])
@@ -75,7 +75,7 @@ operations_rising : (x : ℕ) (es : List Event) → RisingEvents es
 operations_rising x [] h = tt
 operations_rising x (e ∷ es) h = go (e.object == x) (operations_rising x es h.1)
   where
-    above : (o : Invocation) → In o (operations_on x es) → e.number < o.number
+    above : (o : Operation) → In o (operations_on x es) → e.number < o.number
     above o i =
         let b = operation_begins x es o i in
         let later = h.0 b.event b.stands in
@@ -128,7 +128,7 @@ next_stands p (e ∷ es) f q = go (e.process == p) q (next_stands p es f)
     go false r g = inr (g r)
 
 -- where an operation returned, an event says so after its invocation
-pub record Returns (es : List Event) (o : Invocation) (at : ℕ) (r : AnyReply) : Type 0 where
+pub record Returns (es : List Event) (o : Operation) (at : ℕ) (r : AnyReply) : Type 0 where
   pub event : Event
   pub stands : In event es
   pub number : event.number ≡ at
@@ -146,7 +146,7 @@ end_returns (Some f) at r q = let g = go f.action q in (f, refl, g.0, g.1)
     go Fail s = absurd (cc s)
     go Info s = absurd (cc s)
 
-operation_returns : (x : ℕ) (es : List Event) (o : Invocation) (at : ℕ) (r : AnyReply) → RisingEvents es
+operation_returns : (x : ℕ) (es : List Event) (o : Operation) (at : ℕ) (r : AnyReply) → RisingEvents es
     → In o (operations_on x es) → o.«end» ≡ Returned at r → Returns es o at r
 operation_returns x [] o at r h i q = absurd i
 operation_returns x (e ∷ es) o at r h i q =
@@ -166,7 +166,7 @@ operation_returns x (e ∷ es) o at r h i q =
     ]
 
 -- and no operation has the number of a return
-apart : (x : ℕ) (es : List Event) (o p : Invocation) (at : ℕ) (r : AnyReply) → RisingEvents es → Returns es o at r
+apart : (x : ℕ) (es : List Event) (o p : Operation) (at : ℕ) (r : AnyReply) → RisingEvents es → Returns es o at r
     → In p (operations_on x es) → p.number ≡ at → ⊥
 apart x es o p at r h f i q =
     let b = operation_begins x es p i in
@@ -174,7 +174,7 @@ apart x es o p at r h f i q =
     let e : Invoke p.op ≡ Ok r = sym b.invokes ∙ (ap (λ (x : Event). x.action) same ∙ f.returns) in
     absurd (cc (e))
 
-ends_after : (x : ℕ) (es : List Event) (o : Invocation) → RisingEvents es → In o (operations_on x es)
+ends_after : (x : ℕ) (es : List Event) (o : Operation) → RisingEvents es → In o (operations_on x es)
     → EndsAfter o.number (operations_on x es) o.«end»
 ends_after x es o h i = go o.«end» refl
   where
@@ -213,7 +213,7 @@ kinds_after earlier (e ∷ es) all is h = (
   kinds_after (earlier ++ e ∷ []) es all (is ∙ sym (append_assoc earlier (e ∷ []) es)) h,
 )
 
-kind_here : (x : ℕ) (es : List Event) (o : Invocation) → Pairs SameKind es → In o (operations_on x es)
+kind_here : (x : ℕ) (es : List Event) (o : Operation) → Pairs SameKind es → In o (operations_on x es)
     → kind_of o.op ≡ kind_of_object es x
 kind_here x [] o h i = absurd i
 kind_here x (e ∷ es) o h i =
@@ -268,7 +268,7 @@ is_object_history es h x =
 -- ---- named objects
 
 -- an object is named exactly where it has operations
-pub named_by : (x : ℕ) (es : List Event) (o : Invocation) → In o (operations_on x es) → IsNamed es x
+pub named_by : (x : ℕ) (es : List Event) (o : Operation) → In o (operations_on x es) → IsNamed es x
 named_by x es o i =
     let b = operation_begins x es o i in
     record {
@@ -280,7 +280,7 @@ named_by x es o i =
     }
 
 pub operation_of : (x : ℕ) (es : List Event) (e : Event) (op : AnyOp) → In e es → e.object ≡ x → e.action ≡ Invoke op
-    → (o : Invocation) × In o (operations_on x es)
+    → (o : Operation) × In o (operations_on x es)
 operation_of x [] e op i s t = absurd i
 operation_of x (d ∷ es) e op i s t = elim i [
   | inl q ↦ own (ap (λ (y : Event). y.object) (sym q) ∙ s) (ap (λ (y : Event). y.action) (sym q) ∙ t)
@@ -292,10 +292,10 @@ operation_of x (d ∷ es) e op i s t = elim i [
       )
 ]
   where
-    own : d.object ≡ x → d.action ≡ Invoke op → (o : Invocation) × In o (operations_on x (d ∷ es))
+    own : d.object ≡ x → d.action ≡ Invoke op → (o : Operation) × In o (operations_on x (d ∷ es))
     own s t =
         let how = end_at (next_event d.process es) in
-        let o : Invocation = record { number = d.number; op = op; «end» = how } in
+        let o : Operation = record { number = d.number; op = op; «end» = how } in
         let is : cond (d.object == x) (begun d.number d.action how) [] ≡ o ∷ [] =
         ap (λ b. cond b (begun d.number d.action how) []) (eq-eqb d.object x s) ∙ ap (λ a. begun d.number a how) t in (
           o,

@@ -13,7 +13,7 @@ use Rattle.events.specs.declared.event.Action.TheVariants.{Invoke, Ok, Fail, Inf
 use Rattle.events.specs.declared.event.Event.{Event}
 use Rattle.events.specs.declared.operations.End.{End}
 use Rattle.events.specs.declared.operations.End.TheVariants.{Returned, Pending, Failed}
-use Rattle.events.specs.declared.operations.Invocation.{Invocation}
+use Rattle.events.specs.declared.operations.Operation.{Operation}
 use Rattle.events.specs.Events.{next_event, IsNamed, kind_of_object, denoted}
 
 -- how an operation ends if the next event of its process has this number and this action
@@ -34,14 +34,14 @@ end_kept kept = unwrap_or kept Pending
 
 -- the operation that an event with this number and this action invokes, if it invokes one, with how
 -- it ends
-abbrev pub begun : ℕ → Action → End → List Invocation
+abbrev pub begun : ℕ → Action → End → List Operation
 begun number (Invoke op) how = record { number = number; op = op; «end» = how } ∷ []
 begun number (Ok r) how = []
 begun number Fail how = []
 begun number Info how = []
 
 -- the operations on one object, in the order of their invocations
-abbrev pub operations_on : ℕ → List Event → List Invocation
+abbrev pub operations_on : ℕ → List Event → List Operation
 operations_on x [] = []
 operations_on x (e ∷ later) =
     (if e.object == x then begun e.number e.action (end_at (next_event e.process later)) else [])
@@ -49,7 +49,7 @@ operations_on x (e ∷ later) =
 
 -- the operations on the object, if its number leaves the remainder `part` by `parts`; otherwise
 -- none
-abbrev pub operations_in : ℕ → ℕ → ℕ → List Event → List Invocation
+abbrev pub operations_in : ℕ → ℕ → ℕ → List Event → List Operation
 operations_in part parts x es = if x % parts == part then operations_on x es else []
 
 -- ---- as calls
@@ -76,18 +76,18 @@ call_with number op Pending = Some (record { number = number; op = op; returned 
 call_with number op Failed = None
 
 -- an operation as a call, if it did not fail
-abbrev pub call_of : Invocation → Option Call
+abbrev pub call_of : Operation → Option Call
 call_of o = call_with o.number o.op o.«end»
 
 -- the calls of an object: its operations that did not fail
-abbrev pub calls_of : List Invocation → List Call
+abbrev pub calls_of : List Operation → List Call
 calls_of ops = filter_map call_of ops
 
 -- ---- an object's history
 
 -- the response of an operation, if it returned, is after its invocation, and has the number of no
 -- invocation among these
-abbrev pub EndsAfter : ℕ → List Invocation → End → Type 0
+abbrev pub EndsAfter : ℕ → List Operation → End → Type 0
 EndsAfter number ops (Returned at reply) = (number < at) × All (λ o. o.number ≡ at → ⊥) ops
 EndsAfter number ops Pending = ⊤
 EndsAfter number ops Failed = ⊤
@@ -96,7 +96,7 @@ EndsAfter number ops Failed = ⊤
 pub record ObjectCalls : Type 0 where
   pub object : ℕ
   pub kind : Kind
-  pub ops : List Invocation
+  pub ops : List Operation
 
 -- Numbers rise, the operations are of the kind, and a response is after its invocation, and at
 -- no invocation.
@@ -106,7 +106,7 @@ pub record IsObjectHistory (h : ObjectCalls) : Type 0 where
   pub ends : All (λ o. EndsAfter o.number h.ops o.«end») h.ops
 
 -- what is kept of an object's operations: the operations in reverse, or nothing if there are none
-abbrev pub IsGatheredObject : Option (List Invocation) → List Invocation → Type 0
+abbrev pub IsGatheredObject : Option (List Operation) → List Operation → Type 0
 IsGatheredObject None ops = ops ≡ []
 IsGatheredObject (Some kept) ops = (kept ≡ reverse ops) × (ops ≢ [])
 

@@ -47,7 +47,7 @@ impl End {
 
 /// An operation of an object, with the number of its invocation.
 #[derive(Clone, Copy, Debug, PartialEq, Eq)]
-pub struct Invocation {
+pub struct Operation {
     pub number: u32,
     pub op: AnyOp,
     pub end: End,
@@ -59,7 +59,7 @@ pub struct Invocation {
 pub struct ObjectHistory {
     object: u32,
     kind: Kind,
-    ops: Vec<Invocation>,
+    ops: Vec<Operation>,
 }
 
 impl Model for ObjectHistory {
@@ -76,7 +76,7 @@ impl Model for ObjectHistory {
 impl ObjectHistory {
     ghost use Rattle.events.specs.Operations.{IsObjectHistory};
 
-    pub fn new(object: u32, kind: Kind, ops: Vec<Invocation>) -> ObjectHistory
+    pub fn new(object: u32, kind: Kind, ops: Vec<Operation>) -> ObjectHistory
         requires { IsObjectHistory (record { object = object; kind = kind; ops = ops.items }) }
         ensures { result ≡ record { object = object; kind = kind; ops = ops.items } }
     {
@@ -96,7 +96,7 @@ impl ObjectHistory {
     }
 
     /// The operations, failed ones too.
-    pub fn ops(&self) -> &[Invocation]
+    pub fn ops(&self) -> &[Operation]
         ensures ops { result.now ≡ self.now.ops }
         ensures kept { IsObjectHistory self.now }
     {

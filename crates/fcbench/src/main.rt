@@ -41,15 +41,15 @@ fn report_no_memory<R: Print>(rt: &R) -> io::Result<u8> {
     Ok(Status::OutOfMemory.number())
 }
 
-/// Says that the program cannot `verb` the file (read or write it) or, if `lacks_memory`, that an
+/// Says that the program cannot `verb` the file (read or write it) or, if `no_memory`, that an
 /// allocation failed.
 fn report_failed<R: Print + Eprint>(
     rt: &R,
     verb: &str,
     name: &str,
-    lacks_memory: bool,
+    no_memory: bool,
 ) -> io::Result<u8> {
-    if lacks_memory {
+    if no_memory {
         return report_no_memory(rt);
     }
     rt.eprintln(format_args!("fcbench: cannot {verb} {name}"))?;
@@ -57,13 +57,13 @@ fn report_failed<R: Print + Eprint>(
 }
 
 /// Says that the file could not be read, or that an allocation failed.
-fn report_unreadable<R: Print + Eprint>(rt: &R, name: &str, lacks_memory: bool) -> io::Result<u8> {
-    report_failed(rt, "read", name, lacks_memory)
+fn report_unreadable<R: Print + Eprint>(rt: &R, name: &str, no_memory: bool) -> io::Result<u8> {
+    report_failed(rt, "read", name, no_memory)
 }
 
 /// Says that the file could not be written, or that an allocation failed.
-fn report_unwritten<R: Print + Eprint>(rt: &R, name: &str, lacks_memory: bool) -> io::Result<u8> {
-    report_failed(rt, "write", name, lacks_memory)
+fn report_unwritten<R: Print + Eprint>(rt: &R, name: &str, no_memory: bool) -> io::Result<u8> {
+    report_failed(rt, "write", name, no_memory)
 }
 
 /// The names of the files of a command. Where it has none, the name is empty.
@@ -98,8 +98,8 @@ fn run_on_files<R: Host>(rt: &R, line: &Line) -> io::Result<u8> {
     let mut output = Out::new(io::writer(rt));
     match perform_over(rt, rt.alloc(), line, &mut first, &mut second, &mut output) {
         Ok(status) => Ok(status),
-        Err(Unread::First) => report_unreadable(rt, first_name, first.lacks_memory()),
-        Err(Unread::Second) => report_unreadable(rt, second_name, second.lacks_memory()),
+        Err(Unread::First) => report_unreadable(rt, first_name, first.is_allocation_failure()),
+        Err(Unread::Second) => report_unreadable(rt, second_name, second.is_allocation_failure()),
     }
 }
 
@@ -139,9 +139,9 @@ fn split<R: Host>(rt: &R, line: &SplitLine) -> io::Result<u8> {
         // Its lines are printed already, so no line about memory is printed.
         Ok(status) if is_divided(status) && !is_whole => report_unwritten(rt, name, false),
         Ok(status) => Ok(status),
-        Err(SplitFailure::Unread) => report_unreadable(rt, history, source.lacks_memory()),
-        Err(SplitFailure::Unwritten) => report_unwritten(rt, name, folder.lacks_memory()),
-        Err(SplitFailure::FewShards(object)) => report_few_shards(rt, object),
+        Err(SplitFailure::Unread) => report_unreadable(rt, history, source.is_allocation_failure()),
+        Err(SplitFailure::Unwritten) => report_unwritten(rt, name, folder.is_allocation_failure()),
+        Err(SplitFailure::TooFewShards(object)) => report_few_shards(rt, object),
         Err(SplitFailure::NoMemory) => report_no_memory(rt),
     }
 }
@@ -234,7 +234,7 @@ fn main_status<R: Host + Env>(rt: &R) -> io::Result<u8> {
         Ok(words) => run_words(rt, &words),
         Err(error) if error.kind() == io::ErrorKind::OutOfMemory => report_no_memory(rt),
         Err(_) => {
-            rt.eprintln("fcbench: a word of the command line is not UTF-8")?;
+            rt.eprintln("fcbench: an argument is not UTF-8")?;
             Ok(Status::Usage.number())
         }
     }

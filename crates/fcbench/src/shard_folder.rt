@@ -111,7 +111,7 @@ impl<'a, R: Files> ShardFolder<'a, R> {
     }
 
     /// Whether the last failure of `add` was an allocation failure.
-    pub fn lacks_memory(&self) -> bool {
+    pub fn is_allocation_failure(&self) -> bool {
         matches!(self.failure, Some(ErrorKind::OutOfMemory))
     }
 

@@ -52,7 +52,7 @@ fn fault_line(alloc: Global, fault: ReasonTextFault) -> Result<Vec<u8>, AllocErr
 }
 
 /// Whether an allocation failed.
-fn lacks_memory(fault: ReasonTextFault) -> bool
+fn is_allocation_failure(fault: ReasonTextFault) -> bool
     ensures { result ≡ false → IsOfReasonText fault }
 {
     match fault {
@@ -66,7 +66,7 @@ fn refuse(alloc: Global, fault: ReasonTextFault) -> Result<Output, AllocError>
     ensures { IfOk result (λ o. IsOfReasonText fault
         × IsExactly Status.Malformed (spec.reasons_fault_line fault) o.status o.text.items) }
 {
-    if lacks_memory(fault) {
+    if is_allocation_failure(fault) {
         return Err(AllocError);
     }
     Ok(Output {

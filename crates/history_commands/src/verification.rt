@@ -73,7 +73,7 @@ fn fault_line(alloc: Global, fault: ClaimTextFault) -> Result<Vec<u8>, AllocErro
 }
 
 /// Whether an allocation failed.
-fn lacks_memory(fault: ClaimTextFault) -> bool
+fn is_allocation_failure(fault: ClaimTextFault) -> bool
     ensures { result ≡ false → IsOfClaimText fault }
 {
     match fault {
@@ -87,7 +87,7 @@ pub(crate) fn refuse_evidence(alloc: Global, fault: ClaimTextFault) -> Result<Ou
     ensures { IfOk result (λ o. IsOfClaimText fault
         × IsExactly Status.Undecided (spec.evidence_fault_line fault) o.status o.text.items) }
 {
-    if lacks_memory(fault) {
+    if is_allocation_failure(fault) {
         return Err(AllocError);
     }
     Ok(Output {

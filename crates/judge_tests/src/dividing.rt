@@ -301,7 +301,7 @@ fn an_object_that_needs_more_shards_is_told(rt: HostRuntime) -> Result<(), Fail>
     let fits = b"{:process 0, :type :invoke, :f :read, :object 196607}";
     assert!(rt; fault_of(rt.alloc(), fits, 9999, false) == None);
     let unfit = b"{:process 0, :type :invoke, :f :read, :object 196608}";
-    let fault = Some(SplitFault::FewShards(196_608));
+    let fault = Some(SplitFault::TooFewShards(196_608));
     assert!(rt; fault_of(rt.alloc(), unfit, 9999, false) == fault);
     Ok(())
 }

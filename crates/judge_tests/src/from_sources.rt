@@ -149,13 +149,13 @@ fn readers_that_fail_in_mid_stream(rt: HostRuntime) -> Result<(), Fail> {
     let (mut history, mut order) = (In::new(Broken { text, kind }), In::new(ORDER));
     let fault = fault_of(&rt, &mut history, &mut order);
     assert!(rt; fault == Some(ToolFault::Read(WhichText::History)));
-    assert!(rt; history.has_failed() && !history.lacks_memory() && !order.has_failed());
+    assert!(rt; history.has_failed() && !history.is_allocation_failure() && !order.has_failed());
     let (text, _) = ORDER.split_at(ORDER.len() / 2);
     let kind = ErrorKind::OutOfMemory;
     let (mut history, mut order) = (In::new(HISTORY), In::new(Broken { text, kind }));
     let fault = fault_of(&rt, &mut history, &mut order);
     assert!(rt; fault == Some(ToolFault::Read(WhichText::Certificates)));
-    assert!(rt; order.has_failed() && order.lacks_memory() && !history.has_failed());
+    assert!(rt; order.has_failed() && order.is_allocation_failure() && !history.has_failed());
     Ok(())
 }
 

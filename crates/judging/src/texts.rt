@@ -39,7 +39,7 @@ impl From<TextFailure> for Verdict {
 }
 
 /// Whether the fault is that an allocation failed.
-fn is_no_memory(fault: &Fault) -> bool
+fn is_allocation_failure(fault: &Fault) -> bool
     ensures { MatchBool result (IsNoMemory fault.now) (¬ (IsNoMemory fault.now)) }
 {
     match fault {
@@ -54,7 +54,7 @@ fn is_no_memory(fault: &Fault) -> bool
 fn failure_of_fault(fault: Fault) -> TextFailure
     ensures { IsTextFailureOf fault result }
 {
-    if is_no_memory(&fault) {
+    if is_allocation_failure(&fault) {
         TextFailure::NoMemory
     } else {
         TextFailure::Faulty(fault)

@@ -1,6 +1,6 @@
 //! Tests how a history is split into its objects, and into parts for workers.
 
-use events::{Action, End, Event, History, Invocation, ObjectHistory, split, split_share};
+use events::{Action, End, Event, History, Operation, ObjectHistory, split, split_share};
 use seq_objects::{AnyOp, AnyReply, Kind};
 use std::alloc::Global;
 use std::test::Fail;
@@ -52,20 +52,20 @@ fn three_operations(alloc: Global) -> Result<History, Fail> {
 }
 
 /// The acquire, which stayed pending.
-const ACQUIRE: Invocation = Invocation {
+const ACQUIRE: Operation = Operation {
     number: 3,
     op: AnyOp::Acquire,
     end: End::Pending,
 };
 
 /// What the queue's two operations did.
-const ON_QUEUE: [Invocation; 2] = [
-    Invocation {
+const ON_QUEUE: [Operation; 2] = [
+    Operation {
         number: 2,
         op: AnyOp::Enqueue(5),
         end: End::Failed,
     },
-    Invocation {
+    Operation {
         number: 6,
         op: AnyOp::Dequeue,
         end: End::Returned {
@@ -76,13 +76,13 @@ const ON_QUEUE: [Invocation; 2] = [
 ];
 
 /// What each object did: its number, its kind and its operations.
-pub(crate) const OBJECTS: [(u32, Kind, &[Invocation]); 2] = [
+pub(crate) const OBJECTS: [(u32, Kind, &[Operation]); 2] = [
     (0, Kind::Mutex, &[ACQUIRE]),
     (7, Kind::Queue, &ON_QUEUE),
 ];
 
 /// Whether this is what an object did.
-pub(crate) fn is_object(object: &ObjectHistory, expected: (u32, Kind, &[Invocation])) -> bool {
+pub(crate) fn is_object(object: &ObjectHistory, expected: (u32, Kind, &[Operation])) -> bool {
     let (number, kind, ops) = expected;
     object.object() == number && object.kind() == kind && object.ops() == ops
 }

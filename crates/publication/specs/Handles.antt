@@ -204,8 +204,8 @@ abbrev pub fresh_places : ℕ → List TableId → List PlaceSeen
 fresh_places c lists = map (λ id. record { roster = id; row = c; tries = [] }) lists
 
 -- a client that has made no call, and has not tried to enlist its row
-abbrev pub begun : DeskId → ℕ → Known
-begun d c =
+abbrev pub new_client_known : DeskId → ℕ → Known
+new_client_known d c =
     record {
       desk = d;
       knows = with_own own.Idle (new_client d.kinds d.lists c);
@@ -214,5 +214,5 @@ begun d c =
 
 -- each of these clients, the first of which is client 0, has made no call, and has not tried to
 -- enlist its row
-abbrev pub AllBegun : DeskId → List Known → Type 0
-AllBegun d cs = (c : ℕ) → c < length cs → get_elem? cs c ≡ some (begun d c)
+abbrev pub AreAllNew : DeskId → List Known → Type 0
+AreAllNew d cs = (c : ℕ) → c < length cs → get_elem? cs c ≡ some (new_client_known d c)

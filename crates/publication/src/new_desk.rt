@@ -4,7 +4,7 @@ ghost use Rattle.std.specs.Prelude.{◌≡◌, ◌+◌, ◌<◌, ◌≤◌, [], 
 ghost use Rattle.std.specs.Prelude.{vec_capacity};
 ghost use Rattle.model.specs.Objects.{empty, kind_with};
 ghost use Rattle.desk_invariant.specs.Views.{maker_of, table_words, table_slots};
-ghost use Rattle.publication.specs.Handles.{AllBegun, IsRoom, begun, fresh_places};
+ghost use Rattle.publication.specs.Handles.{AreAllNew, IsRoom, new_client_known, fresh_places};
 ghost use Rattle.publication.specs.Making.{AreCores, IsLaid, AreEmpty, kinds_with, HasRoom};
 ghost use Rattle.publication.specs.Making.{IsSmall, AreDealt, rosters_of, AreWalkersOf, IsFresh};
 ghost use Rattle.desk_model.specs.Limits.{max_objects, max_clients, max_calls};
@@ -205,7 +205,7 @@ fn new_client<S: SeqObject>(
           [],
         )) }
     ensures client { result
-        ≡ begun (record {
+        ≡ new_client_known (record {
           table = table.now.shared.table_id;
           quota = quota;
           kinds = table.now.shared.key.kinds.items;
@@ -244,7 +244,7 @@ fn make_all<S: SeqObject>(
         × (length table.now.shared.key.lists.items ≡ max_objects) }
     requires made { IsRoom table.now.shared.key.clients made.old × (vec_len made.old ≡ 0) }
     ensures { IfOk result (λ _. (length made.new.items ≡ table.now.shared.key.clients)
-        × AllBegun (record {
+        × AreAllNew (record {
           table = table.now.shared.table_id;
           quota = quota;
           kinds = table.now.shared.key.kinds.items;
@@ -283,7 +283,7 @@ impl<S: SeqObject> Desk<S> {
             (r.0.id.kinds ≡ map (λ o. kind_with (S.content o)) objects.items)
             × (r.0.clients ≡ clients) × (r.0.id.quota ≡ quota)) }
         ensures clients { IfOk result (λ r. (length r.1.items ≡ clients)
-            × AllBegun r.0.id r.1.items) }
+            × AreAllNew r.0.id r.1.items) }
     {
         let kinds = kinds_of(alloc, &objects)?;
         let room = journals(alloc, clients, quota)?;

@@ -2,7 +2,7 @@
 use Rattle.std.proofs.Common.{◌≡◌, ◌∙◌, ℕ, ◌+◌, ◌<◌, Bool, List, ◌++◌, length, drop, get_or, ap, sym, append_assoc}
 use Rattle.std.proofs.lemmas.List.{drop_more}
 use Rattle.events.specs.declared.event.Event.{Event}
-use Rattle.events.specs.declared.operations.Invocation.{Invocation}
+use Rattle.events.specs.declared.operations.Operation.{Operation}
 use Rattle.reason_report.specs.Operations.{operation_line, operations_text}
 use Rattle.reason_report.specs.Segments.{comment_text, segment_text, segments_text}
 use Rattle.reason_report.specs.declared.segments.Segment.{Segment}
@@ -11,7 +11,7 @@ pub segments_left : (ps : List Segment) (i : ℕ) (d : Segment) → i < length p
     → segments_text (drop i ps) ≡ segment_text (get_or ps i d) ++ segments_text (drop (i + 1) ps)
 segments_left ps i d lt = ap segments_text (drop_more ps i d lt)
 
-pub operations_left : (commented : Bool) (es : List Event) (ops : List Invocation) (i : ℕ) (d : Invocation)
+pub operations_left : (commented : Bool) (es : List Event) (ops : List Operation) (i : ℕ) (d : Operation)
     → i < length ops
     → operations_text commented es (drop i ops)
     ≡ (comment_text commented ++ operation_line es (get_or ops i d))

@@ -11,7 +11,7 @@ use Rattle.events.specs.declared.event.Action.TheVariants.{Invoke, Ok, Fail, Inf
 use Rattle.events.specs.declared.event.Event.{Event}
 use Rattle.events.specs.declared.operations.End.{End}
 use Rattle.events.specs.declared.operations.End.TheVariants.{Returned, Pending, Failed}
-use Rattle.events.specs.declared.operations.Invocation.{Invocation}
+use Rattle.events.specs.declared.operations.Operation.{Operation}
 use Rattle.events.specs.contracts.operations.InvocationPartialEq.TheImpl as derived
 use Rattle.reason_report.specs.Segments.{comment_text, value_text}
 
@@ -57,7 +57,7 @@ end_shown es Pending = Pending
 end_shown es Failed = Failed
 
 -- an operation of a part with the operation and the reply that the history has at its numbers
-abbrev pub operation_in : List Event → Invocation → Invocation
+abbrev pub operation_in : List Event → Operation → Operation
 operation_in es o = record {
   number = o.number;
   op = op_shown o.op (event_at es o.number);
@@ -84,15 +84,15 @@ reply_text Pending = []
 reply_text Failed = []
 
 -- the text of an operation with its reply, such as `:dequeue nil, :ok 7`
-abbrev pub call_text : Invocation → List ℕ
+abbrev pub call_text : Operation → List ℕ
 call_text o = op_text o.op ++ reply_text o.«end»
 
 -- whether two operations have the same number, operation and end: the derived test
-abbrev pub same_invocation : Invocation → Invocation → Bool
+abbrev pub same_invocation : Operation → Operation → Bool
 same_invocation left right = derived.eq-value.it left right
 
 -- what the part counts an operation as, if that is not what the history says about it
-abbrev pub counted_as_text : Invocation → Invocation → List ℕ
+abbrev pub counted_as_text : Operation → Operation → List ℕ
 counted_as_text told counted =
     if same_invocation told counted then [] else codes ", counted as " ++ call_text counted
 
@@ -103,22 +103,22 @@ open_text Pending = codes ", pending"
 open_text Failed = codes ", failed"
 
 -- the front of a line, such as `events 4 and 9: process 2, `
-abbrev pub heading_text : List Event → Invocation → List ℕ
+abbrev pub heading_text : List Event → Operation → List ℕ
 heading_text es o =
     place_text o.number o.«end»
     ++ (codes ": process " ++ (decimal (process_in (event_at es o.number)) ++ codes ", "))
 
 -- the rest of a line, such as `:dequeue nil, :ok 7`, and what the part counts the operation as
-abbrev pub said_text : Invocation → Invocation → List ℕ
+abbrev pub said_text : Operation → Operation → List ℕ
 said_text told counted =
     call_text told ++ (counted_as_text told counted ++ (open_text counted.«end» ++ codes "\n"))
 
 -- the line of an operation, such as `events 4 and 9: process 2, :dequeue nil, :ok 7`
-abbrev pub operation_line : List Event → Invocation → List ℕ
+abbrev pub operation_line : List Event → Operation → List ℕ
 operation_line es o = heading_text es o ++ said_text (operation_in es o) o
 
 -- a line for each operation, in their order
-abbrev pub operations_text : Bool → List Event → List Invocation → List ℕ
+abbrev pub operations_text : Bool → List Event → List Operation → List ℕ
 operations_text commented es [] = []
 operations_text commented es (o ∷ ops) =
     (comment_text commented ++ operation_line es o) ++ operations_text commented es ops

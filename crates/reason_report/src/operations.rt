@@ -7,7 +7,7 @@ ghost use Rattle.reason_report.specs.Operations.{operation_line, operations_text
 ghost use Rattle.reason_report.specs.Segments.{comment_text};
 
 use crate::segments::{Segment, push_comment, push_segments};
-use events::{Action, End, Event, History, Invocation, ObjectHistory};
+use events::{Action, End, Event, History, Operation, ObjectHistory};
 use seq_objects::{AnyOp, AnyReply, function_of, value_of_op, value_of_reply};
 use std::alloc::AllocError;
 
@@ -72,18 +72,18 @@ fn end_in(events: &[Event], end: End) -> End
 }
 
 /// The operation with what the history has at its numbers.
-fn operation_in(events: &[Event], operation: &Invocation) -> Invocation
+fn operation_in(events: &[Event], operation: &Operation) -> Operation
     requires { IsProper events.now }
     ensures { result ≡ spec.operation_in events.now operation.now }
 {
-    Invocation {
+    Operation {
         number: operation.number,
         op: op_in(operation.op, event_at(events, operation.number)),
         end: end_in(events, operation.end),
     }
 }
 
-fn push_place(text: &mut Vec<u8>, operation: &Invocation) -> Result<(), AllocError>
+fn push_place(text: &mut Vec<u8>, operation: &Operation) -> Result<(), AllocError>
     ensures { OnOk result (text.new.items ≡ text.old.items
         ++ spec.place_text operation.now.number operation.now.«end») }
 {
@@ -128,14 +128,14 @@ fn push_reply(text: &mut Vec<u8>, end: End) -> Result<(), AllocError>
     }
 }
 
-fn push_call(text: &mut Vec<u8>, operation: &Invocation) -> Result<(), AllocError>
+fn push_call(text: &mut Vec<u8>, operation: &Operation) -> Result<(), AllocError>
     ensures { OnOk result (text.new.items ≡ text.old.items ++ spec.call_text operation.now) }
 {
     push_op(text, &operation.op)?;
     push_reply(text, operation.end)
 }
 
-fn is_same(left: &Invocation, right: &Invocation) -> bool
+fn is_same(left: &Operation, right: &Operation) -> bool
     ensures { result ≡ spec.same_invocation left.now right.now }
 {
     *left == *right
@@ -144,8 +144,8 @@ fn is_same(left: &Invocation, right: &Invocation) -> bool
 /// What the part counts the operation as, if that is not what the history says about it.
 fn push_counted(
     text: &mut Vec<u8>,
-    recorded: &Invocation,
-    counted: &Invocation,
+    recorded: &Operation,
+    counted: &Operation,
 ) -> Result<(), AllocError>
     ensures { OnOk result (text.new.items ≡ text.old.items
         ++ spec.counted_as_text recorded.now counted.now) }
@@ -174,7 +174,7 @@ fn push_end(text: &mut Vec<u8>, end: End) -> Result<(), AllocError>
 fn push_heading(
     text: &mut Vec<u8>,
     events: &[Event],
-    operation: &Invocation,
+    operation: &Operation,
 ) -> Result<(), AllocError>
     requires { IsProper events.now }
     ensures { OnOk result (text.new.items ≡ text.old.items
@@ -191,8 +191,8 @@ fn push_heading(
 /// What the history says about the operation, and what the part does.
 fn push_said(
     text: &mut Vec<u8>,
-    recorded: &Invocation,
-    counted: &Invocation,
+    recorded: &Operation,
+    counted: &Operation,
 ) -> Result<(), AllocError>
     ensures { OnOk result (text.new.items ≡ text.old.items
         ++ spec.said_text recorded.now counted.now) }
@@ -207,7 +207,7 @@ fn push_said(
 fn push_recorded(
     text: &mut Vec<u8>,
     events: &[Event],
-    operation: &Invocation,
+    operation: &Operation,
 ) -> Result<(), AllocError>
     requires { IsProper events.now }
     ensures { OnOk result (text.new.items ≡ text.old.items
@@ -221,7 +221,7 @@ fn push_operation(
     text: &mut Vec<u8>,
     commented: bool,
     events: &[Event],
-    operation: &Invocation,
+    operation: &Operation,
 ) -> Result<(), AllocError>
     requires { IsProper events.now }
     ensures { OnOk result (text.new.items ≡ text.old.items
@@ -236,7 +236,7 @@ fn push_lines(
     text: &mut Vec<u8>,
     commented: bool,
     events: &[Event],
-    operations: &[Invocation],
+    operations: &[Operation],
 ) -> Result<(), AllocError>
     requires { IsProper events.now }
     ensures { OnOk result (text.new.items ≡ text.old.items

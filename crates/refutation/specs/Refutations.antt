@@ -9,7 +9,7 @@ use Rattle.events.specs.Operations.{ObjectCalls, calls_of}
 use Rattle.cuts.specs.declared.cutting.Cut.{Cut}
 use Rattle.cuts.specs.Ahead.{IsBlocked}
 use Rattle.cuts.specs.Counts.{IsOverdrawn}
-use Rattle.cuts.specs.Cuts.{NamesPart, NoneFailed, part_kind}
+use Rattle.cuts.specs.Cuts.{NamesPart, NoneFailed, kind_after_cuts}
 use Rattle.refutation.specs.declared.reason.Basis.{Basis}
 use Rattle.refutation.specs.declared.reason.Basis.TheVariants.{Search, Counting, Ahead}
 use Rattle.refutation.specs.declared.reason.Reason.{Reason}
@@ -98,7 +98,7 @@ IsShownBy (Ahead number from) part = IsBlocked number from (calls_of part.ops)
 pub record IsNamedPart (cuts : List Cut) (x : ℕ) (whole : Kind) (calls : List Call)
     (part : ObjectCalls) : Type 0 where
   pub object : part.object ≡ x
-  pub kind : part.kind ≡ part_kind cuts whole
+  pub kind : part.kind ≡ kind_after_cuts cuts whole
   pub named : NamesPart cuts calls (calls_of part.ops)
   pub none_failed : NoneFailed part.ops
 

@@ -15,7 +15,7 @@ use Rattle.model.specs.Lists.{In}
 use Rattle.model.proofs.Lists.{Pairs, in_map, in_map_from, in_from_contains, contains_from_in, in_from_get}
 use Rattle.model.proofs.Lists.{all_from_in, all_at, all_from_pairs}
 use Rattle.model.proofs.Lists.{pairs_from_all, pairs_filter, pairs_weaker, pairs_map, pairs_from_map}
-use Rattle.events.specs.declared.operations.Invocation.{Invocation}
+use Rattle.events.specs.declared.operations.Operation.{Operation}
 use Rattle.events.specs.Operations.{calls_of}
 use Rattle.search.specs.Arranged.{as_call, call_at}
 use Rattle.search.specs.declared.order_search.OrderOutcome.{OrderOutcome}
@@ -37,11 +37,11 @@ pub record AreListed (calls : List Call) (n : ℕ) (call : ℕ → Call) : Type 
   pub known : (k : ℕ) → k < n → In (call k) calls
   pub cover : (e : Call) → In e calls → (k : ℕ) × (k < n) × (call k ≡ e)
 
-abbrev same_number : Invocation → Invocation → Bool
+abbrev same_number : Operation → Operation → Bool
 same_number a b = a.number == b.number
 
 -- the calls at two places have different numbers
-numbers_differ : (ops items : List Invocation) → AllPairs (λ a b. a.number < b.number) ops
+numbers_differ : (ops items : List Operation) → AllPairs (λ a b. a.number < b.number) ops
     → IsPermutation (filter happens ops) items → (j k : ℕ)
     → j < k → k < length items → (call_at items j).number ≢ (call_at items k).number
 numbers_differ ops items up p j k l m e =
@@ -58,7 +58,7 @@ numbers_differ ops items up p j k l m e =
     flip a b = grind (arith, nat_tests)
 
 -- the calls by place are the calls of the object, in another order
-pub listed_calls : (ops items : List Invocation) → AllPairs (λ a b. a.number < b.number) ops
+pub listed_calls : (ops items : List Operation) → AllPairs (λ a b. a.number < b.number) ops
     → IsPermutation (filter happens ops) items → AreListed (calls_of ops) (length items) (call_at items)
 listed_calls ops items up p = record {
   apart = λ j k l m e. elim (cases_order j k) [
@@ -69,7 +69,7 @@ listed_calls ops items up p = record {
     ]
   ];
   known = λ k l.
-      let o : Invocation = get_or items k none in
+      let o : Operation = get_or items k none in
       let i = in_from_contains (filter happens ops) o
       (Contains-permutation items (filter happens ops) o (IsPermutation-sym (filter happens ops) items p)
       (contains_from_in items o (in_from_get items k none l))) in

@@ -8,7 +8,7 @@ use Rattle.model.specs.declared.Kind.{Kind}
 use Rattle.model.specs.Objects.{Content, next}
 use Rattle.model.specs.declared.AnyReply.{AnyReply}
 use Rattle.model.specs.Orders.{Call, Return}
-use Rattle.events.specs.declared.operations.Invocation.{Invocation}
+use Rattle.events.specs.declared.operations.Operation.{Operation}
 use Rattle.events.specs.Operations.{return_of}
 use Rattle.search.specs.declared.level.Level.{Level}
 use Rattle.search.specs.Continuations.{Continues, IsDead, IsDeadAt, IsDeadPair}
@@ -39,7 +39,7 @@ count_le f (suc n) = go (f n) (count_le f n)
     go false l = omega arith
 
 -- the call at a place, however its invocation was read
-pub call_read : (items : List Invocation) (k : ℕ) (d : Invocation) → k < length items
+pub call_read : (items : List Operation) (k : ℕ) (d : Operation) → k < length items
     → as_call (get_or items k d) ≡ call_at items k
 call_read items k d l = ap as_call (get_or_default items k d _ l)
 
@@ -84,9 +84,9 @@ pub next_stop : {n : ℕ} {done nx pv : List ℕ} {at : ℕ} → Linked n done n
 next_stop {at = at} link stop l =
     let long = link.long_next in (link.forth (suc at) (omega arith) (l, stop.left l), omega arith)
 
-module _ (items : List Invocation) where
+module _ (items : List Operation) where
   -- the least return with one more place looked at, and the next place
-  pub least_step : (o : Invocation) {done nx pv : List ℕ} {at at2 least next_least : ℕ}
+  pub least_step : (o : Operation) {done nx pv : List ℕ} {at at2 least next_least : ℕ}
       → Linked (length items) done nx pv
       → IsLeastBelow (length items) (call_at items) done at least × IsStop (length items) done at → at < length items
       → as_call o ≡ call_at items at → at2 ≡ get_or nx (at + 1) 0 →
@@ -109,11 +109,11 @@ module _ (items : List Invocation) where
       rw ea (record { below = λ j r l jl q. absurd (jl.1 (f.gap j (omega arith) l)); stands = inl refl }, f.stop)
 
   -- an operation that is not possible, by the invocation as it was read
-  pub dead_impossible : (o : Invocation) (done : List ℕ) {c : Content} {at : ℕ} → as_call o ≡ call_at items at
+  pub dead_impossible : (o : Operation) (done : List ℕ) {c : Content} {at : ℕ} → as_call o ≡ call_at items at
       → (IsSome (next c o.op) → ⊥) → IsDeadAt (length items) (call_at items) done c at
   dead_impossible o done e never rest h = never (rw (ap (λ (x : Call). x.op) e, h.3.does) refl)
 
-module _ {kind : Kind} {items : List Invocation} {floors return_floors : List ℕ} {pending : ℕ}
+module _ {kind : Kind} {items : List Operation} {floors return_floors : List ℕ} {pending : ℕ}
     (t : IsArranged kind items floors return_floors pending) where
   -- the least return so far is the least of all, if the returns of the places from here on are greater
   pub least_last : {done : List ℕ} {at least : ℕ} → IsLeastBelow (length items) (call_at items) done at least
@@ -137,7 +137,7 @@ module _ {kind : Kind} {items : List Invocation} {floors return_floors : List �
     ])
 
     -- and so is a place whose call is
-    pub dead_too_late : (o : Invocation) → as_call o ≡ call_at items to.at → to.window.least < 4294967295
+    pub dead_too_late : (o : Operation) → as_call o ≡ call_at items to.at → to.window.least < 4294967295
         → to.window.least < o.number → IsDeadAt (length items) (call_at items) (places ls) here.content to.at
     dead_too_late o eo small late =
         let e = ap (λ (x : Call). x.number) eo in

@@ -8,7 +8,7 @@ ghost use Rattle.search.specs.Remembered.{HasPair, AreDeadKept, IsRemembered, Is
 use crate::Reversible;
 use crate::not_done::NotDone;
 use crate::pairs::{Pair, Pairs};
-use events::Invocation;
+use events::Operation;
 use std::alloc::{AllocError, Global};
 use std::collections::BTreeSet;
 
@@ -29,7 +29,7 @@ const BYTES_OF_A_PLACE: usize = 8;
 fn key_count(
     alloc: Global,
     object: &Reversible,
-    items: &[Invocation],
+    items: &[Operation],
 ) -> Result<usize, AllocError> {
     let mut keys = BTreeSet::new(alloc);
     for item in items {
@@ -55,7 +55,7 @@ impl Dead {
     /// keys `object` can have, and so how many bytes a pair may take.
     ///
     /// An error: an allocation failed.
-    pub fn new(alloc: Global, object: &Reversible, items: &[Invocation]) -> Result<Dead, AllocError>
+    pub fn new(alloc: Global, object: &Reversible, items: &[Operation]) -> Result<Dead, AllocError>
         ensures older { IfOk result (λ d. d.older.pairs.items ≡ []) }
         ensures younger { IfOk result (λ d. d.younger.pairs.items ≡ []) }
     {

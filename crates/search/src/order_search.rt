@@ -11,7 +11,7 @@ ghost use Rattle.search.specs.Searching.{AreTrials, AreOwed, IsNoOrder, IsOrderO
 use crate::level::Level;
 use crate::trials::{Trials, TryFirst, call_count, return_count};
 use crate::walk::{Ending, State};
-use events::{Invocation, ObjectHistory};
+use events::{Operation, ObjectHistory};
 use std::alloc::{AllocError, Global};
 
 /// How a search ends.
@@ -36,14 +36,14 @@ pub struct OrderSearch {
     pub steps: u64,
 }
 
-/// How many operations `find_order` takes on.
-const MOST: usize = 4096;
+/// The most operations, without the failed ones, that `find_order` searches.
+const MAX_OPERATIONS: usize = 4096;
 
 /// How many operations have places, so that the one after the last is a number of 32 bits.
 const MOST_PLACES: usize = 4_294_967_294;
 
 /// The numbers of the operations at the places of the levels.
-fn order_of(alloc: Global, items: &[Invocation], levels: &[Level]) -> Result<Vec<i64>, AllocError>
+fn order_of(alloc: Global, items: &[Operation], levels: &[Level]) -> Result<Vec<i64>, AllocError>
     requires { All (λ l. l.place < length items.now) levels.now }
     ensures { IfOk result (λ v. v.items ≡ map
         (λ l. pos (call_at items.now l.place).number) levels.now) }
@@ -132,7 +132,7 @@ pub fn find_order(
     ensures memory { result.outcome ≡ OrderOutcome.NoMemory
         → Any (λ call. IsSome call.returned) (calls_of history.now.ops) }
 {
-    if call_count(history.ops()) > MOST {
+    if call_count(history.ops()) > MAX_OPERATIONS {
         return OrderSearch {
             outcome: OrderOutcome::TooLarge,
             steps: 0,

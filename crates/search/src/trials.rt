@@ -8,7 +8,7 @@ ghost use Rattle.events.specs.Operations.{call_of, calls_of, return_of, IsObject
 ghost use Rattle.search.specs.Arranged.{AreFloors, IsArranged, call_at};
 ghost use Rattle.search.specs.Outcomes.{max_places};
 
-use events::{End, Invocation, ObjectHistory};
+use events::{End, Operation, ObjectHistory};
 use seq_objects::Kind;
 use std::alloc::{AllocError, Global};
 
@@ -26,7 +26,7 @@ pub enum TryFirst {
 #[derive(Drop)]
 pub(crate) struct Trials {
     pub kind: Kind,
-    pub items: Vec<Invocation>,
+    pub items: Vec<Operation>,
     /// For each place the least number from there on.
     pub floors: Vec<u32>,
     /// For each place the least number from there on of an operation that returned.
@@ -36,7 +36,7 @@ pub(crate) struct Trials {
 }
 
 /// Whether the operation may have happened.
-fn may_have_happened(operation: &Invocation) -> bool
+fn may_have_happened(operation: &Operation) -> bool
     ensures { result ≡ is_some (call_of operation.now) }
 {
     match operation.end {
@@ -46,21 +46,21 @@ fn may_have_happened(operation: &Invocation) -> bool
 }
 
 /// How many operations did not fail.
-pub fn call_count(operations: &[Invocation]) -> usize
+pub fn call_count(operations: &[Operation]) -> usize
     ensures { result ≡ length (calls_of operations.now) }
 {
     operations.iter().filter(|o| may_have_happened(o)).count()
 }
 
 /// How many operations returned.
-pub(crate) fn return_count(operations: &[Invocation]) -> usize
+pub(crate) fn return_count(operations: &[Operation]) -> usize
     ensures { result ≡ count_by (λ o. is_some (return_of o.«end»)) operations.now }
 {
     operations.iter().filter(|o| o.end.has_returned()).count()
 }
 
 /// For each place the least number from there on, of all operations or of those that returned.
-fn floors_of(alloc: Global, items: &[Invocation], of_all: bool) -> Result<Vec<u32>, AllocError>
+fn floors_of(alloc: Global, items: &[Operation], of_all: bool) -> Result<Vec<u32>, AllocError>
     ensures { IfOk result (λ v. AreFloors of_all items.now v.items) }
 {
     let mut floors = vec![in alloc; u32::MAX; items.len()]?;
@@ -75,7 +75,7 @@ fn floors_of(alloc: Global, items: &[Invocation], of_all: bool) -> Result<Vec<u3
 }
 
 /// A place below which all operations have returned: the first one that has not, or the end.
-fn first_pending(items: &[Invocation]) -> u32
+fn first_pending(items: &[Operation]) -> u32
     requires { length items.now ≤ max_places }
     ensures within { result ≤ length items.now }
     ensures returned { (k : ℕ) → k < result → IsSome (call_at items.now k).returned }
@@ -99,7 +99,7 @@ fn return_number(end: &End) -> u64 {
 }
 
 /// The operations that may have happened.
-fn items_of(alloc: Global, operations: &[Invocation]) -> Result<Vec<Invocation>, AllocError>
+fn items_of(alloc: Global, operations: &[Operation]) -> Result<Vec<Operation>, AllocError>
     ensures { IfOk result (λ v. v.items ≡ filter (λ o. is_some (call_of o)) operations.now) }
 {
     operations
@@ -110,7 +110,7 @@ fn items_of(alloc: Global, operations: &[Invocation]) -> Result<Vec<Invocation>,
 }
 
 /// Puts the operations, which are by rising number, into the order in which they are tried.
-fn arrange(items: &mut Vec<Invocation>, first: TryFirst) -> Result<(), AllocError>
+fn arrange(items: &mut Vec<Operation>, first: TryFirst) -> Result<(), AllocError>
     ensures { IsPermutation items.old.items items.new.items }
 {
     match first {

@@ -21,7 +21,7 @@ use crate::not_done::NotDone;
 use crate::pairs::Pair;
 use crate::trials::Trials;
 use crate::{KeptContent, Reversible, Step};
-use events::{End, Invocation};
+use events::{End, Operation};
 use std::alloc::{AllocError, Global};
 
 /// How a walk ends.

@@ -159,7 +159,7 @@ module _ {count : ℕ} {d : Divider} {p : Pieces} {text : List ℕ} {written : F
       text_fault e from.0 from.1 (piece_is from.3) (λ ne. ends) (rw from.2 at last)
   fault_in fault (split_fault.Malformed (Maps f)) ends is last from =
       found_in (λ ds. IsFoundAmong ds f) ends ((rw from.0 at is) from.1)
-  fault_in fault (split_fault.FewShards x) ends is last from =
+  fault_in fault (split_fault.TooFewShards x) ends is last from =
       found_in (λ ds. NeedsMoreShards count ds x) ends (rw from at is)
   fault_in fault f ends is last from = tt
 

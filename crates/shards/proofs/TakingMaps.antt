@@ -20,7 +20,7 @@ use Rattle.history.specs.declared.fault.TextFault.TheVariants.{Text, Maps}
 use Rattle.history.specs.declared.map_texts.MapText.{MapText}
 use Rattle.shards.specs.declared.divider.Divider.{Divider}
 use Rattle.shards.specs.declared.fault.PieceFault.{PieceFault}
-use Rattle.shards.specs.declared.fault.PieceFault.TheVariants.{Malformed, FewShards}
+use Rattle.shards.specs.declared.fault.PieceFault.TheVariants.{Malformed, TooFewShards}
 use Rattle.shards.specs.Forms.{is_on}
 use Rattle.shards.specs.LargeObjects.{maps_on}
 use Rattle.shards.specs.ShardTexts.{IsSpelled, SaysRenamed, SpelledMap, map_lines, maps_of_shard}
@@ -335,7 +335,7 @@ module _ (ms : List MapText) (ds : List Datum) (i : ℕ) (z : MapText) (h : AreM
     found_in_all maps t.more (λ xs. IsFoundAmong xs f) (λ xs es. found_more xs es f) t.are
         (found (maps ++ t.more) form is_text.says t.taken few),
   )
-  piece_fault count d maps written piece (FewShards x) spells t found = (
+  piece_fault count d maps written piece (TooFewShards x) spells t found = (
     ds,
     spells,
     found_in_all maps t.more (λ xs. NeedsMoreShards count xs x) (λ xs es. unfit_more count xs es x) t.are

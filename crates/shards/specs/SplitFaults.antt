@@ -16,7 +16,7 @@ use Rattle.history.specs.declared.fault.HistoryFaultKind.TheVariants.{TooMany}
 use Rattle.history.specs.declared.fault.TextFault.{TextFault}
 use Rattle.history.specs.declared.fault.TextFault.TheVariants.{Text, Maps}
 use Rattle.shards.specs.declared.fault.SplitFault.{SplitFault}
-use Rattle.shards.specs.declared.fault.SplitFault.TheVariants.{Read, Write, Malformed, FewShards}
+use Rattle.shards.specs.declared.fault.SplitFault.TheVariants.{Read, Write, Malformed, TooFewShards}
 use Rattle.shards.specs.declared.fault.SplitFault.TheVariants.{NoMemory}
 use Rattle.shards.specs.Dividing.{FitsAmong, most_names}
 
@@ -94,7 +94,7 @@ IsFaultOf text left (Text e) = HasTextFault text left e
 abbrev pub IsSplitFault : ℕ → SplitFault → Option (List ℕ) → Option (List ℕ) → Type 0
 IsSplitFault count (Malformed fault) left left_after =
     (text : List ℕ) × Consumes left left_after text × IsFaultOf text left_after fault
-IsSplitFault count (FewShards x) left left_after =
+IsSplitFault count (TooFewShards x) left left_after =
     (text : List ℕ) × Consumes left left_after text
     × BeginsWith text left_after (λ ds. NeedsMoreShards count ds x)
 IsSplitFault count Read left left_after = ⊤
@@ -107,5 +107,5 @@ abbrev pub IsSplitFailureOf : SplitFault → Bool → Bool → Type 0
 IsSplitFailureOf Read source folder = source ≡ true
 IsSplitFailureOf Write source folder = folder ≡ true
 IsSplitFailureOf (Malformed fault) source folder = (source ≡ false) × (folder ≡ false)
-IsSplitFailureOf (FewShards x) source folder = (source ≡ false) × (folder ≡ false)
+IsSplitFailureOf (TooFewShards x) source folder = (source ≡ false) × (folder ≡ false)
 IsSplitFailureOf NoMemory source folder = ⊤

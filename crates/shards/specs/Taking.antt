@@ -10,7 +10,7 @@ use Rattle.history.specs.declared.fault.HistoryFaultKind.TheVariants as history_
 use Rattle.history.specs.declared.fault.TextFault.TheVariants.{Text, Maps}
 use Rattle.shards.specs.declared.divider.Divider.{Divider}
 use Rattle.shards.specs.declared.fault.PieceFault.{PieceFault}
-use Rattle.shards.specs.declared.fault.PieceFault.TheVariants.{Malformed, FewShards}
+use Rattle.shards.specs.declared.fault.PieceFault.TheVariants.{Malformed, TooFewShards}
 use Rattle.shards.specs.declared.waiting.Waiting.{Waiting}
 use Rattle.shards.specs.Dividing.{Files, ObjectFits, name_in_shard, places_from, shard_among}
 use Rattle.shards.specs.Dividing.{table_text}
@@ -130,17 +130,17 @@ IsPieceFault count ds text (Malformed (Text e)) =
     e.kind ≢ edn_kind.NoMemory → IsUnreadable text e
 IsPieceFault count ds text (Malformed (Maps f)) = f.kind ≢ history_kind.NoMemory
     → (es : List Datum) × Spells es text × IsFoundAmong (ds ++ es) f
-IsPieceFault count ds text (FewShards x) =
+IsPieceFault count ds text (TooFewShards x) =
     (es : List Datum) × Spells es text × NeedsMoreShards count (ds ++ es) x
 
 -- what was found in forms, the last of which is the map that was taken last
 abbrev pub IsMapFoundAmong : ℕ → List Datum → PieceFault → Type 0
 IsMapFoundAmong count ds (Malformed (Text e)) = ⊥
 IsMapFoundAmong count ds (Malformed (Maps f)) = f.kind ≢ history_kind.NoMemory → IsFoundAmong ds f
-IsMapFoundAmong count ds (FewShards x) = NeedsMoreShards count ds x
+IsMapFoundAmong count ds (TooFewShards x) = NeedsMoreShards count ds x
 
 -- the fault is that a piece is unreadable, and not one of its maps
 abbrev pub IsOfPiece : PieceFault → Type 0
 IsOfPiece (Malformed (Text e)) = ⊤
 IsOfPiece (Malformed (Maps f)) = ⊥
-IsOfPiece (FewShards x) = ⊥
+IsOfPiece (TooFewShards x) = ⊥

@@ -8,7 +8,7 @@ use Rattle.history.specs.declared.fault.TextFault.{TextFault}
 use Rattle.history.specs.declared.fault.TextFault.TheVariants.{Text, Maps}
 use Rattle.shards.specs.declared.divider.Divider.{Divider}
 use Rattle.shards.specs.declared.fault.SplitFault.{SplitFault}
-use Rattle.shards.specs.declared.fault.SplitFault.TheVariants.{Read, Write, Malformed, FewShards}
+use Rattle.shards.specs.declared.fault.SplitFault.TheVariants.{Read, Write, Malformed, TooFewShards}
 use Rattle.shards.specs.declared.fault.SplitFault.TheVariants.{NoMemory}
 use Rattle.shards.specs.declared.fault.PieceFault.{PieceFault}
 use Rattle.shards.specs.declared.fault.PieceFault.TheVariants as piece
@@ -52,7 +52,7 @@ pub record AreUnderWay (count : ℕ) (d : Divider) (p : Pieces) (text : List ℕ
 abbrev pub EndsInsideForm : PieceFault → Type 0
 EndsInsideForm (piece.Malformed (Text e)) = e.kind ≡ edn_kind.Unfinished
 EndsInsideForm (piece.Malformed (Maps f)) = ⊥
-EndsInsideForm (piece.FewShards x) = ⊥
+EndsInsideForm (piece.TooFewShards x) = ⊥
 
 -- what was read from this place on is too long
 abbrev pub too_long_at : ℕ → TextFault
@@ -65,7 +65,7 @@ IsFaultFrom start fault (Malformed (Text e)) = (place : ℕ) × (e.place ≡ sta
     × (fault ≡ piece.Malformed (Text (record e { place = place }))) × (e.kind ≢ edn_kind.NoMemory)
 IsFaultFrom start fault (Malformed (Maps f)) =
     (fault ≡ piece.Malformed (Maps f)) × (f.kind ≢ history_kind.NoMemory)
-IsFaultFrom start fault (FewShards x) = fault ≡ piece.FewShards x
+IsFaultFrom start fault (TooFewShards x) = fault ≡ piece.TooFewShards x
 IsFaultFrom start fault Read = ⊥
 IsFaultFrom start fault Write = ⊥
 IsFaultFrom start fault NoMemory = ⊤
@@ -74,7 +74,7 @@ IsFaultFrom start fault NoMemory = ⊤
 -- has left
 abbrev pub IsFaultIn : ℕ → List ℕ → Option (List ℕ) → SplitFault → Type 0
 IsFaultIn count text left (Malformed fault) = IsFaultOf text left fault
-IsFaultIn count text left (FewShards x) = BeginsWith text left (λ ds. NeedsMoreShards count ds x)
+IsFaultIn count text left (TooFewShards x) = BeginsWith text left (λ ds. NeedsMoreShards count ds x)
 IsFaultIn count text left Read = ⊤
 IsFaultIn count text left Write = ⊤
 IsFaultIn count text left NoMemory = ⊤
@@ -82,7 +82,7 @@ IsFaultIn count text left NoMemory = ⊤
 -- the source or the folder failed, or an allocation did: no clause says anything about the text
 abbrev pub IsOfHost : SplitFault → Type 0
 IsOfHost (Malformed fault) = ⊥
-IsOfHost (FewShards x) = ⊥
+IsOfHost (TooFewShards x) = ⊥
 IsOfHost Read = ⊤
 IsOfHost Write = ⊤
 IsOfHost NoMemory = ⊤

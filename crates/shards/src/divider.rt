@@ -113,7 +113,7 @@ impl Divider {
             return Ok(());
         };
         if !fits(map.object, self.shards) {
-            return Err(PieceFault::FewShards(map.object));
+            return Err(PieceFault::TooFewShards(map.object));
         }
         match self.put(alloc, &map, event.number, text) {
             Ok(()) => Ok(()),

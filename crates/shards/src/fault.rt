@@ -18,7 +18,7 @@ pub enum SplitFault {
     Malformed(TextFault),
     /// It has a map on this object, which needs more shards: there, two objects of a shard could
     /// have the same name.
-    FewShards(u32),
+    TooFewShards(u32),
     /// An allocation failed, or the text has more bytes than can be counted.
     NoMemory,
 }
@@ -37,7 +37,7 @@ impl From<AllocError> for SplitFault {
 #[derive(Clone, Copy)]
 pub(crate) enum PieceFault {
     Malformed(TextFault),
-    FewShards(u32),
+    TooFewShards(u32),
 }
 
 /// Whether the text ends inside a form. More text can complete the form; it can repair no other
@@ -59,7 +59,7 @@ pub(crate) fn ends_inside_form(fault: PieceFault) -> bool
             | FaultKind::TooLong
             | FaultKind::NoMemory => false,
         },
-        PieceFault::Malformed(TextFault::Maps(_)) | PieceFault::FewShards(_) => false,
+        PieceFault::Malformed(TextFault::Maps(_)) | PieceFault::TooFewShards(_) => false,
     }
 }
 
@@ -86,6 +86,6 @@ pub(crate) fn fault_from(start: usize, fault: PieceFault) -> SplitFault
             HistoryFaultKind::NoMemory => SplitFault::NoMemory,
             _ => SplitFault::Malformed(TextFault::Maps(fault)),
         },
-        PieceFault::FewShards(object) => SplitFault::FewShards(object),
+        PieceFault::TooFewShards(object) => SplitFault::TooFewShards(object),
     }
 }

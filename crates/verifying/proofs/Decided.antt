@@ -1,7 +1,7 @@
 -- The decisions on all objects together: if each is an order, the orders certify the history (`certifies`); if one is
 -- impossible, the history is not linearizable, by locality (`not_linearizable`).
 use Rattle.std.proofs.Common.{◌≡◌, ◌∙◌, ◌&&◌, ◌⊎◌, ℕ, Bool, List, [], ◌∷◌, true, false, All, Any, get_or, inl, inr}
-use Rattle.std.proofs.Common.{refl, ap, sym, subst, map}
+use Rattle.std.proofs.Common.{refl, ap, sym, map}
 use Rattle.std.specs.List.{list_all}
 use Rattle.std.proofs.lemmas.Option.{same_Some}
 use Rattle.model.specs.Linearizable.{IsLinearizable}
@@ -13,7 +13,6 @@ use Rattle.locality.specs.Locality.{HasValidOrder}
 use Rattle.events.specs.declared.event.Event.{Event}
 use Rattle.events.specs.Events.{kind_of_object, denoted}
 use Rattle.checker.proofs.Collected.{Certifies, AreOnAll}
-use Rattle.search.specs.Answers.{IsCertificateOf}
 use Rattle.verifying.specs.declared.claim.Claim.{Claim}
 use Rattle.verifying.specs.declared.claim.Claim.TheVariants as claim
 use Rattle.verifying.specs.Denotes.{claim_object}

@@ -11,7 +11,7 @@ use Rattle.verifying.specs.declared.claim.Claim.TheVariants as claim
 use Rattle.verifying.specs.Denotes.{claim_object}
 use Rattle.verifying.specs.declared.decision.ShownReason.{ShownReason}
 use Rattle.verifying.specs.declared.decision.Decision.{Decision}
-use Rattle.verifying.specs.declared.decision.Decision.TheVariants.{Order, Impossible, OutOfSteps, NoMemory, Open}
+use Rattle.verifying.specs.declared.decision.Decision.TheVariants.{Order, Impossible, OutOfSteps, Open}
 use Rattle.verifying.specs.Decisions.{IfOrder, IfImpossible, IfOutOfSteps, IsClaimAnswer, IsDecision, IsUntrue}
 use Rattle.verifying.specs.Decisions.{AsksForAnySearch, is_open, is_shown}
 

@@ -31,7 +31,7 @@ use std::process::ExitCode;
 fn main() -> ExitCode {
     let words = env::args_os().skip(1).map(OsString::into_string);
     let Ok(words) = words.collect::<Result<Vec<_>, _>>() else {
-        say(format_args!("a word of the command line is not UTF-8"));
+        say(format_args!("an argument is not UTF-8"));
         return Status::USAGE.into();
     };
     let status = match Command::parse(words) {

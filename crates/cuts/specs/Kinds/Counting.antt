@@ -60,14 +60,15 @@ takes Free Acquire (Some r) = true
 takes Held Release (Some r) = true
 takes what op r = false
 
--- whether an object of this kind contains the same once at most
-abbrev pub is_single : Kind → Bool
-is_single Queue = false
-is_single Stack = false
-is_single Heap = false
-is_single Register = true
-is_single Map = true
-is_single Mutex = true
-is_single Set = false
-is_single Counter = false
-is_single Lock = false
+-- whether a count on an object of this kind may begin at any number: a content can be there only
+-- once at a time
+abbrev pub may_count_from_any : Kind → Bool
+may_count_from_any Queue = false
+may_count_from_any Stack = false
+may_count_from_any Heap = false
+may_count_from_any Register = true
+may_count_from_any Map = true
+may_count_from_any Mutex = true
+may_count_from_any Set = false
+may_count_from_any Counter = false
+may_count_from_any Lock = false

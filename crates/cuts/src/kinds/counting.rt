@@ -95,9 +95,10 @@ pub(crate) fn takes(counted: Counted, op: AnyOp, reply: AnyReply) -> bool
     }
 }
 
-/// Whether an object of this kind contains the same once at most.
-pub(crate) fn is_single(kind: Kind) -> bool
-    ensures { result ≡ spec.is_single kind }
+/// Whether a count on an object of this kind may begin at any number: a content can be there only
+/// once at a time.
+pub(crate) fn may_count_from_any(kind: Kind) -> bool
+    ensures { result ≡ spec.may_count_from_any kind }
 {
     match kind {
         Kind::Register | Kind::Map | Kind::Mutex => true,

@@ -2,7 +2,7 @@
 -- (`late_shows`). The function returns `None` only where the value may have been there.
 use Rattle.std.proofs.Common.{ℤ, List, filter, ap, sym, ◌∙◌, subst, w64}
 use Rattle.std.proofs.lemmas.Int.{to_z-of_z}
-use Rattle.events.specs.declared.operations.Invocation.{Invocation}
+use Rattle.events.specs.declared.operations.Operation.{Operation}
 use Rattle.events.specs.Operations.{ObjectCalls, IsObjectHistory, calls_of}
 use Rattle.cuts.specs.Absent.{IsAbsent}
 use Rattle.cuts.specs.Cuts.{IsPart}
@@ -28,7 +28,7 @@ returns-clause-part c =
     let late = ap (filter (stays c.args.value c.args.before)) c.ops-operations.ensures.ops in
     let here = subst (λ (z : ℤ). IsAbsent z c.args.before (calls_of c.ops-operations.result.now)) same
     (c.is_absent.ensures.yes c.if-not-is_absent.false) in
-    let absent = subst (λ (os : List Invocation). IsAbsent c.args.value c.args.before (calls_of os))
+    let absent = subst (λ (os : List Operation). IsAbsent c.args.value c.args.before (calls_of os))
     c.ops-operations.ensures.ops here in
     subst (IsPart h) (sym (c.new.ensures
     ∙ same_history c.object.ensures c.kind.ensures (c.in_ok-ops.ensures ∙ own ∙ late)))
@@ -42,7 +42,7 @@ returns-clause-calls c =
     let late = ap (filter (stays c.args.value c.args.before)) c.ops-operations.ensures.ops in
     let here = subst (λ (z : ℤ). IsAbsent z c.args.before (calls_of c.ops-operations.result.now)) same
     (c.is_absent.ensures.yes c.if-not-is_absent.false) in (
-      subst (λ (os : List Invocation). IsAbsent c.args.value c.args.before (calls_of os))
+      subst (λ (os : List Operation). IsAbsent c.args.value c.args.before (calls_of os))
           c.ops-operations.ensures.ops here,
       ap (λ (z : ObjectCalls). calls_of z.ops) c.new.ensures ∙ ap calls_of (c.in_ok-ops.ensures ∙ own ∙ late)
           ∙ late_calls_of c.args.value c.args.before h.ops,
@@ -51,7 +51,7 @@ returns-clause-calls c =
 pub returns-then-not-is_absent-clause-refused : goal.returns-then-not-is_absent-clause-refused
 returns-then-not-is_absent-clause-refused c e part =
     let same = to_z-of_z w64 c.args.value c.ranges.value in
-    let there = subst (λ (os : List Invocation). IsAbsent c.args.value c.args.before (calls_of os))
+    let there = subst (λ (os : List Operation). IsAbsent c.args.value c.args.before (calls_of os))
     (sym c.ops-operations.ensures.ops) part in
     let yes = c.is_absent.ensures.no
     (subst (λ (z : ℤ). IsAbsent z c.args.before (calls_of c.ops-operations.result.now)) (sym same) there) in

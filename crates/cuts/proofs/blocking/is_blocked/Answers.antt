@@ -1,7 +1,7 @@
 -- `is_blocked`: the answer is true exactly where the removal is blocked, and then no order is valid. `decided_of`
 -- says so of the counts; without a removal of this number nothing is blocked.
 use Rattle.std.proofs.Common.{nat_lt, ◌&&◌, Bool, MatchBool, List, refl, sym, ◌∙◌, subst}
-use Rattle.events.specs.declared.operations.Invocation.{Invocation}
+use Rattle.events.specs.declared.operations.Operation.{Operation}
 use Rattle.events.specs.Operations.{calls_of}
 use Rattle.cuts.specs.Ahead.{IsBlocked}
 use Rattle.cuts.specs.CutOperations.{IsRemoval}
@@ -12,7 +12,7 @@ pub returns-in_default-clause-counts : goal.returns-in_default-clause-counts
 returns-in_default-clause-counts c b =
     let t = blocked_operation c.args.history.now.ops c.args.number c.args.from b in
     c.in_default.ensures.none refl b.removal.op b.at b.found
-    (subst (λ (os : List Invocation). IsRemoval os c.args.number b.removal.op b.at b.found)
+    (subst (λ (os : List Operation). IsRemoval os c.args.number b.removal.op b.at b.found)
     (sym c.ops-operations.ensures.ops) t)
 
 pub returns-then-settled-clause-counts : goal.returns-then-settled-clause-counts

@@ -5,7 +5,7 @@ use Rattle.std.specs.List.{filter_map}
 use Rattle.events.specs.Operations.{ObjectCalls, IsObjectHistory, calls_of}
 use Rattle.cuts.specs.Cuts.{keeps_value, keeps_number, IsPart}
 use Rattle.cuts.specs.CutOperations.{operation_at}
-use Rattle.cuts.specs.Kinds.{kind_of_part}
+use Rattle.cuts.specs.Kinds.{kind_at_cell}
 use Rattle.cuts.proofs.CutOperations.{same_history}
 use Rattle.cuts.proofs.Places.{part_history, part_calls_of, part_shows}
 use Rattle.cuts.proofs.cells.part_at.Goals as goal
@@ -16,7 +16,7 @@ new-requires c =
     let keeps = keeps_value c.args.values.now in
     let kept = keeps_number c.args.numbers.now in
     let ops = c.in_ok-ops.ensures ∙ ap (filter_map (operation_at cell.place keeps cell.other kept)) c.ops.ensures.ops in
-    let own = c.kind_of_part-kind.ensures ∙ ap (kind_of_part cell.place) c.kind.ensures in
+    let own = c.kind_at_cell-kind.ensures ∙ ap (kind_at_cell cell.place) c.kind.ensures in
     subst IsObjectHistory (sym (same_history c.object.ensures own ops))
     (part_history cell.place keeps cell.other kept c.args.history.now c.ops.ensures.kept)
 
@@ -26,7 +26,7 @@ returns-clause-part c =
     let keeps = keeps_value c.args.values.now in
     let kept = keeps_number c.args.numbers.now in
     let ops = c.in_ok-ops.ensures ∙ ap (filter_map (operation_at cell.place keeps cell.other kept)) c.ops.ensures.ops in
-    let own = c.kind_of_part-kind.ensures ∙ ap (kind_of_part cell.place) c.kind.ensures in
+    let own = c.kind_at_cell-kind.ensures ∙ ap (kind_at_cell cell.place) c.kind.ensures in
     subst (IsPart c.args.history.now) (sym (c.new.ensures ∙ same_history c.object.ensures own ops))
     (part_shows cell.place keeps cell.other kept c.args.history.now)
 

@@ -1,4 +1,4 @@
-use Rattle.cuts.specs.declared.kinds.Place.TheVariants.{OfKey}
+use Rattle.cuts.specs.declared.kinds.CellId.TheVariants.{OfKey}
 use Rattle.cuts.proofs.Places.{part_valid}
 use Rattle.cuts.proofs.laws.entry_is_valid.Goals as goal
 

@@ -2,7 +2,7 @@
 -- operations are cut by `operation_from`, and `from_shows` says that these calls are a part.
 use Rattle.std.proofs.Common.{refl, List, ap, sym, ◌∙◌, subst}
 use Rattle.std.specs.List.{filter_map}
-use Rattle.events.specs.declared.operations.Invocation.{Invocation}
+use Rattle.events.specs.declared.operations.Operation.{Operation}
 use Rattle.events.specs.Operations.{ObjectCalls, IsObjectHistory, calls_of}
 use Rattle.cuts.specs.Parts.{IsStart}
 use Rattle.cuts.specs.Cuts.{IsPart}
@@ -15,7 +15,7 @@ pub new-requires : goal.new-requires
 new-requires c =
     let h = c.args.history.now in
     let s = c.in-Some.start in
-    let start = subst (λ (os : List Invocation). IsStart (calls_of os) c.args.number s.at s.first)
+    let start = subst (λ (os : List Operation). IsStart (calls_of os) c.args.number s.at s.first)
     c.ops-operations.ensures.ops c.in-Some.ensures.some in
     subst IsObjectHistory (sym
     (same_history c.object.ensures c.kind.ensures
@@ -26,7 +26,7 @@ pub returns-clause-part : goal.returns-clause-part
 returns-clause-part c =
     let h = c.args.history.now in
     let s = c.in-Some.start in
-    let start = subst (λ (os : List Invocation). IsStart (calls_of os) c.args.number s.at s.first)
+    let start = subst (λ (os : List Operation). IsStart (calls_of os) c.args.number s.at s.first)
     c.ops-operations.ensures.ops c.in-Some.ensures.some in
     subst (IsPart h) (sym (c.new.ensures
     ∙ same_history c.object.ensures c.kind.ensures
@@ -37,7 +37,7 @@ pub returns-clause-calls : goal.returns-clause-calls
 returns-clause-calls c =
     let h = c.args.history.now in
     let s = c.in-Some.start in
-    let start = subst (λ (os : List Invocation). IsStart (calls_of os) c.args.number s.at s.first)
+    let start = subst (λ (os : List Operation). IsStart (calls_of os) c.args.number s.at s.first)
     c.ops-operations.ensures.ops c.in-Some.ensures.some in
     record {
       at = s.at;
@@ -52,5 +52,5 @@ returns-clause-calls c =
 pub returns-in_default-clause-refused : goal.returns-in_default-clause-refused
 returns-in_default-clause-refused c e part named =
     c.in_default.ensures.none refl named.at named.first
-    (subst (λ (os : List Invocation). IsStart (calls_of os) c.args.number named.at named.first)
+    (subst (λ (os : List Operation). IsStart (calls_of os) c.args.number named.at named.first)
     (sym c.ops-operations.ensures.ops) named.start)

@@ -3,7 +3,7 @@
 use Rattle.std.proofs.Common.{rules, arith, ◌≡◌, ◌+◌, ◌∷◌, [], length, length-append, vec_len, IfSome, sym, ap}
 use Rattle.std.proofs.Common.{subst, ◌∙◌}
 use Rattle.std.proofs.lemmas.List.Elements.{All-pop}
-use Rattle.publication.specs.Handles.{begun, fresh_places}
+use Rattle.publication.specs.Handles.{new_client_known, fresh_places}
 use Rattle.publication.specs.Making.{HasRoom, HasPlaces, AreDealt}
 use Rattle.publication.proofs.Dealing.{first_gone}
 use Rattle.publication.proofs.Growing.{numbered_more}
@@ -35,13 +35,13 @@ loop-journal-preserved g c =
       omega arith,
       search rules,
       omega arith,
-      numbered_more (begun (record {
+      numbered_more (new_client_known (record {
         table = c.args.table.now.shared.table_id;
         quota = c.args.quota;
         kinds = c.args.table.now.shared.key.kinds.items;
         lists = c.args.table.now.shared.key.lists.items;
       })) c.loop-journal.made.items c.push_reserved.new.self.items c.new_client.result pushed.items
-          (ap (begun (record {
+          (ap (new_client_known (record {
             table = c.args.table.now.shared.table_id;
             quota = c.args.quota;
             kinds = c.args.table.now.shared.key.kinds.items;

@@ -1,6 +1,6 @@
 use Rattle.std.proofs.Common.{◌≡◌, ◌+◌, ◌≤◌, [], length, All, vec_len, vec_capacity}
 use Rattle.desk_invariant.specs.Views.{maker_of}
-use Rattle.publication.specs.Handles.{AllBegun}
+use Rattle.publication.specs.Handles.{AreAllNew}
 use Rattle.publication.specs.Making.{HasRoom, AreDealt}
 use Rattle.publication.proofs.new_desk.make_all.Given as goal
 
@@ -12,7 +12,7 @@ invariant-loop-journal g l =
     × AreDealt l.number (vec_len l.journals) l.table.shared.key.lists.items l.owners.items
     × (vec_len l.made ≡ l.number) × (l.table.shared.key.clients ≤ vec_capacity l.made)
     × (length l.made.items ≡ l.number)
-    × AllBegun (record {
+    × AreAllNew (record {
       table = l.table.shared.table_id;
       quota = l.quota;
       kinds = l.table.shared.key.kinds.items;

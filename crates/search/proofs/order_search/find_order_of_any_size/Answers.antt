@@ -1,7 +1,7 @@
 -- `find_order_of_any_size`: the outcome is true of the history's calls. Where none returned the empty order is
 -- valid (`nothing_valid`). Else the search says it, which never answers that they are too many.
 use Rattle.std.proofs.Common.{List, length, count_by, ap, sym, ◌∙◌, arith}
-use Rattle.events.specs.declared.operations.Invocation.{Invocation}
+use Rattle.events.specs.declared.operations.Operation.{Operation}
 use Rattle.events.specs.Operations.{calls_of}
 use Rattle.search.proofs.Calls.{returns, some_returned, none_returned}
 use Rattle.search.proofs.Orders.{nothing_valid}
@@ -18,8 +18,8 @@ returns-then-left-eq0-clause-found c =
 
 pub search_operations-requires-clause-few : goal.search_operations-requires-clause-few
 search_operations-requires-clause-few c =
-    let n = c.call_count.ensures ∙ ap (λ (ops : List Invocation). length (calls_of ops)) c.ops-operations.ensures.ops in
-    let m = c.if-call_count-gt-MOST_PLACES.false in
+    let n = c.call_count.ensures ∙ ap (λ (ops : List Operation). length (calls_of ops)) c.ops-operations.ensures.ops in
+    let m = c.if-call_count-gt-MAX_OPERATIONS_PLACES.false in
     omega arith
 
 pub returns-clause-impossible : goal.returns-clause-impossible

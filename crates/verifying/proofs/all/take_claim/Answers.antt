@@ -1,14 +1,11 @@
 -- `take_claim`: the decision on the claim's object is the next one by the claim, and no other changes. The numbers
 -- rise, so the binary search finds the object's place (`is_own`), or no object has the number (`not_there`).
-use Rattle.std.proofs.Common.{rules, ◌≡◌, ◌∙◌, ◌<◌, ℕ, length, get_or, ap, sym, subst, arith}
+use Rattle.std.proofs.Common.{rules, ◌≡◌, ◌∙◌, ◌<◌, ℕ, length, get_or, ap, arith}
 use Rattle.std.proofs.Math.ListN.{set}
 use Rattle.std.proofs.lemmas.List.{get_or_default, length-set}
 use Rattle.std.proofs.lemmas.List.Sorted.{answers_always}
-use Rattle.std.specs.List.Sorted.{IsPartitionPoint}
-use Rattle.std.specs.Ordering.{nat_cmp}
-use Rattle.std.specs.declared.cmp.Ordering.TheVariants.{Less, Greater}
 use Rattle.verifying.specs.declared.decision.Decision.{Decision}
-use Rattle.verifying.specs.Taking.{IsNextDecision, no_answer}
+use Rattle.verifying.specs.Taking.{no_answer}
 use Rattle.verifying.proofs.Taken.{is_own, not_there, search_rises, taken}
 use Rattle.verifying.proofs.all.take_claim.Goals as goal
 
