@@ -19,7 +19,7 @@ inside (x ∷ xs) (suc i) a e = let low = inside xs i a e in omega arith
 pub all_new : (d : DeskId) (cs : List Known) → AreAllNew d cs → AreNew d cs
 all_new d cs begins c k at =
     let is : k ≡ new_client_known d c =
-        some-injective k (new_client_known d c) (sym at ∙ begins c (inside cs c k at)) in
+    some-injective k (new_client_known d c) (sym at ∙ begins c (inside cs c k at)) in
     record {
       desk = ap (λ z. z.desk) is;
       number = ap (λ z. z.knows.number) is;

@@ -8,7 +8,7 @@ ghost use Rattle.cuts.specs.Cuts.{IsPart};
 ghost use Rattle.cuts.specs.CutOperations.{stays, op_is_put_before, op_is_taken_before};
 
 use crate::kinds::containers::{is_removal, put_value};
-use events::{End, Operation, ObjectHistory};
+use events::{End, ObjectHistory, Operation};
 use seq_objects::AnyReply;
 use std::alloc::{AllocError, Global};
 

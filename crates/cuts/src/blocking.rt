@@ -17,7 +17,7 @@ ghost use Rattle.cuts.specs.CutOperations.{op_may_precede, op_may_take};
 
 use crate::kinds::containers::{is_removal, is_value_ahead, put_value, takes_first, takes_last};
 use crate::suffix::{is_before, operation_at};
-use events::{End, Operation, ObjectHistory};
+use events::{End, ObjectHistory, Operation};
 use seq_objects::{AnyOp, AnyReply};
 
 /// A removal that returned: its number, that of its response, and what it found.

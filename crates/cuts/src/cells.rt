@@ -13,7 +13,7 @@ use crate::keeping::Values;
 use crate::kinds::CellId;
 use crate::kinds::register::{finding, replacing, setting};
 use crate::touches::{Leave, Need, Touch};
-use events::{End, Operation, ObjectHistory};
+use events::{End, ObjectHistory, Operation};
 use seq_objects::{AnyOp, AnyReply, Kind};
 use std::alloc::{AllocError, Global};
 use std::collections::BTreeSet;

@@ -11,7 +11,7 @@ use crate::cells::{cell_part, entry_part};
 use crate::keeping::{Values, closed_part};
 use crate::prefix::prefix_until;
 use crate::suffix::suffix_from;
-use events::{End, Operation, ObjectHistory};
+use events::{End, ObjectHistory, Operation};
 use std::alloc::{AllocError, Global};
 use std::collections::BTreeSet;
 

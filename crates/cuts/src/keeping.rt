@@ -11,7 +11,7 @@ ghost use Rattle.cuts.specs.CutOperations.{is_kept_call, keeps_first};
 
 use crate::kinds::containers::{is_removal, put_value};
 use crate::kinds::keeping::reply_fits;
-use events::{End, Operation, ObjectHistory};
+use events::{End, ObjectHistory, Operation};
 use seq_objects::AnyReply;
 use std::alloc::{AllocError, Global};
 use std::collections::BTreeSet;

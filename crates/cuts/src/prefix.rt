@@ -7,7 +7,7 @@ ghost use Rattle.cuts.specs.Parts.{calls_before};
 ghost use Rattle.cuts.specs.Cuts.{IsPart};
 ghost use Rattle.cuts.specs.CutOperations.{end_before, operation_before};
 
-use events::{End, Operation, ObjectHistory};
+use events::{End, ObjectHistory, Operation};
 use std::alloc::{AllocError, Global};
 
 /// How an operation had ended before this number.

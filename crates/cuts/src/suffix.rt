@@ -17,7 +17,7 @@ ghost use Rattle.cuts.specs.CutOperations.{operation_later, operation_from, IsOn
 
 use crate::kinds::register::setting;
 use crate::kinds::starts::{First, first_of, key_of, written};
-use events::{End, Operation, ObjectHistory};
+use events::{End, ObjectHistory, Operation};
 use seq_objects::{AnyOp, AnyReply};
 use std::alloc::{AllocError, Global};
 

@@ -9,4 +9,4 @@ mod operations;
 pub use by_object::{split, split_share};
 pub use event::{Action, Event};
 pub use history::History;
-pub use operations::{End, Operation, ObjectHistory};
+pub use operations::{End, ObjectHistory, Operation};

@@ -19,7 +19,7 @@ mod usual;
 mod usual_map;
 
 pub use client_map::{ClientMap, MapType, OperationMap, function, plain_value};
-pub use events::{Action, End, Event, History, Operation, ObjectHistory, split};
+pub use events::{Action, End, Event, History, ObjectHistory, Operation, split};
 pub use fault::{HistoryFault, HistoryFaultKind, TextFault};
 pub use limit::limits_of_one_text;
 pub use long_reader::LongReader;

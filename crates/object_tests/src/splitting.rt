@@ -1,6 +1,6 @@
 //! Tests how a history is split into its objects, and into parts for workers.
 
-use events::{Action, End, Event, History, Operation, ObjectHistory, split, split_share};
+use events::{Action, End, Event, History, ObjectHistory, Operation, split, split_share};
 use seq_objects::{AnyOp, AnyReply, Kind};
 use std::alloc::Global;
 use std::test::Fail;

@@ -7,7 +7,7 @@ ghost use Rattle.reason_report.specs.Operations.{operation_line, operations_text
 ghost use Rattle.reason_report.specs.Segments.{comment_text};
 
 use crate::segments::{Segment, push_comment, push_segments};
-use events::{Action, End, Event, History, Operation, ObjectHistory};
+use events::{Action, End, Event, History, ObjectHistory, Operation};
 use seq_objects::{AnyOp, AnyReply, function_of, value_of_op, value_of_reply};
 use std::alloc::AllocError;
 

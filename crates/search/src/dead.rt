@@ -26,11 +26,7 @@ const BYTES_OF_A_PLACE: usize = 8;
 /// object has that was empty before them.
 ///
 /// An error: an allocation failed.
-fn key_count(
-    alloc: Global,
-    object: &Reversible,
-    items: &[Operation],
-) -> Result<usize, AllocError> {
+fn key_count(alloc: Global, object: &Reversible, items: &[Operation]) -> Result<usize, AllocError> {
     let mut keys = BTreeSet::new(alloc);
     for item in items {
         if let Some(key) = object.key_added(&item.op) {

@@ -11,7 +11,7 @@ ghost use Rattle.search.specs.Searching.{AreTrials, AreOwed, IsNoOrder, IsOrderO
 use crate::level::Level;
 use crate::trials::{Trials, TryFirst, call_count, return_count};
 use crate::walk::{Ending, State};
-use events::{Operation, ObjectHistory};
+use events::{ObjectHistory, Operation};
 use std::alloc::{AllocError, Global};
 
 /// How a search ends.

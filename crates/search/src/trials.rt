@@ -8,7 +8,7 @@ ghost use Rattle.events.specs.Operations.{call_of, calls_of, return_of, IsObject
 ghost use Rattle.search.specs.Arranged.{AreFloors, IsArranged, call_at};
 ghost use Rattle.search.specs.Outcomes.{max_places};
 
-use events::{End, Operation, ObjectHistory};
+use events::{End, ObjectHistory, Operation};
 use seq_objects::Kind;
 use std::alloc::{AllocError, Global};
 

@@ -26,9 +26,9 @@ adds_both (Some old) None new first second h k = absurd h
 adds_both (Some old) (Some mid) None first second h k = absurd k
 adds_both (Some old) (Some mid) (Some new) first second h k = λ s. (
   (k s).0 ∙ (ap (λ t. t ++ second.texts s) (h s).0
-  ∙ append_assoc (old.texts s) (first.texts s) (second.texts s)),
+      ∙ append_assoc (old.texts s) (first.texts s) (second.texts s)),
   (k s).1 ∙ (ap (λ t. t ++ second.tables s) (h s).1
-  ∙ append_assoc (old.tables s) (first.tables s) (second.tables s)),
+      ∙ append_assoc (old.tables s) (first.tables s) (second.tables s)),
 )
 
 -- ---- lines that move
@@ -40,7 +40,7 @@ lines_same : (lines : Waiting → List ℕ) (ws : List Waiting) (i : ℕ) (befor
 lines_same lines ws i before after gone within is moved written s = elim (cases_eq s i) [
   | inl q ↦
       rw (eq-eqb s i q, q, at_written lines [] ws i after within, at_read lines [] ws i before within is, moved)
-          (append_assoc written gone (lines after))
+      (append_assoc written gone (lines after))
   | inr ne ↦ rw (ne_eqb s i ne, at_others lines [] ws i after s ne, append-nil written)
 ]
 
