@@ -15,53 +15,62 @@ use Rattle.combiner.specs.Passes.{KeepsCalls}
 use Rattle.combiner.specs.Waits.{IsCallOver, IsWaitOver, IsLogged}
 use Rattle.combiner.proofs.Served.{seen_on, keeps_on, keeps_unpolled}
 
-pub returned : (v u w : DeskView) (a : AnyAnswer) → KeepsCalls v u → IsPollAnswer u a w → IsWaitOver v a w
-returned v u w a k p =
-    let done : length w.done ≡ length u.done + 1 =
-    ap (λ (z : DeskView). length z.done) p.knows ∙ length-append u.done _ in record {
-      ticket = p.ticket;
-      number = ap (λ z. z.number) p.knows ∙ k.number;
-      kinds = ap (λ z. z.kinds) p.knows ∙ k.kinds;
-      idle = ap (λ z. z.own) p.knows;
-      calls = done ∙ ap (λ z. length z + 1) k.done;
-      journal = p.journal ∙ (λ i. journal_of (k.done i) (own_request (k.own i)) ++ Returned p.ticket a ∷ []);
-      request = p.request;
-      waited = sym k.own ∙ p.waited;
-      seen = λ x. starts_longer (seen_of w x) (seen_of u x) (seen_of v x)
-          (subst (λ z. StartsWith (seen_of z x) (seen_of u x)) (sym p.knows)
-          (seen_on u.seen p.request.object p.log p.begins x)) (k.seen x);
+-- a client that has kept its calls, and then polls an answer, has waited
+pub returned : (view before after : DeskView) (answer : AnyAnswer) → KeepsCalls view before
+    → IsPollAnswer before answer after → IsWaitOver view answer after
+returned view before after answer kept polled =
+    let done : length after.done ≡ length before.done + 1 =
+    ap (λ (z : DeskView). length z.done) polled.knows ∙ length-append before.done _ in
+    record {
+      ticket = polled.ticket;
+      number = ap (λ z. z.number) polled.knows ∙ kept.number;
+      kinds = ap (λ z. z.kinds) polled.knows ∙ kept.kinds;
+      idle = ap (λ z. z.own) polled.knows;
+      calls = done ∙ ap (λ z. length z + 1) kept.done;
+      journal = polled.journal
+          ∙ (λ i. journal_of (kept.done i) (own_request (kept.own i)) ++ Returned polled.ticket answer ∷ []);
+      request = polled.request;
+      waited = sym kept.own ∙ polled.waited;
+      seen = λ x. starts_longer (seen_of after x) (seen_of before x) (seen_of view x)
+          (subst (λ z. StartsWith (seen_of z x) (seen_of before x)) (sym polled.knows)
+          (seen_on before.seen polled.request.object polled.log polled.begins x)) (kept.seen x);
       logged = record {
-        legal = subst (IsLegalLog (kind_at v.kinds p.request.object)) (sym p.seen)
-            (subst (λ z. IsLegalLog (kind_at z p.request.object) p.log) k.kinds p.legal);
-        counted = (λ i. entries_of_client (sym k.number i) (p.seen i))
-            ∙ (p.counted ∙ λ i. served p.request.object (k.number i) (k.done i) ++ logged (k.number i) p.request a);
-        later = subst (All (λ (e : AnyEntry). e.ticket < p.ticket)) (sym p.seen) p.later;
+        legal = subst (IsLegalLog (kind_at view.kinds polled.request.object)) (sym polled.seen)
+            (subst (λ z. IsLegalLog (kind_at z polled.request.object) polled.log) kept.kinds polled.legal);
+        counted = (λ i. entries_of_client (sym kept.number i) (polled.seen i))
+            ∙ (polled.counted ∙ λ i. served polled.request.object (kept.number i) (kept.done i)
+            ++ logged (kept.number i) polled.request answer);
+        later = subst (All (λ (e : AnyEntry). e.ticket < polled.ticket)) (sym polled.seen) polled.later;
       };
     }
 
-pub called : (v u w : DeskView) (object : ℕ) (op : AnyOp) (a : AnyAnswer) → IsPosted v object op u → IsWaitOver u a w
-    → IsCallOver v object op a w
-called v u w object op a p r = record {
-  invoked = p.ticket;
-  returned = r.ticket;
-  was_idle = p.was_idle;
-  number = r.number ∙ ap (λ z. z.number) p.knows;
-  kinds = r.kinds ∙ ap (λ z. z.kinds) p.knows;
-  idle = r.idle;
-  calls = r.calls ∙ ap (λ (z : DeskView). length z.done + 1) p.knows;
-  journal = r.journal ∙ (ap (λ z. z ++ Returned r.ticket a ∷ []) p.journal
-      ∙ append_assoc (journal v) (Invoked p.ticket object op ∷ []) (Returned r.ticket a ∷ []));
-  seen = subst (λ (z : DeskView). (x : ℕ) → StartsWith (seen_of w x) (seen_of z x)) p.knows r.seen;
-  logged = let q : AnyRequest = record { object = object; ticket = p.ticket; op = op } in
-      let is : r.request ≡ q =
-      (let e : own.Waiting r.request ≡ own.Waiting q = sym r.waited ∙ ap (λ z. z.own) p.knows in cc) in
-      let l = subst (λ (z : DeskView). IsLogged z q a r.ticket w) p.knows
-      (subst (λ z. IsLogged u z a r.ticket w) is r.logged) in
+-- a client that posts a call, and then waits for the answer, has made the call
+pub called : (view posted after : DeskView) (object : ℕ) (op : AnyOp) (answer : AnyAnswer)
+    → IsPosted view object op posted → IsWaitOver posted answer after → IsCallOver view object op answer after
+called view posted after object op answer post over = record {
+  invoked = post.ticket;
+  returned = over.ticket;
+  was_idle = post.was_idle;
+  number = over.number ∙ ap (λ z. z.number) post.knows;
+  kinds = over.kinds ∙ ap (λ z. z.kinds) post.knows;
+  idle = over.idle;
+  calls = over.calls ∙ ap (λ (z : DeskView). length z.done + 1) post.knows;
+  journal = over.journal ∙ (ap (λ z. z ++ Returned over.ticket answer ∷ []) post.journal
+      ∙ append_assoc (journal view) (Invoked post.ticket object op ∷ []) (Returned over.ticket answer ∷ []));
+  seen = subst (λ (z : DeskView). (x : ℕ) → StartsWith (seen_of after x) (seen_of z x)) post.knows over.seen;
+  logged =
+      let request : AnyRequest = record { object = object; ticket = post.ticket; op = op } in
+      let waited : own.Waiting over.request ≡ own.Waiting request = sym over.waited ∙ ap (λ z. z.own) post.knows in
+      let is : over.request ≡ request = cc in
+      let l = subst (λ (z : DeskView). IsLogged z request answer over.ticket after) post.knows
+      (subst (λ z. IsLogged posted z answer over.ticket after) is over.logged) in
       record { legal = l.legal; counted = l.counted; later = l.later };
 }
 
--- A round without an answer keeps the client's calls (v: before the loop; u: before the round; p: after the poll; e:
--- after the enlisting; w: after the round).
-pub keeps_round : (v u p e w : DeskView) → KeepsCalls v u → IsPollMiss u p → e ≡ p → KeepsCalls e w → KeepsCalls v w
-keeps_round v u p e w before none same after =
-    keeps_on v u w before (keeps_on u p w (keeps_unpolled u p none) (subst (λ z. KeepsCalls z w) same after))
+-- A round without an answer keeps the client's calls: the views are those before the loop, before the round, and after
+-- its poll, its enlisting and all of it.
+pub keeps_round : (first before polled enlisted after : DeskView) → KeepsCalls first before → IsPollMiss before polled
+    → enlisted ≡ polled → KeepsCalls enlisted after → KeepsCalls first after
+keeps_round first before polled enlisted after kept none same round =
+    keeps_on first before after kept
+    (keeps_on before polled after (keeps_unpolled before polled none) (subst (λ z. KeepsCalls z after) same round))

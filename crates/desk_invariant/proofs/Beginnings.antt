@@ -107,7 +107,7 @@ module _ {S O R : Type 0} (content : S → Content) (op_in : O → AnyOp) (reply
       rows = λ r l. zeros (row_place r);
       ends = λ c l. zeros (end_place c);
       clock = zeros clock_place;
-      cores = λ x l e. let k = cores x l in (k.0, at_map some slots x (slot.Core k.0) k.1, k.2);
+      cores = λ x l e. let (core, home, fits) = cores x l in (core, at_map some slots x (slot.Core core) home, fits);
       calls = λ r l. at_map some slots (16 + r) slot.Nothing (others (16 + r) (omega arith) (omega arith));
       journals = λ c l. record {
         at_first = λ e. at_map some slots (48 + c) slot.Nothing (others (48 + c) (omega arith) (omega arith));
@@ -143,7 +143,7 @@ module _ {S O R : Type 0} (content : S → Content) (op_in : O → AnyOp) (reply
       let here : ℕ = length (set state.views id maker) in
       let seat_of' : ℕ → ℕ = changed rule.seat_of client here in
       let old = rule.seats id view at in
-      let none_yet = old.unmade is client (omega arith) in
+      let (is_absent, none_done, going, none_held) = old.unmade is client (omega arith) in
       let few = rule.few_clients in
       let nothing_seen : (x : ℕ) → StartsWith (world.log x) (seen_of new x) =
       λ x. (world.log x, ap (λ z. z ++ world.log x) (sym (unseen view.kinds view.lists client x))) in
@@ -152,14 +152,14 @@ module _ {S O R : Type 0} (content : S → Content) (op_in : O → AnyOp) (reply
         number = refl;
         small = omega arith;
         kinds_are = old.maker_kinds is;
-        done = sym none_yet.1;
-        own = none_yet.0;
+        done = sym none_done;
+        own = is_absent;
         ready = λ f. absurd (cc);
         wide_seen = refl;
         seen = nothing_seen;
         covers = λ x. ([], ap (entries_of_client client) (unseen view.kinds view.lists client x));
-        held = none_yet.3;
-        ended = none_yet.2;
+        held = none_held;
+        ended = going;
         retired = All-nil (λ d. world.ended d ≡ true);
         back = All-nil (λ (b : PutBack). (world.stage b.row ≡ posted b.request)
             × (world.holder b.request.object ≡ Some client));
@@ -181,11 +181,11 @@ module _ {S O R : Type 0} (content : S → Content) (op_in : O → AnyOp) (reply
                 (one_made kinds rule.lists world rule.seat_of seat_of' id j view is old)
             | inr h ↦
                 let b = rule.seats j u h.1 in
+                let not_new : u.role ≡ role.Client → u.number ≢ client =
+                λ f same. let made = (rule.makers.made id view at is j u h.1).0 f in omega arith in
                 let seat : u.role ≡ role.Client → (seat_of' u.number ≡ j) × SeatAgrees kinds world u.number u =
-                λ f.
-                let low' = (rule.makers.made id view at is j u h.1).0 f in
-                let g = b.client f in
-                (changed_else rule.seat_of client here u.number (λ x. omega arith) ∙ g.0, g.1) in
+                λ f. let (sits, knows) = b.client f in
+                (changed_else rule.seat_of client here u.number (not_new f) ∙ sits, knows) in
                 assumption seat
           ]
           | inr t ↦ subst (λ z. ViewAgrees kinds rule.lists world seat_of' j z) t.1 record {

@@ -24,7 +24,6 @@ use Rattle.desk_invariant.specs.declared.board.Held.TheVariants as held
 use Rattle.desk_invariant.specs.declared.board.Role.TheVariants as role
 use Rattle.desk_invariant.specs.declared.board.DeskView.{DeskView}
 use Rattle.desk_model.specs.declared.Request.{Request}
-use Rattle.desk_model.specs.declared.Answer.{Answer}
 use Rattle.desk_model.specs.World.{AnyEntry, AnyRequest, AnyAnswer, AnyDone, Stage, idle, drawn, posted, picked}
 use Rattle.desk_model.specs.World.{answered, taken, World, kind_at, logged, logged_on, entries_of_client, served}
 use Rattle.desk_model.specs.World.{served_now, request_of, calls_made, journal_of, IsLegalLog, StartsWith}
@@ -37,8 +36,8 @@ use Rattle.desk_invariant.specs.Views.{row_place, clock_place, seen_of, owed, af
 use Rattle.desk_invariant.specs.Views.{after_return, after_meet}
 use Rattle.desk_invariant.specs.Rule.{row_word, OwnCallAgrees, HeldAgrees, SeatAgrees, CallAt}
 use Rattle.desk_invariant.specs.Plays as play
-use Rattle.desk_invariant.proofs.Seats.{NotPosted, NotAnswered, Later, Leaves, row_leaves, alike, After, kept_after}
-use Rattle.desk_invariant.proofs.Seats.{come_after, looks, mine, misses, Rule}
+use Rattle.desk_invariant.proofs.Seats.{NotPosted, NotAnswered, IsAnswered, rows_stay, Later, Leaves, row_leaves}
+use Rattle.desk_invariant.proofs.Seats.{alike, After, kept_after, come_after, looks, mine, misses, Rule}
 use Rattle.desk_invariant.proofs.Seeing.{all_covered, saw, seen_all}
 use Rattle.desk_invariant.proofs.Ties.{tied_row, tied_clock}
 use Rattle.desk_model.proofs.Tickets.{all_before}
@@ -96,18 +95,10 @@ module _ (world : World) (clock client : ℕ) (stage : Stage) (dones : ℕ → L
       → Covers client view done call → SeatAgrees kinds world client view
       → SeatAgrees kinds gone client (record view { own = call; done = done; ready = false })
   seat_gone kinds view call done unpicked unposted is over covers ok =
-      let ready : false ≡ true → (q : AnyRequest) × (a : AnyAnswer)
-      × (changed world.stage client stage client ≡ answered q a) =
-      λ e. absurd cc in
+      let ready : false ≡ true → IsAnswered (changed world.stage client stage client) = λ e. absurd cc in
       let own : OwnCallAgrees call (changed world.stage client stage client) =
       rw (changed_here world.stage client stage) is in
-      let back : All (λ b. (changed world.stage client stage b.row ≡ posted b.request)
-      × (world.holder b.request.object ≡ Some client)) view.back =
-      λ i d l.
-      let b = ok.back i d l in
-      let p = get_or view.back i d in
-      let other : p.row ≢ client = λ same. unposted p.request (ap world.stage (sym same) ∙ b.0) in
-      (changed_else world.stage client stage p.row other ∙ b.0, b.1) in
+      let back = rows_stay world client client stage view.back unposted ok.back in
       assumption (held_gone (length kinds) view.held unpicked ok.held)
 
   -- the same of a client whose row was not answered
@@ -118,7 +109,7 @@ module _ (world : World) (clock client : ℕ) (stage : Stage) (dones : ℕ → L
       → SeatAgrees kinds gone client (record view { own = call; done = done })
   seat_unanswered kinds view call done unpicked unposted unanswered is over covers ok =
       let not : view.ready ≡ false =
-      false_from_ne_true view.ready (λ e. let a = ok.ready e in unanswered a.0 a.1 a.2) in
+      false_from_ne_true view.ready (λ e. let (q, a, at) = ok.ready e in unanswered q a at) in
       subst (λ b. SeatAgrees kinds gone client (record view { own = call; done = done; ready = b })) (sym not)
       (seat_gone kinds view call done unpicked unposted is over covers ok)
 
@@ -274,7 +265,7 @@ module _ {S O R : Type 0} (content : S → Content) (op_in : O → AnyOp) (reply
   not_ready : (world : World) (client : ℕ) (view : DeskView) → SeatAgrees kinds world client view
       → row_word (world.stage client) ≢ 33 → view.ready ≡ false
   not_ready world client view ok miss =
-      false_from_ne_true view.ready (λ e. let a = ok.ready e in miss (ap row_word a.2))
+      false_from_ne_true view.ready (λ e. let (q, a, at) = ok.ready e in miss (ap row_word at))
 
   -- what the client has seen of each object, after it has taken the answer with a log that has it
   covers_taken : (world : World) (client : ℕ) (view : DeskView) (request : AnyRequest) (answer : AnyAnswer)
@@ -332,13 +323,10 @@ module _ {S O R : Type 0} (content : S → Content) (op_in : O → AnyOp) (reply
       (λ hit.
       let object : ℕ = request.object in
       let log : List AnyEntry = world.log object in
-      let there = is_answered me.0.own (world.stage client) request is low ok.own (sym word ∙ hit) in
-      let answer : AnyAnswer = there.0 in
-      let was : world.stage client ≡ answered request answer = there.1 in
+      let (answer, was) = is_answered me.0.own (world.stage client) request is low ok.own (sym word ∙ hit) in
       let home = subst (CallAt content op_in reply_in (get_elem? state.homes (16 + client))) was
       (rule.tied.calls client few) in
-      let given : Answer R = home.0 in
-      let image : answer_in reply_in given ≡ answer = home.2 in
+      let (given, at_home, image) = home in
       let numbered : client < clients = subst (λ z. z < clients) number (rule.makers.numbers id me.0 at is_client) in
       let stage : Stage = taken request answer in
       let view' : DeskView = after_take request (answer_in reply_in given) log me.0 in
@@ -407,7 +395,7 @@ module _ {S O R : Type 0} (content : S → Content) (op_in : O → AnyOp) (reply
       ) in (
         view',
         takes (16 + client) (slot.Answer given),
-        home.1,
+        at_home,
         rw (eq-eqb found 33 hit) (kept_after rule id view' at is_client alike after),
         told,
       ))
@@ -478,10 +466,10 @@ module _ {S O R : Type 0} (content : S → Content) (op_in : O → AnyOp) (reply
       let logged_early : All (λ (y : AnyEntry). y.ticket < found) (world.log object) =
       subst (λ n. All (λ (y : AnyEntry). y.ticket < n) (world.log object)) (sym rule.tied.clock)
       (rule.sound.early object) in
-      let begins = ok.seen object in
+      let (more, begins) = ok.seen object in
       let seen_early : All (λ (y : AnyEntry). y.ticket < found) (seen_of me.0 object) =
-      all_before (λ (y : AnyEntry). y.ticket < found) (seen_of me.0 object) begins.0
-      (subst (All (λ (y : AnyEntry). y.ticket < found)) begins.1 logged_early) in
+      all_before (λ (y : AnyEntry). y.ticket < found) (seen_of me.0 object) more
+      (subst (All (λ (y : AnyEntry). y.ticket < found)) begins logged_early) in
       let told : play.returns content op_in reply_in (step slots clock_place 1 0 maybe.none) me found (view', me.1) =
       λ q a is'.
       let e = sym is ∙ is' in (

@@ -5,7 +5,7 @@ use mathlib.Core.Logic.{dite}
 use mathlib.Core.Option as maybe
 use mathlib.Core.Option.{some}
 use native.Mathlib.Decide.{ℕ_discrete}
-use Rattle.std.proofs.lemmas.List.Elements.{All-push}
+use Rattle.std.proofs.lemmas.List.Elements.{All-push, All-weaker}
 use Rattle.atomic_table.specs.Table.{State, Me, Step, step, keeps, gives, Allows}
 use Rattle.model.specs.declared.Kind.{Kind}
 use Rattle.model.specs.declared.AnyOp.{AnyOp}
@@ -26,7 +26,7 @@ use Rattle.desk_model.proofs.Entries.{starts_same}
 use Rattle.desk_model.proofs.Effects.{sound_ended}
 use Rattle.desk_invariant.specs.Views.{end_place, own_request, journal, IsAtRest, after_end, after_end_seen}
 use Rattle.desk_invariant.specs.Views.{after_end_unset}
-use Rattle.desk_invariant.specs.Rule.{end_word, OwnCallAgrees, HeldAgrees, SeatAgrees}
+use Rattle.desk_invariant.specs.Rule.{end_word, OwnCallAgrees, HeldAgrees, SeatAgrees, HasLeft}
 use Rattle.desk_invariant.specs.Plays as play
 use Rattle.desk_invariant.proofs.Seats.{Later, alike, After, kept_after, seat_knowing, mine, unmoved, Rule}
 use Rattle.desk_invariant.proofs.Ties.{tied_end}
@@ -46,8 +46,8 @@ seat_ended : (kinds : List Kind) (world : World) (client : ℕ) (view : DeskView
     → SeatAgrees kinds (ended_by world client) client (after_end view)
 seat_ended kinds world client view ok =
     let over = changed_here world.ended client true in
-    let told : All (λ d. changed world.ended client true d ≡ true) view.retired =
-    λ i d l. still_ended world client (get_or view.retired i d) (ok.retired i d l) in
+    let told = All-weaker (λ d. world.ended d ≡ true) (λ d. changed world.ended client true d ≡ true)
+    (still_ended world client) view.retired ok.retired in
     assumption
 
 is_ended : (b : Bool) → end_word b ≡ 1 → b ≡ true
@@ -90,8 +90,8 @@ module _ {S O R : Type 0} (content : S → Content) (op_in : O → AnyOp) (reply
       record {
         world = world';
         holders = λ x d e.
-            let b = rule.holders x d e in
-            (b.0, changed_else world.ended client true d (λ same. nothing x (e ∙ ap Some same)) ∙ b.1);
+            let (low, going) = rule.holders x d e in
+            (low, changed_else world.ended client true d (λ same. nothing x (e ∙ ap Some same)) ∙ going);
         come = rule.come;
         sound = sound_ended kinds quota world client rule.sound;
         tied = tied_end client book ok.small come says' rule.tied;
@@ -127,14 +127,17 @@ module _ {S O R : Type 0} (content : S → Content) (op_in : O → AnyOp) (reply
       (λ miss.
       let view' : DeskView = after_end_unset another me.0 in
       let knows : SeatAgrees kinds world me.0.number view' = seat_knowing ok.ready ok.retired ok in
+      let not_told : All (λ l. l.client ≢ another) me.0.left =
+      All-weaker (HasLeft world) (λ l. l.client ≢ another)
+      (λ l left there. miss (word ∙ ap end_word (ap world.ended (sym there) ∙ left.0))) me.0.left
+      (rule.seats id me.0 at).left in
       let told : play.sees_end content op_in reply_in look me found (view', me.1) =
       λ another' place.
-      let same : another ≡ another' = omega arith in
-      let not_told : All (λ l. l.client ≢ another') me.0.left =
-      λ i z l there.
-      let ended = ((rule.seats id me.0 at).left i z l).0 in
-      miss (word ∙ ap end_word (ap world.ended (same ∙ sym there) ∙ ended)) in (
+      let same : another ≡ another' = omega arith in (
         (λ hit. absurd (miss hit)),
-        λ _. (ap (λ z. (after_end_unset z me.0, me.1)) same, not_told),
+        λ _. (
+          ap (λ z. (after_end_unset z me.0, me.1)) same,
+          subst (λ z. All (λ l. l.client ≢ z) me.0.left) same not_told,
+        ),
       ) in
       (view', keeps, tt, unmoved rule (end_place another) id view' me.1 at is_client alike knows, told))

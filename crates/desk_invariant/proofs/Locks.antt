@@ -7,7 +7,7 @@ use mathlib.Core.Option as maybe
 use mathlib.Core.Option.{some}
 use native.Mathlib.Decide.{ℕ_discrete}
 use prog.Atomic.{either}
-use Rattle.std.proofs.lemmas.List.Elements.{All-nil}
+use Rattle.std.proofs.lemmas.List.Elements.{All-nil, All-weaker}
 use Rattle.std.proofs.lemmas.Option.{same_Some}
 use lib.ListN.{get_elem?}
 use Rattle.atomic_table.specs.Seated.{TableId}
@@ -24,7 +24,7 @@ use Rattle.desk_invariant.specs.declared.board.Held.TheVariants as held
 use Rattle.desk_invariant.specs.declared.board.PutBack.{PutBack}
 use Rattle.desk_invariant.specs.declared.board.Role.TheVariants as role
 use Rattle.desk_invariant.specs.declared.board.DeskView.{DeskView}
-use Rattle.desk_model.specs.World.{AnyEntry, posted, World, kind_at, StartsWith}
+use Rattle.desk_model.specs.World.{AnyEntry, World, kind_at, StartsWith}
 use Rattle.desk_model.specs.Transitions.{changed, held_by}
 use Rattle.desk_model.proofs.Changed.{changed_here, changed_else, changed_all}
 use Rattle.desk_model.proofs.Entries.{starts_same}
@@ -32,7 +32,7 @@ use Rattle.desk_model.proofs.Effects.{sound_held}
 use Rattle.desk_invariant.specs.Views.{after_miss, after_win, after_release, after_meet, IsAtRest, IsAccount}
 use Rattle.desk_invariant.specs.Rule.{lock_word, HoldsOnly, CoreFits, HeldAgrees, SeatAgrees}
 use Rattle.desk_invariant.specs.Plays as play
-use Rattle.desk_invariant.proofs.Seats.{Later, alike, pass_of, After, kept_after, looks, mine, misses, Rule}
+use Rattle.desk_invariant.proofs.Seats.{InRow, Later, alike, pass_of, After, kept_after, looks, mine, misses, Rule}
 use Rattle.desk_invariant.proofs.Seeing.{all_covered, saw, accounts}
 use Rattle.desk_invariant.proofs.Ties.{tied_lock}
 
@@ -66,13 +66,21 @@ held_log (held.Pass x l) = l
 held_log (held.Hand x l r q) = l
 held_log o = []
 
+-- a pass has one object and one log
+pub one_object : {holding : Held} {object object' : ℕ} {log log' : List AnyEntry} → holding ≡ held.Pass object log
+    → holding ≡ held.Pass object' log' → object ≡ object'
+one_object is is' = ap held_object (sym is ∙ is')
+
+pub one_log : {holding : Held} {object object' : ℕ} {log log' : List AnyEntry} → holding ≡ held.Pass object log
+    → holding ≡ held.Pass object' log' → log ≡ log'
+one_log is is' = ap held_log (sym is ∙ is')
+
 -- The client whose object goes to another holder agrees with the world then: what it holds does, and what was put back
 -- is in its row, with its object held.
 seat_held : (kinds : List Kind) (world : World) (client object : ℕ) (holder : Option ℕ) (view : DeskView)
     (holding : Held) (back : List PutBack) (won : ℕ)
-    → All (λ b. (world.stage b.row ≡ posted b.request)
-    × (changed world.holder object holder b.request.object ≡ Some client)) back
-    → SeatAgrees kinds world client view → HeldAgrees (length kinds) (held_by world object holder) client holding
+    → All (InRow world.stage (changed world.holder object holder) client) back → SeatAgrees kinds world client view
+    → HeldAgrees (length kinds) (held_by world object holder) client holding
     → SeatAgrees kinds (held_by world object holder) client (record view { held = holding; back = back; won = won })
 seat_held kinds world client object holder view holding back won in_rows ok now = assumption
 
@@ -117,8 +125,7 @@ module _ {S O R : Type 0} (content : S → Content) (op_in : O → AnyOp) (reply
       free_lock (world.holder object) (sym (rule.tied.locks object inside) ∙ hit) in
       let nothing : (y : ℕ) → world.holder y ≢ Some client =
       subst (HeldAgrees (length kinds) world client) free ok.held in
-      let home = rule.tied.cores object inside none_holds in
-      let core : Core S O R = home.0 in
+      let (core, at_home, fits_world) = rule.tied.cores object inside none_holds in
       let log : List AnyEntry = world.log object in
       let world' : World = held_by world object (Some client) in
       let view' : DeskView = after_win object log me.0 in
@@ -129,15 +136,11 @@ module _ {S O R : Type 0} (content : S → Content) (op_in : O → AnyOp) (reply
       changed_all (λ y h. h ≡ Some client → y ≡ object) world.holder object (Some client) (λ _. refl)
       (λ y _ e. absurd (nothing y e)) in
       let now : HeldAgrees (length kinds) world' client (held.Pass object log) = (inside, holds, empty, refl, only) in
-      let in_rows : All (λ b. (world.stage b.row ≡ posted b.request)
-      × (world'.holder b.request.object ≡ Some client)) me.0.back =
-      λ i d l.
-      let b = ok.back i d l in
-      let x : ℕ = (get_or me.0.back i d).request.object in (
-        b.0,
-        changed_all (λ y h. world.holder y ≡ Some client → h ≡ Some client) world.holder object (Some client)
-            (λ _. refl) (λ y _ e. e) x b.1,
-      ) in
+      let still : (y : ℕ) → world.holder y ≡ Some client → world'.holder y ≡ Some client =
+      changed_all (λ y h. world.holder y ≡ Some client → h ≡ Some client) world.holder object (Some client)
+      (λ _. refl) (λ y _ e. e) in
+      let in_rows = All-weaker (InRow world.stage world.holder client) (InRow world.stage world'.holder client)
+      (λ b at. (at.0, still b.request.object at.1)) me.0.back ok.back in
       let after : After rule me.0 view' (set state.words object word) (set state.homes object maybe.none) = record {
         world = world';
         holders = λ y d. changed_all (λ y h. h ≡ Some d → (d < clients) × (world.ended d ≡ false)) world.holder object
@@ -161,12 +164,12 @@ module _ {S O R : Type 0} (content : S → Content) (op_in : O → AnyOp) (reply
       let lists_are = (rule.seats id me.0 at).lists_are is_client in
       let fits : CoreFits content op_in reply_in (kind_at me.0.kinds object) (get_elem? me.0.lists object) core log =
       subst (λ (z : List Kind × List TableId). CoreFits content op_in reply_in (kind_at z.0 object)
-      (get_elem? z.1 object) core log) (λ i. (sym ok.kinds_are i, sym lists_are i)) home.2 in
+      (get_elem? z.1 object) core log) (λ i. (sym ok.kinds_are i, sym lists_are i)) fits_world in
       let told : play.wins content op_in reply_in attempt me found (view', (object, slot.Core core) ∷ me.1) =
       λ _. ((λ _. (core, log, refl, fits, ok.seen object)), λ miss. absurd (miss hit)) in (
         view',
         takes object (slot.Core core),
-        home.1,
+        at_home,
         rw (eq-eqb found 0 hit) (kept_after rule id view' at is_client alike after),
         told,
       ))
@@ -209,8 +212,7 @@ module _ {S O R : Type 0} (content : S → Content) (op_in : O → AnyOp) (reply
       let nothing : (y : ℕ) → world'.holder y ≢ Some client =
       changed_all (λ y h. h ≢ Some client) world.holder object None (λ e. absurd (cc))
       (λ y other e. other (pass.only y e)) in
-      let no_rows = All-nil (λ (b : PutBack). (world.stage b.row ≡ posted b.request)
-      × (world'.holder b.request.object ≡ Some client)) in
+      let no_rows = All-nil (InRow world.stage world'.holder client) in
       let after : After rule me.0 view' (set state.words object 0) (set state.homes object (some (slot.Core core))) =
       record {
         world = world';
@@ -232,9 +234,8 @@ module _ {S O R : Type 0} (content : S → Content) (op_in : O → AnyOp) (reply
       accounts kinds quota world object me.0 (world.log object) calm ok.done ok.own rule.sound
       (starts_same (world.log object)) covers in
       let told : play.releases content op_in reply_in (step slots object 0 0 maybe.none) me 0 (view', rest me.1) =
-      λ log' holding'.
-      let same : log ≡ log' = ap held_log (sym holding ∙ holding') in (
-        ap (λ z. (after_release object z me.0, rest me.1)) same,
-        subst (IsAccount object me.0) (pass.logged ∙ same) account,
+      λ log' holding'. (
+        ap (λ z. (after_release object z me.0, rest me.1)) (one_log holding holding'),
+        subst (IsAccount object me.0) (pass.logged ∙ one_log holding holding') account,
       ) in
       (view', gives, tt, rw carried (kept_after rule id view' at is_client alike after), told)

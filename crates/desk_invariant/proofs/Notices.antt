@@ -44,8 +44,6 @@ module _ {S O R : Type 0} (content : S → Content) (op_in : O → AnyOp) (reply
       let old = rule.seats id view at in
       let client : view.role ≡ role.Client
       → (rule.seat_of view.number ≡ id) × SeatAgrees kinds rule.world view.number (after_notice message.left view) =
-      λ is_client.
-      let c = old.client is_client in
-      (c.0, seat_knowing c.1.ready c.1.retired c.1) in
+      λ is_client. let (sits, seat) = old.client is_client in (sits, seat_knowing seat.ready seat.retired seat) in
       let new = rule.seats other message there in
       assumption (client, All-append (HasLeft rule.world) view.left message.left old.left new.left))

@@ -10,7 +10,7 @@ use native.Mathlib.Decide.{ℕ_discrete}
 use lib.ListN.{get_elem?}
 use prog.Atomic.{either}
 use Rattle.std.proofs.lemmas.Bool.{eqb-true, and_parts, or_cases}
-use Rattle.std.proofs.lemmas.List.Elements.{All-nil, All-cons, All-head, All-tail, All-push}
+use Rattle.std.proofs.lemmas.List.Elements.{All-nil, All-cons, All-head, All-tail, All-push, All-weaker}
 use Rattle.std.proofs.lemmas.Option.{same_Some}
 use Rattle.atomic_table.specs.Table.{State, Me, Step, step, keeps, takes, gives, rest, Allows}
 use Rattle.model.specs.declared.Kind.{Kind}
@@ -40,11 +40,11 @@ use Rattle.desk_invariant.specs.Views.{row_place, seen_of, waits_on, after_row_m
 use Rattle.desk_invariant.specs.Views.{after_answer}
 use Rattle.desk_invariant.specs.Rule.{row_word, OwnCallAgrees, HeldAgrees, SeatAgrees, CallAt}
 use Rattle.desk_invariant.specs.Plays as play
-use Rattle.desk_invariant.proofs.Seats.{NotPosted, NotAnswered, Later, row_leaves, alike, IsHand, pass_of}
-use Rattle.desk_invariant.proofs.Seats.{hand_of, After, kept_after, looks, come_after, seat_knowing, mine, unmoved}
-use Rattle.desk_invariant.proofs.Seats.{Rule}
+use Rattle.desk_invariant.proofs.Seats.{NotPosted, NotAnswered, IsAnswered, InRow, rows_stay, Later, row_leaves}
+use Rattle.desk_invariant.proofs.Seats.{alike, IsHand, pass_of, hand_of, After, kept_after, looks, come_after}
+use Rattle.desk_invariant.proofs.Seats.{seat_knowing, mine, unmoved, Rule}
 use Rattle.desk_invariant.proofs.Ties.{tied_row}
-use Rattle.desk_invariant.proofs.Locks.{held_log, held_object}
+use Rattle.desk_invariant.proofs.Locks.{held_log, held_object, one_object, one_log}
 
 -- the row has the word of a request for the object
 is_posted : (stage : Stage) (object : ℕ) → object < 16 → row_word stage ≡ 1 + object
@@ -60,40 +60,28 @@ own_posted : (waiting request : AnyRequest) (call : Own) (stage : Stage) → Own
     → call ≡ own.Waiting waiting → stage ≡ posted request → request ≡ waiting
 own_posted waiting request call stage ok is at = grind arith
 
+same_posted : (p q : AnyRequest) → posted p ≡ posted q → p ≡ q
+same_posted p q e = cc
+
 -- what a client knows of its own call stays true while the call goes on waiting
 own_waits : (call : Own) (request : AnyRequest) (stage stage' : Stage) → Waits request stage → Waits request stage'
     → OwnCallAgrees call stage → OwnCallAgrees call stage'
 own_waits call request stage stage' from to ok = grind arith
 
--- ---- the requests that were put back
-
--- the request that was put back is in its row, and the client holds its object
-abbrev InRow : (ℕ → Stage) → (ℕ → Option ℕ) → ℕ → PutBack → Type 0
-InRow stage holder client b = (stage b.row ≡ posted b.request) × (holder b.request.object ≡ Some client)
-
--- the row goes to the stage
-module _ (world : World) (client row : ℕ) (stage : Stage) where
-  -- a row that was not posted is none of those with requests that were put back
-  rows_stay : (back : List PutBack) → NotPosted (world.stage row) → All (InRow world.stage world.holder client) back
-      → All (InRow (changed world.stage row stage) world.holder client) back
-  rows_stay back unposted in_rows i d l =
-      let b = in_rows i d l in
-      let p = get_or back i d in
-      let other : p.row ≢ row = λ same. unposted p.request (ap world.stage (sym same) ∙ b.0) in
-      (changed_else world.stage row stage p.row other ∙ b.0, b.1)
-
-  -- the requests of the other rows are in them still
-  other_rows : (back : List PutBack) → All (InRow world.stage world.holder client) back
-      → All (InRow (changed world.stage row stage) world.holder client) (filter (λ b. not (eqb b.row row)) back)
-  other_rows [] in_rows = All-nil (InRow (changed world.stage row stage) world.holder client)
-  other_rows (b ∷ back) in_rows =
-      let rest = other_rows back (All-tail (InRow world.stage world.holder client) b back in_rows) in
-      let first = All-head (InRow world.stage world.holder client) b back in_rows in
-      dite (ℕ_discrete b.row row)
-      (λ same. rw (eq-eqb b.row row same) rest)
-      (λ other. rw (ne_eqb b.row row other)
-      (All-cons (InRow (changed world.stage row stage) world.holder client) b (filter (λ b. not (eqb b.row row)) back)
-      (changed_else world.stage row stage b.row other ∙ first.0, first.1) rest))
+-- the requests that were put back into other rows are in them still after the row has gone to the stage
+other_rows : (world : World) (client row : ℕ) (stage : Stage) (back : List PutBack)
+    → All (InRow world.stage world.holder client) back
+    → All (InRow (changed world.stage row stage) world.holder client) (filter (λ b. not (eqb b.row row)) back)
+other_rows world client row stage [] in_rows = All-nil (InRow (changed world.stage row stage) world.holder client)
+other_rows world client row stage (b ∷ back) in_rows =
+    let later = All-tail (InRow world.stage world.holder client) b back in_rows in
+    let rest = other_rows world client row stage back later in
+    let first = All-head (InRow world.stage world.holder client) b back in_rows in
+    dite (ℕ_discrete b.row row)
+    (λ same. rw (eq-eqb b.row row same) rest)
+    (λ other. rw (ne_eqb b.row row other)
+    (All-cons (InRow (changed world.stage row stage) world.holder client) b (filter (λ b. not (eqb b.row row)) back)
+    (changed_else world.stage row stage b.row other ∙ first.0, first.1) rest))
 
 -- ---- what the clients know, when the call of one row goes to another stage and still waits
 
@@ -132,12 +120,11 @@ module _ (world : World) (row : ℕ) (request : AnyRequest) (stage : Stage) (log
       → world.holder object ≡ Some client → another ≢ client
       → Later world (rowed (changed world.hand object hand)) another
   later_row object client another hand keep apart unposted holds other =
+      let away : (y : ℕ) → world.holder y ≡ Some another → y ≢ object =
+      λ y g same. other (sym (same_Some client another (sym holds ∙ (ap world.holder (sym same) ∙ g)))) in
       let held : (y : ℕ) → world.holder y ≡ Some another
       → (world.holder y ≡ world.holder y) × (changed world.hand object hand y ≡ world.hand y) × (logs y ≡ world.log y) =
-      λ y g.
-      let away : y ≢ object =
-      λ same. other (sym (same_Some client another (sym holds ∙ (ap world.holder (sym same) ∙ g)))) in
-      (refl, changed_else world.hand object hand y away, keep y away) in
+      λ y g. (refl, changed_else world.hand object hand y (away y g), keep y (away y g)) in
       assumption (
         held,
         own_after another,
@@ -157,11 +144,8 @@ module _ (world : World) (row : ℕ) (request : AnyRequest) (stage : Stage) (log
       → SeatAgrees kinds world client view → HeldAgrees (length kinds) (rowed hands) client holding
       → SeatAgrees kinds (rowed hands) client (record view { held = holding; back = back })
   seat_row kinds hands client view holding back in_rows ok now =
-      let ready : view.ready ≡ true → (q : AnyRequest) × (a : AnyAnswer)
-      × (changed world.stage row stage client ≡ answered q a) =
-      λ is.
-      let a = ok.ready is in
-      (a.0, a.1, ready_after client a.0 a.1 a.2) in
+      let ready : view.ready ≡ true → IsAnswered (changed world.stage row stage client) =
+      λ is. let (q, a, at) = ok.ready is in (q, a, ready_after client q a at) in
       assumption (
         ready,
         own_after client view.own ok.own,
@@ -173,8 +157,7 @@ module _ (world : World) (row : ℕ) (request : AnyRequest) (stage : Stage) (log
 -- if the own row was not posted for the object, which the client holds with a free hand, the call is answered
 noted : (kinds : List Kind) (quota client object : ℕ) (world : World) (call : Own) → Sound kinds quota world
     → world.hand object ≡ None → row_word (world.stage client) ≢ 1 + object → waits_on object call ≡ true
-    → OwnCallAgrees call (world.stage client)
-    → (q : AnyRequest) × (a : AnyAnswer) × (world.stage client ≡ answered q a)
+    → OwnCallAgrees call (world.stage client) → IsAnswered (world.stage client)
 noted kinds quota client object world call sound free miss waits ok =
     grind (arith, sound.picked_up client, eqb-true)
 
@@ -188,14 +171,11 @@ noting_ok {kinds = kinds} {quota = quota} {client = client} {object = object} {w
     let free = (pass_of ok holding).free in
     let number = ok.number in
     let own_row : Bool = eqb (row_place row) (row_place view.number) in
-    let now : (own_row && waits_on object view.own) ≡ true
-    → (q : AnyRequest) × (a : AnyAnswer) × (world.stage client ≡ answered q a) =
-    λ b.
-    let both = and_parts own_row (waits_on object view.own) b in
-    let eq = eqb-true (row_place row) (row_place view.number) both.0 in
-    let same : row ≡ client = omega arith in
-    let miss' = subst (λ z. row_word (world.stage z) ≢ 1 + object) same miss in
-    noted kinds quota client object world view.own sound free miss' both.1 ok.own in
+    let here : own_row ≡ true → row ≡ client =
+    λ e. let same = eqb-true (row_place row) (row_place view.number) e in omega arith in
+    let now : (own_row && waits_on object view.own) ≡ true → IsAnswered (world.stage client) =
+    λ e. let (own, waits) = and_parts own_row (waits_on object view.own) e in noted kinds quota client object world
+    view.own sound free (subst (λ z. row_word (world.stage z) ≢ 1 + object) (here own) miss) waits ok.own in
     seat_knowing (λ e. ⊎_elim ok.ready now (or_cases view.ready (own_row && waits_on object view.own) e)) ok.retired ok
 
 module _ {S O R : Type 0} (content : S → Content) (op_in : O → AnyOp) (reply_in : R → AnyReply) (kinds : List Kind)
@@ -214,21 +194,19 @@ module _ {S O R : Type 0} (content : S → Content) (op_in : O → AnyOp) (reply
   -- ---- looking at a row, and picking its request up
 
   -- what a miss at the row tells: no request for the object was put back there
-  row_missed : {world : World} {client object object' row row' : ℕ} {log log' : List AnyEntry}
+  row_missed : {world : World} {client object object' : ℕ} {log log' : List AnyEntry} (row row' : ℕ)
       (me : Me (Slot S O R) DeskView) → SeatAgrees kinds world client me.0
       → me.0.held ≡ held.Pass object log → me.0.held ≡ held.Pass object' log' → row ≡ row'
       → row_word (world.stage row) ≢ 1 + object
       → (◌≡◌ {A = Me (Slot S O R) DeskView} (after_row_miss (row_place row) object me.0, me.1)
       (after_row_miss (row_place row) object' me.0, me.1)) × All (λ b. b.row ≢ row') me.0.back
-  row_missed {world = world} {object = object} {row = row} {row' = row'} me ok holding holding' same_row miss =
+  row_missed {world = world} {client = client} row row' me ok holding holding' same_row miss =
       let pass = pass_of ok holding in
       let none_there : All (λ b. b.row ≢ row') me.0.back =
-      λ i d l there.
-      let b = ok.back i d l in
-      let p = get_or me.0.back i d in
-      let on : p.request.object ≡ object = pass.only p.request.object b.1 in
-      miss (ap (λ j. row_word (world.stage j)) (same_row ∙ sym there) ∙ (ap row_word b.0 ∙ ap (λ n. 1 + n) on)) in
-      (ap (λ z. (after_row_miss (row_place row) z me.0, me.1)) (ap held_object (sym holding ∙ holding')), none_there)
+      All-weaker (InRow world.stage world.holder client) (λ b. b.row ≢ row')
+      (λ b at there. miss (ap (λ j. row_word (world.stage j)) (same_row ∙ sym there)
+      ∙ (ap row_word at.0 ∙ ap (λ n. 1 + n) (pass.only b.request.object at.1)))) me.0.back ok.back in
+      (ap (λ z. (after_row_miss (row_place row) z me.0, me.1)) (one_object holding holding'), none_there)
 
   -- a look at a row keeps the rule, with an object held and nothing in hand
   pub look_at_row_keeps_rule : (slots id object row : ℕ) (me : Me (Slot S O R) DeskView) (log : List AnyEntry)
@@ -246,8 +224,7 @@ module _ {S O R : Type 0} (content : S → Content) (op_in : O → AnyOp) (reply
       (λ hit.
       let told : play.looks_at_row content op_in reply_in look me found me =
       λ object' row' log' holding' place.
-      let same : object ≡ object' = ap held_object (sym holding ∙ holding') in
-      ((λ _. refl), λ miss. absurd (miss (hit ∙ ap (λ z. 1 + z) same))) in
+      ((λ _. refl), λ miss. absurd (miss (hit ∙ ap (λ z. 1 + z) (one_object holding holding')))) in
       (me.0, keeps, tt, looks rule (row_place row) id me.1 is_client at, told))
       -- another word: the client notes a miss
       (λ miss.
@@ -255,13 +232,20 @@ module _ {S O R : Type 0} (content : S → Content) (op_in : O → AnyOp) (reply
       let knows : SeatAgrees kinds world me.0.number view' =
       noting_ok row me.0 rule.sound ok holding (λ e. miss (word ∙ e)) in
       let told : play.looks_at_row content op_in reply_in look me found (view', me.1) =
-      λ object' row' log' holding' place.
-      let same : object ≡ object' = ap held_object (sym holding ∙ holding') in
-      let same_row : row ≡ row' = omega arith in (
-        (λ hit. absurd (miss (hit ∙ ap (λ z. 1 + z) (sym same)))),
-        λ _. row_missed me ok holding holding' same_row (λ f. miss (word ∙ f)),
+      λ object' row' log' holding' place. (
+        (λ hit. absurd (miss (hit ∙ ap (λ z. 1 + z) (sym (one_object holding holding'))))),
+        λ _. row_missed row row' me ok holding holding' (omega arith) (λ f. miss (word ∙ f)),
       ) in
       (view', keeps, tt, unmoved rule (row_place row) id view' me.1 at is_client alike knows, told))
+
+  -- what the client is told of the request that came out of the row
+  record IsPickedUp (me after : Me (Slot S O R) DeskView) (object row : ℕ) (log : List AnyEntry)
+      (sent : Request O) : Type 0 where
+    for_object : sent.object ≡ object
+    of_kind : kind_of (op_in sent.op) ≡ kind_at me.0.kinds object
+    hand : after ≡ (after_pick object log row (request_in op_in sent) me.0, (16 + row, slot.Request sent) ∷ me.1)
+    put_back_here : All (λ b. b.row ≡ row → b.request ≡ request_in op_in sent) me.0.back
+    own_one : (q : AnyRequest) → row ≡ me.0.number → me.0.own ≡ own.Waiting q → request_in op_in sent ≡ q
 
   -- a try to pick up a row's request keeps the rule, with its object held and nothing in hand
   pub pick_keeps_rule : (slots id object row : ℕ) (me : Me (Slot S O R) DeskView) (log : List AnyEntry)
@@ -282,14 +266,10 @@ module _ {S O R : Type 0} (content : S → Content) (op_in : O → AnyOp) (reply
       let inside = pass.inside in
       let few_objects = rule.tied.objects in
       let low : object < 16 = omega arith in
-      let is = is_posted (world.stage row) object low (sym word ∙ hit) in
-      let request : AnyRequest = is.0 in
-      let was : world.stage row ≡ posted request = is.1 in
-      let on : request.object ≡ object = is.2 in
+      let (request, was, on) = is_posted (world.stage row) object low (sym word ∙ hit) in
       let home = subst (CallAt content op_in reply_in (get_elem? state.homes (16 + row))) was
       (rule.tied.calls row few) in
-      let sent : Request O = home.0 in
-      let image : request_in op_in sent ≡ request = home.2 in
+      let (sent, at_home, image) = home in
       let fits = rule.sound.fitting row request (ap request_of was) in
       -- the row goes on with its call
       let stage : Stage = picked request in
@@ -305,11 +285,8 @@ module _ {S O R : Type 0} (content : S → Content) (op_in : O → AnyOp) (reply
       -- another client does not hold the object of the request
       let unposted : (another : ℕ) → another ≢ client → (p : AnyRequest) → world.holder p.object ≡ Some another
       → world.stage row ≢ posted p =
-      λ another other p e f.
-      let g : posted request ≡ posted p = sym was ∙ f in
-      let same : request ≡ p = cc in
-      let here : world.holder object ≡ Some another = ap world.holder (sym on ∙ ap (λ z. z.object) same) ∙ e in
-      other (sym (same_Some client another (sym pass.holds ∙ here))) in
+      λ another other p e f. other (sym (same_Some client another (sym pass.holds
+      ∙ (ap world.holder (sym on ∙ ap (λ z. z.object) (same_posted request p (sym was ∙ f))) ∙ e)))) in
       -- the client has the request in hand
       let in_hand : hands object ≡ Some row = changed_here world.hand object (Some row) in
       let is_picked : changed world.stage row stage row ≡ picked request = changed_here world.stage row stage in
@@ -332,40 +309,34 @@ module _ {S O R : Type 0} (content : S → Content) (op_in : O → AnyOp) (reply
         own = seat_row world row request stage world.log goes kinds hands client me.0
             (held.Hand object log row request) view'.back (other_rows world client row stage me.0.back ok.back) ok now;
       } in
-      -- what a hit tells of the request, and that it is no miss
-      let told : play.picks content op_in reply_in attempt me found (view', (16 + row, slot.Request sent) ∷ me.1) =
-      λ object' row' log' holding' place.
-      let same : object ≡ object' = ap held_object (sym holding ∙ holding') in
-      let same_log : log ≡ log' = ap held_log (sym holding ∙ holding') in
-      let same_row : row ≡ row' = omega arith in
-      let for_object : sent.object ≡ object' = ap (λ z. z.object) image ∙ (on ∙ same) in
-      let of_kind : kind_of (op_in sent.op) ≡ kind_at me.0.kinds object' =
-      ap (λ z. kind_of z.op) image ∙ (fits.0 ∙ (λ i. kind_at (sym ok.kinds_are i) ((on ∙ same) i))) in
-      let hand : ◌≡◌ {A = Me (Slot S O R) DeskView} (view', (16 + row, slot.Request sent) ∷ me.1) (
-        after_pick object' log' row' (request_in op_in sent) me.0,
-        (16 + row', slot.Request sent) ∷ me.1,
-      ) =
-      λ i. (
-        after_pick (same i) (same_log i) (same_row i) (sym image i) me.0,
-        (16 + same_row i, slot.Request sent) ∷ me.1,
-      ) in
-      let put_back_one : All (λ b. b.row ≡ row' → b.request ≡ request_in op_in sent) me.0.back =
-      λ i d l there.
-      let b = ok.back i d l in
-      let p = get_or me.0.back i d in
-      let f : posted p.request ≡ posted request =
-      sym b.0 ∙ (ap world.stage (there ∙ sym same_row) ∙ was) in
-      let same_request : p.request ≡ request = cc in
-      same_request ∙ sym image in
-      let own_one : (p : AnyRequest) → row' ≡ me.0.number → me.0.own ≡ own.Waiting p → request_in op_in sent ≡ p =
-      λ p here waiting. image ∙ own_posted p request me.0.own (world.stage client) ok.own waiting
-      (ap world.stage (sym here ∙ sym same_row) ∙ was) in (
-        (λ _. (sent, for_object, of_kind, hand, put_back_one, own_one)),
-        λ miss. absurd (miss (hit ∙ ap (λ z. 1 + z) same)),
+      -- what a hit tells of the request, by whichever names the pass and the row have, and that it is no miss
+      let me' : Me (Slot S O R) DeskView = (view', (16 + row, slot.Request sent) ∷ me.1) in
+      let told_one : IsPickedUp me me' object row log sent = record {
+        for_object = ap (λ z. z.object) image ∙ on;
+        of_kind = ap (λ z. kind_of z.op) image ∙ (fits.0 ∙ (λ i. kind_at (sym ok.kinds_are i) (on i)));
+        hand = λ i. (after_pick object log row (sym image i) me.0, (16 + row, slot.Request sent) ∷ me.1);
+        put_back_here =
+            All-weaker (InRow world.stage world.holder client) (λ b. b.row ≡ row → b.request ≡ request_in op_in sent)
+            (λ b at there. same_posted b.request request (sym at.0 ∙ (ap world.stage there ∙ was)) ∙ sym image)
+            me.0.back ok.back;
+        own_one = λ q here waiting. image ∙ own_posted q request me.0.own (world.stage client) ok.own waiting
+            (ap world.stage (sym here) ∙ was);
+      } in
+      let told_any : (object' row' : ℕ) (log' : List AnyEntry) → me.0.held ≡ held.Pass object' log' → row ≡ row'
+      → IsPickedUp me me' object' row' log' sent =
+      λ object' row' log' holding' same_row.
+      subst (λ (z : ℕ × ℕ × List AnyEntry). IsPickedUp me me' z.0 z.1 z.2 sent)
+      (λ i. (one_object holding holding' i, same_row i, one_log holding holding' i)) told_one in
+      let told : play.picks content op_in reply_in attempt me found me' =
+      λ object' row' log' holding' place. (
+        (λ _.
+            let up = told_any object' row' log' holding' (omega arith) in
+            (sent, up.for_object, up.of_kind, up.hand, up.put_back_here, up.own_one)),
+        λ miss. absurd (miss (hit ∙ ap (λ z. 1 + z) (one_object holding holding'))),
       ) in (
         view',
         takes (16 + row) (slot.Request sent),
-        home.1,
+        at_home,
         rw (eq-eqb found (1 + object) hit) (kept_after rule id view' at is_client alike after),
         told,
       ))
@@ -375,11 +346,9 @@ module _ {S O R : Type 0} (content : S → Content) (op_in : O → AnyOp) (reply
       let knows : SeatAgrees kinds world client view' =
       noting_ok row me.0 rule.sound ok holding (λ e. miss (word ∙ e)) in
       let told : play.picks content op_in reply_in attempt me found (view', me.1) =
-      λ object' row' log' holding' place.
-      let same : object ≡ object' = ap held_object (sym holding ∙ holding') in
-      let same_row : row ≡ row' = omega arith in (
-        (λ hit. absurd (miss (hit ∙ ap (λ z. 1 + z) (sym same)))),
-        λ _. row_missed me ok holding holding' same_row (λ f. miss (word ∙ f)),
+      λ object' row' log' holding' place. (
+        (λ hit. absurd (miss (hit ∙ ap (λ z. 1 + z) (sym (one_object holding holding'))))),
+        λ _. row_missed row row' me ok holding holding' (omega arith) (λ f. miss (word ∙ f)),
       ) in (
         view',
         keeps,
@@ -497,8 +466,7 @@ module _ {S O R : Type 0} (content : S → Content) (op_in : O → AnyOp) (reply
       let in_rows = rows_stay world client row stage view.back (λ p e. absurd cc) ok.back in
       let base = seat_row world row request stage logs (answered_on world object row request answer was) kinds
       (changed world.hand object None) client view holding view.back in_rows ok now in
-      let here : eqb row view.number ≡ true
-      → (q : AnyRequest) × (a : AnyAnswer) × (changed world.stage row stage client ≡ answered q a) =
+      let here : eqb row view.number ≡ true → IsAnswered (changed world.stage row stage client) =
       λ b.
       let same : client ≡ row = sym (eqb-true row view.number b ∙ ok.number) in
       (request, answer, ap (changed world.stage row stage) same ∙ changed_here world.stage row stage) in

@@ -1,11 +1,12 @@
 -- A step of one client leaves true what the others know: each fact of a view is of what the step does not write
 -- (`Later`), so the view stays true (`seats_after`).
 use Rattle.std.proofs.Common.{inr, inl, ◌≡◌, ◌≢◌, ℕ, ◌+◌, ◌<◌, ◌≤◌, Bool, true, false, List, [], length, get_or, set}
-use Rattle.std.proofs.Common.{None, Some, All, refl, sym, ap, subst, ◌∙◌, arith}
+use Rattle.std.proofs.Common.{Option, None, Some, All, refl, sym, ap, subst, ◌∙◌, arith}
 use mathlib.Core.Option as maybe
 use mathlib.Core.Option.{some}
 use lib.ListN.{get_elem?}
 use lib.Seq.{set-get_or}
+use Rattle.std.proofs.lemmas.List.Elements.{All-weaker}
 use Rattle.atomic_table.specs.Table.{State, keeps, stepped}
 use Rattle.atomic_table.specs.Seated.{TableId}
 use Rattle.atomic_table.proofs.Lists.{at_set}
@@ -26,7 +27,7 @@ use Rattle.desk_model.specs.World.{AnyEntry, AnyRequest, AnyAnswer, AnyDone, Sta
 use Rattle.desk_model.specs.World.{World, request_of, journal_of, journal_in, StartsWith}
 use Rattle.desk_model.specs.Transitions.{changed}
 use Rattle.desk_model.specs.Sound.{Sound}
-use Rattle.desk_model.proofs.Changed.{changed_all}
+use Rattle.desk_model.proofs.Changed.{changed_else, changed_all}
 use Rattle.desk_model.proofs.Entries.{starts_longer, starts_same}
 use Rattle.desk_invariant.specs.Views.{seen_of, received_of, after_miss}
 use Rattle.desk_invariant.specs.Rule.{OwnCallAgrees, HoldsOnly, HeldAgrees, SeatAgrees, HasLeft, ViewAgrees}
@@ -41,6 +42,10 @@ NotPosted stage = (q : AnyRequest) → stage ≢ posted q
 -- the stage is not that of a call that is answered
 abbrev pub NotAnswered : Stage → Type 0
 NotAnswered stage = (q : AnyRequest) (a : AnyAnswer) → stage ≢ answered q a
+
+-- the stage is that of a call that is answered
+abbrev pub IsAnswered : Stage → Type 0
+IsAnswered stage = (q : AnyRequest) × (a : AnyAnswer) × (stage ≡ answered q a)
 
 -- what the client needs of another's step from world to world', so that what it knows stays true
 pub record Later (world world' : World) (client : ℕ) : Type 0 where
@@ -57,6 +62,22 @@ pub record Later (world world' : World) (client : ℕ) : Type 0 where
       → world'.stage r ≡ posted q
   pub ended : world'.ended client ≡ world.ended client
 
+-- the request that was put back is in its row, and the client holds its object
+abbrev pub InRow : (ℕ → Stage) → (ℕ → Option ℕ) → ℕ → PutBack → Type 0
+InRow stage holder client b = (stage b.row ≡ posted b.request) × (holder b.request.object ≡ Some client)
+
+-- they are so still after another row, which was not posted, has gone to the stage
+pub rows_stay : (world : World) (client row : ℕ) (stage : Stage) (back : List PutBack) → NotPosted (world.stage row)
+    → All (InRow world.stage world.holder client) back
+    → All (InRow (changed world.stage row stage) world.holder client) back
+rows_stay world client row stage back unposted =
+    All-weaker (InRow world.stage world.holder client) (InRow (changed world.stage row stage) world.holder client)
+    (λ b at. (
+      changed_else world.stage row stage b.row (λ same. unposted b.request (ap world.stage (sym same) ∙ at.0))
+          ∙ at.0,
+      at.1,
+    )) back
+
 -- at a step from world to world', who has ended stays so, and its journal with it
 abbrev pub Leaves : World → World → Type 0
 Leaves world world' = (d : ℕ) → world.ended d ≡ true
@@ -65,10 +86,9 @@ Leaves world world' = (d : ℕ) → world.ended d ≡ true
 -- what was told of clients that have ended stays true
 left_stays : (world world' : World) (leavings : List Leaving) → Leaves world world' → All (HasLeft world) leavings
     → All (HasLeft world') leavings
-left_stays world world' leavings leave all i d l =
-    let has = all i d l in
-    let stays = leave (get_or leavings i d).client has.0 in
-    (stays.0, stays.1 ∙ has.1)
+left_stays world world' leavings leave =
+    All-weaker (HasLeft world) (HasLeft world')
+    (λ l has. let (stays, journal) = leave l.client has.0 in (stays, journal ∙ has.1)) leavings
 
 -- a row that goes on with its call leaves the journals of all clients as they are
 pub row_leaves : (world : World) (row : ℕ) (stage : Stage) → request_of (world.stage row) ≡ request_of stage
@@ -94,18 +114,12 @@ held_stays count world world' client later holding holds = grind (arith, later.h
 seat_stays : (kinds : List Kind) (world world' : World) (client : ℕ) (view : DeskView) → Leaves world world'
     → Later world world' client → SeatAgrees kinds world client view → SeatAgrees kinds world' client view
 seat_stays kinds world world' client view leave later ok =
-    let ready : view.ready ≡ true → (q : AnyRequest) × (a : AnyAnswer) × (world'.stage client ≡ answered q a) =
-    λ is.
-    let a = ok.ready is in
-    (a.0, a.1, later.ready a.0 a.1 a.2) in
-    let retired : All (λ d. world'.ended d ≡ true) view.retired =
-    λ i d l. (leave (get_or view.retired i d) (ok.retired i d l)).0 in
-    let back : All (λ b. (world'.stage b.row ≡ posted b.request) × (world'.holder b.request.object ≡ Some client))
-    view.back =
-    λ i d l.
-    let b = ok.back i d l in
-    let p = get_or view.back i d in
-    (later.posted p.row p.request b.1 b.0, (later.held p.request.object b.1).0 ∙ b.1) in
+    let ready : view.ready ≡ true → IsAnswered (world'.stage client) =
+    λ is. let (q, a, at) = ok.ready is in (q, a, later.ready q a at) in
+    let retired = All-weaker (λ d. world.ended d ≡ true) (λ d. world'.ended d ≡ true) (λ d over. (leave d over).0)
+    view.retired ok.retired in
+    let back = All-weaker (InRow world.stage world.holder client) (InRow world'.stage world'.holder client)
+    (λ b at. (later.posted b.row b.request at.1 at.0, (later.held b.request.object at.1).0 ∙ at.1)) view.back ok.back in
     assumption (
       ready,
       ok.done ∙ sym later.done,
@@ -150,7 +164,7 @@ alike = assumption
 -- missed and has found there does not matter.
 pub seat_knowing : {kinds : List Kind} {world : World} {client : ℕ} {view : DeskView} {ready : Bool}
     {received : List (List AnyEntry)} {missed : List ℕ} {left : List Leaving} {retired still_there : List ℕ}
-    → (ready ≡ true → (q : AnyRequest) × (a : AnyAnswer) × (world.stage client ≡ answered q a))
+    → (ready ≡ true → IsAnswered (world.stage client))
     → All (λ d. world.ended d ≡ true) retired → SeatAgrees kinds world client view
     → SeatAgrees kinds world client (record view {
       ready = ready;
@@ -175,8 +189,8 @@ pub record IsPass (kinds : List Kind) (world : World) (client object : ℕ) (log
 pub pass_of : {kinds : List Kind} {world : World} {client object : ℕ} {log : List AnyEntry} {view : DeskView}
     → SeatAgrees kinds world client view → view.held ≡ held.Pass object log → IsPass kinds world client object log
 pass_of {kinds = kinds} {world = world} {client = client} ok holding =
-    let agrees = subst (HeldAgrees (length kinds) world client) holding ok.held in
-    record { inside = agrees.0; holds = agrees.1; free = agrees.2; logged = agrees.3; only = agrees.4 }
+    let (inside, holds, free, logged, only) = subst (HeldAgrees (length kinds) world client) holding ok.held in
+    assumption
 
 -- a client that has the request of this row in its hand, by the same names
 pub record IsHand (kinds : List Kind) (world : World) (client object : ℕ) (log : List AnyEntry) (row : ℕ)
@@ -193,18 +207,22 @@ pub hand_of : {kinds : List Kind} {world : World} {client object : ℕ} {log : L
     {request : AnyRequest} {view : DeskView} → SeatAgrees kinds world client view
     → view.held ≡ held.Hand object log row request → IsHand kinds world client object log row request
 hand_of {kinds = kinds} {world = world} {client = client} ok holding =
-    let agrees = subst (HeldAgrees (length kinds) world client) holding ok.held in
-    record {
-      inside = agrees.0;
-      holds = agrees.1;
-      in_hand = agrees.2;
-      logged = agrees.3;
-      only = agrees.4;
-      few = agrees.5;
-      picked_up = agrees.6;
-    }
+    let (inside, holds, in_hand, logged, only, few, picked_up) =
+    subst (HeldAgrees (length kinds) world client) holding ok.held in
+    assumption
 
 -- ---- all views, after a step of one client
+
+-- the client is not made yet
+abbrev IsUnmade : World → ℕ → Type 0
+IsUnmade world client = (world.stage client ≡ absent) × (world.done client ≡ []) × (world.ended client ≡ false)
+    × ((x : ℕ) → world.holder x ≢ Some client)
+
+unmade_stays : (world world' : World) (client : ℕ) → Later world world' client → IsUnmade world client
+    → IsUnmade world' client
+unmade_stays world world' client later unmade =
+    let (away, none_done, going, nothing) = unmade in
+    (later.own own.Absent away, later.done ∙ none_done, later.ended ∙ going, λ x h. nothing x (later.holds x h))
 
 -- after a step to world' of the client whose view becomes view', each view is true
 seats_after : (kinds : List Kind) (lists : List TableId) (clients : ℕ) (world world' : World) (seat_of : ℕ → ℕ)
@@ -224,14 +242,6 @@ seats_after kinds lists clients world world' seat_of views id view view' at is_c
     let is_made : (c : ℕ) (z : DeskView) (i : ℕ) → get_elem? views i ≡ some z → z.role ≡ role.Maker → z.made ≤ c
     → c ≢ view.number =
     λ c z i g is l same. let low = (makers.made i z g is id view at).0 is_client in omega arith in
-    -- such a client stays as it was
-    let unmade : (c : ℕ) → c ≢ view.number
-    → (world.stage c ≡ absent) × (world.done c ≡ []) × (world.ended c ≡ false) × ((x : ℕ) → world.holder x ≢ Some c)
-    → (world'.stage c ≡ absent) × (world'.done c ≡ []) × (world'.ended c ≡ false)
-    × ((x : ℕ) → world'.holder x ≢ Some c) =
-    λ c apart b.
-    let o = others c apart in
-    (o.own own.Absent b.0, o.done ∙ b.1, o.ended ∙ b.2, λ x f. b.3 x (o.holds x f)) in
     elim (at_set views id j view' u e) [
       -- the view of the client of the step
       | inl t ↦ subst (λ (z : ℕ × DeskView). ViewAgrees kinds lists world' seat_of z.0 z.1)
@@ -247,7 +257,7 @@ seats_after kinds lists clients world world' seat_of views id view view' at is_c
             unmade = λ is c l.
                 let is' : view.role ≡ role.Maker = sym alike.role ∙ is in
                 let l' : view.made ≤ c = subst (λ z. z ≤ c) alike.made l in
-                unmade c (is_made c view id at is' l') (old.unmade is' c l');
+                unmade_stays world world' c (others c (is_made c view id at is' l')) (old.unmade is' c l');
             maker_kinds = λ is. ok.kinds_are;
             lists_are = λ is. alike.lists ∙ old.lists_are is_client;
             maker_lists = λ is. alike.lists ∙ old.lists_are is_client;
@@ -258,10 +268,10 @@ seats_after kinds lists clients world world' seat_of views id view view' at is_c
         received = λ x. starts_longer (world'.log x) (world.log x) (received_of u x) (logs x) (b.received x);
         left = left_stays world world' u.left leave b.left;
         client = λ is.
-            let c = b.client is in
-            let other : u.number ≢ view.number = λ g. t.0 (sym c.0 ∙ (ap seat_of g ∙ here.0)) in
-            (c.0, seat_stays kinds world world' u.number u leave (others u.number other) c.1);
-        unmade = λ is c l. unmade c (is_made c u j t.1 is l) (b.unmade is c l);
+            let (sits, seat) = b.client is in
+            let other : u.number ≢ view.number = λ g. t.0 (sym sits ∙ (ap seat_of g ∙ here.0)) in
+            (sits, seat_stays kinds world world' u.number u leave (others u.number other) seat);
+        unmade = λ is c l. unmade_stays world world' c (others c (is_made c u j t.1 is l)) (b.unmade is c l);
         maker_kinds = b.maker_kinds;
         lists_are = b.lists_are;
         maker_lists = b.maker_lists;

@@ -29,11 +29,9 @@ pub all_covered : (kinds : List Kind) (quota : ℕ) (world : World) (client obje
     (call : Own) → done ≡ world.done client → OwnCallAgrees call (world.stage client) → Sound kinds quota world
     → StartsWith (entries_of_client client (world.log object)) (served object client done ++ owed object client call)
 all_covered kinds quota world client object done call same ok sound =
-    let now = owed_served object client call (world.stage client) ok in (
-      now.0,
-      sound.counted client object ∙ ((λ i. served object client (sym same i) ++ now.1 i)
-          ∙ sym (append_assoc (served object client done) (owed object client call) now.0)),
-    )
+    let (more, now) = owed_served object client call (world.stage client) ok in
+    let split = sym (append_assoc (served object client done) (owed object client call) more) in
+    (more, sound.counted client object ∙ ((λ i. served object client (sym same i) ++ now i) ∙ split))
 
 -- the entries of a client in a beginning of a log are a beginning of its entries in the log
 pub entries_start : (client : ℕ) (xs ys : List AnyEntry) → StartsWith xs ys
@@ -102,14 +100,16 @@ pub accounts : (kinds : List Kind) (quota : ℕ) (world : World) (object : ℕ) 
 accounts kinds quota world object view log rest done ok sound begins covers =
     let client : ℕ = view.number in
     let before : List AnyEntry = served object client view.done in
-    let now : List AnyEntry = owed object client view.own ++ covers.0 in
-    let later : List AnyEntry = entries_of_client client begins.0 in
+    let (more, calls) = covers in
+    let (rest_of_log, whole_log) = begins in
+    let now : List AnyEntry = owed object client view.own ++ more in
+    let later : List AnyEntry = entries_of_client client rest_of_log in
     let put_in : List AnyEntry = served_now object client (world.stage client) in
     let seen : entries_of_client client log ≡ before ++ now =
-    covers.1 ∙ append_assoc before (owed object client view.own) covers.0 in
+    calls ∙ append_assoc before (owed object client view.own) more in
     let whole : before ++ put_in ≡ before ++ (now ++ later) =
     ap (λ z. served object client z ++ put_in) done
-    ∙ (sym (sound.counted client object) ∙ (ap (entries_of_client client) begins.1
-    ∙ (entries-append client log begins.0 ∙ (ap (λ z. z ++ later) seen ∙ append_assoc before now later)))) in
+    ∙ (sym (sound.counted client object) ∙ (ap (entries_of_client client) whole_log
+    ∙ (entries-append client log rest_of_log ∙ (ap (λ z. z ++ later) seen ∙ append_assoc before now later)))) in
     let split : put_in ≡ now ++ later = append_cancel_left before put_in (now ++ later) whole in
     (now, seen, held_now object client view.own (world.stage client) now later rest ok split)

@@ -28,7 +28,7 @@ module _ {S O R : Type 0} {content : S → Content} {op_in : O → AnyOp} {reply
       → JournalAt content op_in reply_in home stage' done ended
   journaled_on home stage stage' done ended come same at = record {
     at_first = λ e. absurd (come e);
-    at_last = λ e. let b = at.at_last e in (b.0, b.1, b.2 ∙ ap (journal_of done) (sym same));
+    at_last = λ e. let (book, home, says) = at.at_last e in (book, home, says ∙ ap (journal_of done) (sym same));
   }
 
 module _ {S O R : Type 0} {content : S → Content} {op_in : O → AnyOp} {reply_in : R → AnyReply} {kinds : List Kind}
@@ -62,8 +62,10 @@ module _ {S O R : Type 0} {content : S → Content} {op_in : O → AnyOp} {reply
             → CoreAt content op_in reply_in (kind_at kinds y) (get_elem? lists y) (get_elem? (set homes object home) y)
             (world.log y))
             world.holder object holder
-            (λ l e. let b = back e in (b.0, set_here homes object home (omega arith) ∙ b.1, b.2))
-            (λ y other l e. let b = tied.cores y l e in (b.0, set_else homes object y home other ∙ b.1, b.2));
+            (λ l e. let (core, there, fits) = back e in (core, set_here homes object home (omega arith) ∙ there, fits))
+            (λ y other l e.
+            let (core, there, fits) = tied.cores y l e in
+            (core, set_else homes object y home other ∙ there, fits));
         calls = λ r l. rw ((set_else homes object (16 + r) home (λ e. omega arith))) (tied.calls r l);
         journals = λ c l. rw ((set_else homes object (48 + c) home (λ e. omega arith))) (tied.journals c l);
       }
@@ -93,10 +95,10 @@ module _ {S O R : Type 0} {content : S → Content} {op_in : O → AnyOp} {reply
             ∙ tied.rows j l);
         ends = λ c l. get_or-set_other words (row_place row) (end_place c) word 0 (λ e. omega arith) ∙ tied.ends c l;
         clock = get_or-set_other words (row_place row) clock_place word 0 (λ e. omega arith) ∙ tied.clock;
-        cores = λ x l e. let b = tied.cores x l e in (
-          b.0,
-          set_else homes (16 + row) x home (λ e. omega arith) ∙ b.1,
-          subst (CoreFits content op_in reply_in (kind_at kinds x) (get_elem? lists x) b.0) (sym (kept x e)) b.2,
+        cores = λ x l e. let (core, there, fits) = tied.cores x l e in (
+          core,
+          set_else homes (16 + row) x home (λ e. omega arith) ∙ there,
+          subst (CoreFits content op_in reply_in (kind_at kinds x) (get_elem? lists x) core) (sym (kept x e)) fits,
         );
         calls = changed_all
             (λ j u. j < 32 → CallAt content op_in reply_in (get_elem? (set homes (16 + row) home) (16 + j)) u)
@@ -172,10 +174,10 @@ module _ {S O R : Type 0} {content : S → Content} {op_in : O → AnyOp} {reply
             (λ d other l. get_or-set_other words (end_place client) (end_place d) 1 0 (λ e. other (omega arith))
             ∙ tied.ends d l);
         clock = get_or-set_other words (end_place client) clock_place 1 0 (λ e. omega arith) ∙ tied.clock;
-        cores = λ x l e. let b = tied.cores x l e in (
-          b.0,
-          set_else homes (48 + client) x home (λ e. omega arith) ∙ b.1,
-          b.2,
+        cores = λ x l e. let (core, there, fits) = tied.cores x l e in (
+          core,
+          set_else homes (48 + client) x home (λ e. omega arith) ∙ there,
+          fits,
         );
         calls = λ r l. rw ((set_else homes (48 + client) (16 + r) home (λ e. omega arith))) (tied.calls r l);
         journals = changed_all (λ d b. d < 32
@@ -216,10 +218,10 @@ module _ {S O R : Type 0} {content : S → Content} {op_in : O → AnyOp} {reply
             ∙ tied.rows j l);
         ends = λ d l. get_or-set_other words (row_place client) (end_place d) word 0 (λ e. omega arith) ∙ tied.ends d l;
         clock = get_or-set_other words (row_place client) clock_place word 0 (λ e. omega arith) ∙ tied.clock;
-        cores = λ x l e. let b = tied.cores x l e in (
-          b.0,
-          away x (λ e. omega arith) (λ e. omega arith) ∙ b.1,
-          b.2,
+        cores = λ x l e. let (core, there, fits) = tied.cores x l e in (
+          core,
+          away x (λ e. omega arith) (λ e. omega arith) ∙ there,
+          fits,
         );
         calls = changed_all (λ j u. j < 32 → CallAt content op_in reply_in (get_elem? both (16 + j)) u)
             world.stage client stage

@@ -20,16 +20,16 @@ pub chosen : (P : AnyEntry → Call → Type 0) (es : List AnyEntry) → ((e : A
     → (ks : List Call) × Along P es ks
 chosen P [] f = ([], tt)
 chosen P (e ∷ es) f =
-    let k = f e (inl refl) in
-    let rest = chosen P es (λ d i. f d (inr i)) in
-    (k.0 ∷ rest.0, (k.1, rest.1))
+    let (k, at) = f e (inl refl) in
+    let (ks, later) = chosen P es (λ d i. f d (inr i)) in
+    (k ∷ ks, (at, later))
 
 pub entry_beside : (P : AnyEntry → Call → Type 0) (es : List AnyEntry) (ks : List Call) → Along P es ks → (k : Call)
     → In k ks → (e : AnyEntry) × In e es × P e k
 entry_beside P [] [] a k i = absurd i
 entry_beside P (e ∷ es) (l ∷ ks) a k i = elim i [
   | inl s ↦ (e, inl refl, subst (P e) (sym s) a.0)
-  | inr j ↦ let r = entry_beside P es ks a.1 k j in (r.0, inr r.1, r.2)
+  | inr j ↦ let (f, there, at) = entry_beside P es ks a.1 k j in (f, inr there, at)
 ]
 entry_beside P es ks a k i = absurd a
 
@@ -39,7 +39,7 @@ call_beside P [] ks a e i = absurd i
 call_beside P (f ∷ es) [] a e i = absurd a
 call_beside P (f ∷ es) (l ∷ ks) a e i = elim i [
   | inl s ↦ (l, inl refl, subst (λ g. P g l) (sym s) a.0)
-  | inr j ↦ let r = call_beside P es ks a.1 e j in (r.0, inr r.1, r.2)
+  | inr j ↦ let (l, there, at) = call_beside P es ks a.1 e j in (l, inr there, at)
 ]
 
 -- what holds of the calls beside each two entries holds of each two calls

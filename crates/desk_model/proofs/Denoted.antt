@@ -71,10 +71,10 @@ of_client client (d ∷ done) asked m i = go d.answer i (of_client client done a
       | inl e ↦ (ap (λ (m : Numbered). process_of m.event) e, inl (ap (λ (m : Numbered). m.number) e))
       | inr j ↦ elim j [
         | inl e ↦ (ap (λ (m : Numbered). process_of m.event) e, inr (inl (ap (λ (m : Numbered). m.number) e)))
-        | inr k ↦ let g = f k in (g.0, inr (inr g.1))
+        | inr k ↦ let (own, drawn) = f k in (own, inr (inr drawn))
       ]
     ]
-    go Refused i f = let g = f i in (g.0, inr (inr g.1))
+    go Refused i f = let (own, drawn) = f i in (own, inr (inr drawn))
 
 -- the numbers rise with the tickets
 pub denoted_rises : (client : ℕ) (done : List AnyDone) (asked : Option AnyRequest)

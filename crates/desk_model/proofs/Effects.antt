@@ -24,6 +24,9 @@ use Rattle.desk_model.proofs.Totals.{total_same, total_one, total_le}
 abbrev pub NotPicked : Stage → Type 0
 NotPicked stage = (q : AnyRequest) → stage ≢ picked q
 
+same_picked : (p q : AnyRequest) → picked p ≡ picked q → p ≡ q
+same_picked p q e = cc
+
 module _ (kinds : List Kind) (quota : ℕ) where
   abbrev S : World → Type 0
   S = Sound kinds quota
@@ -86,8 +89,8 @@ module _ (kinds : List Kind) (quota : ℕ) where
         (sound.counted client x ∙ ap (λ z. served x client (world.done client) ++ z) (sym (puts x)))
         (λ d _. sound.counted d x) d;
     in_hand = λ x j e.
-        let b = sound.in_hand x j e in
-        (b.0, changed_else world.stage client stage j (λ g. before b.0 (ap world.stage (sym g) ∙ b.1)) ∙ b.1, b.2);
+        let (q, at, on_x) = sound.in_hand x j e in
+        (q, changed_else world.stage client stage j (λ g. before q (ap world.stage (sym g) ∙ at)) ∙ at, on_x);
     picked_up = λ j q. changed_all (λ j u. u ≡ picked q → world.hand q.object ≡ Some j) world.stage client stage
         (λ e. absurd (after q e)) (λ j _. sound.picked_up j q) j;
     empty_hand = sound.empty_hand;
@@ -123,22 +126,16 @@ module _ (kinds : List Kind) (quota : ℕ) where
         ∙ ap (λ z. served x d z ++ served_now x d (world.stage d)) (sym (changed_else world.done client done d other)))
         d;
     in_hand = λ x j e.
-        let b = sound.in_hand x j e in
-        (b.0, changed_else world.stage client stage j (λ g. before b.0 (ap world.stage (sym g) ∙ b.1)) ∙ b.1, b.2);
+        let (q, at, on_x) = sound.in_hand x j e in
+        (q, changed_else world.stage client stage j (λ g. before q (ap world.stage (sym g) ∙ at)) ∙ at, on_x);
     picked_up = λ j q. changed_all (λ j u. u ≡ picked q → world.hand q.object ≡ Some j) world.stage client stage
         (λ e. absurd (after q e)) (λ j _. sound.picked_up j q) j;
     empty_hand = sound.empty_hand;
     fitting = λ d q. changed_all
         (λ d u. request_of u ≡ Some q → (kind_of q.op ≡ kind_at kinds q.object) × (q.ticket < world.clock + 1))
         world.stage client stage
-        (λ e.
-        let new = fits q e in
-        let ticket = new.1 in
-        (new.0, omega arith))
-        (λ d _ e.
-        let old = sound.fitting d q e in
-        let ticket = old.1 in
-        (old.0, omega arith)) d;
+        (λ e. let (kind, ticket) = fits q e in (kind, omega arith))
+        (λ d _ e. let (kind, ticket) = sound.fitting d q e in (kind, omega arith)) d;
     early = λ x i d l. let a = sound.early x i d l in omega arith;
     drawn = total_one (λ d. tickets_drawn (world.done d) (request_of (world.stage d)))
         (λ d. tickets_drawn (changed world.done client done d) (request_of (changed world.stage client stage d))) 32
@@ -217,13 +214,11 @@ module _ (kinds : List Kind) (quota : ℕ) where
             ap (changed world.stage row stage) (sym (same_Some row j e)) ∙ changed_here world.stage row stage in
             (request, here, on))
             (λ y _ e.
-            let b = sound.in_hand y j e in
-            (b.0, changed_else world.stage row stage j (λ g. absurd cc) ∙ b.1, b.2)) y;
+            let (q, at, on_x) = sound.in_hand y j e in
+            (q, changed_else world.stage row stage j (λ g. absurd cc) ∙ at, on_x)) y;
         picked_up = λ j p. changed_all (λ j u. u ≡ picked p → changed world.hand object (Some row) p.object ≡ Some j)
             world.stage row stage
-            (λ e.
-            let f : request ≡ p = cc in
-            ap (changed world.hand object (Some row)) (ap (λ z. z.object) (sym f) ∙ on)
+            (λ e. ap (changed world.hand object (Some row)) (ap (λ z. z.object) (sym (same_picked request p e)) ∙ on)
             ∙ changed_here world.hand object (Some row))
             (λ j _ e. changed_else world.hand object (Some row) p.object
             (λ same. let g = sym free ∙ (ap world.hand (sym same) ∙ sound.picked_up j p e) in absurd (cc))
@@ -247,13 +242,11 @@ module _ (kinds : List Kind) (quota : ℕ) where
       changed_all (λ y h. h ≡ Some j → (p : AnyRequest) × (changed world.stage row stage j ≡ picked p) × (p.object ≡ y))
       world.hand object None (λ e. absurd (cc))
       (λ y other e.
-      let b = sound.in_hand y j e in
-      let another : j ≢ row =
-      λ g.
-      let f : picked request ≡ picked b.0 = sym is ∙ (ap world.stage (sym g) ∙ b.1) in
-      let f' : request ≡ b.0 = cc in
-      other (sym b.2 ∙ (ap (λ z. z.object) (sym f') ∙ on)) in
-      (b.0, changed_else world.stage row stage j another ∙ b.1, b.2))
+      let (q, at, on_x) = sound.in_hand y j e in
+      let same : j ≡ row → q ≡ request =
+      λ g. sym (same_picked request q (sym is ∙ (ap world.stage (sym g) ∙ at))) in
+      let another : j ≢ row = λ g. other (sym on_x ∙ (ap (λ z. z.object) (same g) ∙ on)) in
+      (q, changed_else world.stage row stage j another ∙ at, on_x))
 
   others_picked_up : (world : World) (object row : ℕ) (stage : Stage) (request : AnyRequest)
       → world.stage row ≡ picked request → request.object ≡ object → world.hand object ≡ Some row → NotPicked stage

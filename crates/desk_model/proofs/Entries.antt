@@ -79,7 +79,9 @@ replays_more content between after (e ∷ es) row request answer h s =
 replays_front : (content after : Content) (xs ys : List AnyEntry) → Replays content (xs ++ ys) after
     → (between : Content) × Replays content xs between
 replays_front content after [] ys h = (content, refl)
-replays_front content after (x ∷ xs) ys h = let b = replays_front h.0 after xs ys h.2 in (b.0, (h.0, h.1, b.1))
+replays_front content after (x ∷ xs) ys h =
+    let (between, replayed) = replays_front h.0 after xs ys h.2 in
+    (between, (h.0, h.1, replayed))
 
 -- a beginning of a legal log is legal
 pub legal_front : (kind : Kind) (log seen : List AnyEntry) → StartsWith log seen → IsLegalLog kind log

@@ -9,7 +9,9 @@ use Rattle.desk_model.specs.Sound.{ShareOut}
 module _ {count : ℕ} {lists : ℕ → List ℕ} (share : ShareOut count lists) where
   -- the list that holds a number, or the first where none does
   pub has_owner : (t : ℕ) → (c : ℕ) × (t < count → Contains (lists c) t)
-  has_owner t = dite (dec_lt t count) (λ l. let e = share.each t l in (e.0, λ _. e.1)) (λ n. (0, λ l. absurd (n l)))
+  has_owner t = dite (dec_lt t count)
+      (λ l. let (c, has) = share.each t l in (c, λ _. has))
+      (λ n. (0, λ l. absurd (n l)))
 
   -- the client that drew this ticket
   abbrev pub owner : ℕ → ℕ

@@ -103,12 +103,9 @@ pub is_of : (object client : ℕ) (done : List AnyDone) (stage : Stage) (e : Any
     → In e (put_in object client done stage)
     → IsOf object client e (journal_of done (request_of stage)) (made client done (request_of stage))
 is_of object client [] stage e i =
-    let now = put_now object client stage e i in
-    let request : AnyRequest = now.0 in
-    let answer : AnyAnswer = now.1 in
-    let p : IsPut object client request answer e = now.3 in
+    let (request, answer, asked, p) = put_now object client stage e i in
     let call : Call = record { number = request.ticket; op = request.op; returned = None } in
-    subst (λ (o : Option AnyRequest). IsOf object client e (journal_of [] o) (made client [] o)) (sym now.2) (record {
+    subst (λ (o : Option AnyRequest). IsOf object client e (journal_of [] o) (made client [] o)) (sym asked) (record {
       client = ap (λ (f : AnyEntry). f.client) p.same;
       invocation = inl (invoked_same object client request answer e p);
       has_call = record {

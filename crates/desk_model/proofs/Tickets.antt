@@ -81,13 +81,11 @@ splits_last : (client bound : ℕ) (log front : List AnyEntry) (request : AnyReq
     × All (λ (e : AnyEntry). e.ticket < bound) before
 splits_last client bound log front request (Reply reply) is low =
     let entry : AnyEntry = record { client = client; ticket = request.ticket; op = request.op; reply = reply } in
-    let there = splits_at client log front entry is in
-    let before : List AnyEntry = there.0 in
-    let after : List AnyEntry = there.1 in
-    let split : log ≡ before ++ (entry ∷ []) ++ after = there.2 ∙ sym (append_assoc before (entry ∷ []) after) in
+    let (before, after, whole) = splits_at client log front entry is in
+    let split : log ≡ before ++ (entry ∷ []) ++ after = whole ∙ sym (append_assoc before (entry ∷ []) after) in
     let early : All (λ (e : AnyEntry). e.ticket < bound) before =
     all_before (λ (e : AnyEntry). e.ticket < bound) before (entry ∷ after)
-    (subst (All (λ (e : AnyEntry). e.ticket < bound)) there.2 low) in
+    (subst (All (λ (e : AnyEntry). e.ticket < bound)) whole low) in
     (before, after, split, early)
 splits_last client bound log front request Refused is low =
     ([], log, refl, All-nil (λ (e : AnyEntry). e.ticket < bound))
@@ -96,13 +94,12 @@ splits_last client bound log front request Refused is low =
 still_in_time : (world world' : World) (client : ℕ) (call : AnyDone)
     → ((x : ℕ) → StartsWith (world'.log x) (world.log x)) → IsInTime world client call → IsInTime world' client call
 still_in_time world world' client call grows in_time =
-    let grown = grows call.request.object in
-    let before : List AnyEntry = in_time.0 in
-    let after : List AnyEntry = in_time.1 in
+    let (more, grown) = grows call.request.object in
+    let (before, after, whole, early) = in_time in
     let own : List AnyEntry = logged client call.request call.answer in
-    let split : world'.log call.request.object ≡ before ++ own ++ (after ++ grown.0) =
-    grown.1 ∙ (ap (λ z. z ++ grown.0) in_time.2 ∙ append_assoc (before ++ own) after grown.0) in
-    (before, after ++ grown.0, split, in_time.3)
+    let split : world'.log call.request.object ≡ before ++ own ++ (after ++ more) =
+    grown ∙ (ap (λ z. z ++ more) whole ∙ append_assoc (before ++ own) after more) in
+    (before, after ++ more, split, early)
 
 -- ---- no client draws
 
@@ -184,10 +181,10 @@ module _ (ticket : ℕ) (old new : ℕ → List ℕ) (client : ℕ) (here : new 
           subst (λ z. Contains z t) (sym here)
               (subst (Contains (old client ++ ticket ∷ [])) (sym same) (Contains-push (old client) ticket)),
         ))
-        (λ other. let b = share.each t (omega arith) in (
-          b.0,
+        (λ other. let (d, has) = share.each t (omega arith) in (
+          d,
           either (λ d l. Contains (old d) t → Contains l t) (Contains-append_left (old client) (ticket ∷ []) t)
-              (λ d _ h. h) b.0 b.1,
+              (λ d _ h. h) d has,
         ));
   }
 

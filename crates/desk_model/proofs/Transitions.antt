@@ -19,10 +19,10 @@ module _ (kinds : List Kind) (quota : ℕ) where
   on_object : (world : World) (object row : ℕ) (request : AnyRequest) → world.hand object ≡ Some row
       → world.stage row ≡ picked request → S world → request.object ≡ object
   on_object world object row request held is sound =
-      let b = sound.in_hand object row held in
-      let f : picked request ≡ picked b.0 = sym is ∙ b.1 in
-      let same : request ≡ b.0 = cc in
-      ap (λ z. z.object) same ∙ b.2
+      let (q, at, on) = sound.in_hand object row held in
+      let f : picked request ≡ picked q = sym is ∙ at in
+      let same : request ≡ q = cc in
+      ap (λ z. z.object) same ∙ on
 
   -- the world is sound after each step that a client may take
   takes_sound : (step : Step) (world world' : World) (client : ℕ) → client < 32
@@ -48,18 +48,18 @@ module _ (kinds : List Kind) (quota : ℕ) where
       let object : ℕ = took.object in
       let row : ℕ = took.row in
       let request : AnyRequest = took.request in
-      let h = took.in_hand in
-      let on = on_object world object row request h.1 h.2 sound in
+      let (holds, held, is, replayed) = took.in_hand in
+      let on = on_object world object row request held is sound in
       let more = replays_more (empty (kind_at kinds object)) took.content took.left (world.log object) row request
-      took.given h.3 took.serves in
+      took.given replayed took.serves in
       subst S (sym took.after)
-      (sound_served kinds quota world object row client request took.given h.2 on h.0 h.1 (took.left, more) sound)
+      (sound_served kinds quota world object row client request took.given is on holds held (took.left, more) sound)
   takes_sound put_back world world' client low took sound =
       let object : ℕ = took.object in
       let row : ℕ = took.row in
-      let h = took.in_hand in
-      let on = on_object world object row took.request h.1 h.2 sound in
-      subst S (sym took.after) (sound_put_back kinds quota world object row client took.request h.2 on h.0 h.1 sound)
+      let (holds, held, is, replayed) = took.in_hand in
+      let on = on_object world object row took.request held is sound in
+      subst S (sym took.after) (sound_put_back kinds quota world object row client took.request is on holds held sound)
   takes_sound take world world' client low took sound =
       subst S (sym took.after)
       (sound_staged kinds quota world client (taken took.request took.given) (λ q e. absurd cc) (λ q e. absurd (cc))

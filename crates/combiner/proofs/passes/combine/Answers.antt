@@ -8,22 +8,28 @@ use Rattle.combiner.proofs.Served.{keeps_missed}
 use Rattle.combiner.proofs.passes.combine.Goals as goal
 
 pub returns-then-is_err-clause-same : goal.returns-then-is_err-clause-same
-returns-then-is_err-clause-same g c = let h = c.count_pass-pass.ensures.counted in let o = c.in-Won.ensures.won in
+returns-then-is_err-clause-same g c =
+    let counted = c.count_pass-pass.ensures.counted in
+    let won = c.in-Won.ensures.won in
     keeps_learnt c.args.client.knows c.args.object c.count_pass-pass.new.self c.reserve.new.self c.release.result.knows
-    (ap (λ p. p.knows) h ∙ (o.knows ∙ ap (λ p. after_win c.args.object p.log c.args.client.knows) (sym h)))
-    (ap (λ p. p.object) h ∙ o.object)
-    (subst (λ p. StartsWith p.log (seen_of c.args.client.knows c.args.object)) (sym h) o.begins)
+    (ap (λ p. p.knows) counted
+    ∙ (won.knows ∙ ap (λ p. after_win c.args.object p.log c.args.client.knows) (sym counted)))
+    (ap (λ p. p.object) counted ∙ won.object)
+    (subst (λ p. StartsWith p.log (seen_of c.args.client.knows c.args.object)) (sym counted) won.begins)
     (goes_room _ _ _ c.reserve.ensures.same) c.release.ensures.released
 
 pub returns-else-is_err-clause-same : goal.returns-else-is_err-clause-same
-returns-else-is_err-clause-same g c = let h = c.count_pass-pass.ensures.counted in let o = c.in-Won.ensures.won in
+returns-else-is_err-clause-same g c =
+    let counted = c.count_pass-pass.ensures.counted in
+    let won = c.in-Won.ensures.won in
     let goes = goes_on _ _ _ (goes_room c.count_pass-pass.new.self c.reserve.new.self _ c.reserve.ensures.same)
     (goes_on _ _ _ c.serve-held.ensures.goes (goes_same c.serve-held.result.0 c.clean.new.pass c.clean.ensures)) in
     keeps_learnt c.args.client.knows c.args.object c.count_pass-pass.new.self c.clean.new.pass
     c.release-in-Won.result.knows
-    (ap (λ p. p.knows) h ∙ (o.knows ∙ ap (λ p. after_win c.args.object p.log c.args.client.knows) (sym h)))
-    (ap (λ p. p.object) h ∙ o.object)
-    (subst (λ p. StartsWith p.log (seen_of c.args.client.knows c.args.object)) (sym h) o.begins) goes
+    (ap (λ p. p.knows) counted
+    ∙ (won.knows ∙ ap (λ p. after_win c.args.object p.log c.args.client.knows) (sym counted)))
+    (ap (λ p. p.object) counted ∙ won.object)
+    (subst (λ p. StartsWith p.log (seen_of c.args.client.knows c.args.object)) (sym counted) won.begins) goes
     c.release-in-Won.ensures.released
 
 pub returns-else-is_err-clause-served : goal.returns-else-is_err-clause-served

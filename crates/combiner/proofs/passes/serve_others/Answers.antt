@@ -8,8 +8,10 @@ use Rattle.combiner.proofs.passes.serve_others.Goals.{then-row-own+then-eq, then
 pub loop-at-init : goal.loop-at-init
 loop-at-init g c = (goes_nowhere c.args.pass, omega arith)
 
-goes_tried : (a p q r : Holding) → Goes a p → Goes p q → r ≡ q → Goes a r
-goes_tried a p q r before step is = subst (λ z. Goes a z) (sym is) (goes_on a p q before step)
+-- a pass that has gone on, and then tries one row more, has gone on
+goes_tried : (start pass tried after : Holding) → Goes start pass → Goes pass tried → after ≡ tried → Goes start after
+goes_tried start pass tried after before step is =
+    subst (λ z. Goes start z) (sym is) (goes_on start pass tried before step)
 
 pub loop-at-preserved : goal.loop-at-preserved
 loop-at-preserved g c = let n = c.loop-at.invariant.1 in elim c.if-row-own.branch [

@@ -18,10 +18,10 @@ returns-in-Not-clause-own g c = not_tried c.args.pass c.in-Not.pass c.args.row c
 
 pub returns-then-possible-clause-goes : goal.returns-then-possible-clause-goes
 returns-then-possible-clause-goes g c =
-    goes_on _ _ _ (answered_goes c.args.pass c.in-Got.hand c.answer-pass.result.0 c.args.row _ c.in-Got.ensures.desk
-    c.answer-pass.ensures.desk
-    c.in-Got.ensures.state (ap (λ z. z.places) c.answer-pass.ensures.state) c.in-Got.ensures.got
-    c.answer-pass.ensures.answered)
+    let places = ap (λ z. z.places) c.answer-pass.ensures.state in
+    goes_on _ _ _
+    (answered_goes c.args.pass c.in-Got.hand c.answer-pass.result.0 c.args.row _ c.in-Got.ensures.desk
+    c.answer-pass.ensures.desk c.in-Got.ensures.state places c.in-Got.ensures.got c.answer-pass.ensures.answered)
     (goes_same c.answer-pass.result.0 _ (_, _, c.set_age.ensures))
 
 pub returns-then-possible-clause-own : goal.returns-then-possible-clause-own
@@ -33,10 +33,12 @@ returns-then-possible-clause-own g c =
 pub returns-else-possible-clause-goes : goal.returns-else-possible-clause-goes
 returns-else-possible-clause-goes g c =
     back_goes c.args.pass c.in-Got.hand c.put_back.result c.args.row c.in-Got.ensures.desk c.put_back.ensures.desk
-    c.in-Got.ensures.state
-    c.put_back.ensures.state c.in-Got.ensures.got c.put_back.ensures.put_back
+    c.in-Got.ensures.state c.put_back.ensures.state c.in-Got.ensures.got c.put_back.ensures.put_back
 
 pub returns-else-possible-clause-own : goal.returns-else-possible-clause-own
 returns-else-possible-clause-own g c =
     back_tried c.args.pass c.in-Got.hand c.put_back.result c.args.row c.in-Got.ensures.got c.put_back.ensures.put_back
-    (λ can. let t = c.possible.ensures.1 can in let f = c.if-possible.false in absurd (cc))
+    (λ can.
+    let yes = c.possible.ensures.1 can in
+    let no = c.if-possible.false in
+    absurd (cc))
