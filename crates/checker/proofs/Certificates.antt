@@ -441,9 +441,9 @@ pub next_is_first : (es : List Event) (certificates : List Certificate) (fs : Li
     → IsFirstRefusal es certificates refusal × (AreValid es certificates → refusal ≡ NoMemory)
 next_is_first es certificates fs i next refusal apart objects fine inside is refused =
     let in_history = next_is es fs i next (λ kind calls. IsRefused kind calls certificates next.object refusal)
-        objects inside is refused in
+    objects inside is refused in
     let parts = next_parts fs i next inside is in (
       first_refusal es certificates fs (take i fs) next (drop (suc i) fs) refusal apart objects parts fine in_history,
       refused_are_not_valid es certificates fs (take i fs) next (drop (suc i) fs)
-      refusal apart objects parts fine in_history,
+          refusal apart objects parts fine in_history,
     )

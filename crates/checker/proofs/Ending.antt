@@ -82,9 +82,9 @@ module _ (kind : Kind) (ops : List Invocation) (order : List ℤ) (i : ℕ) (see
       → IsFirstAtPlace kind (calls_of ops) order (Repeated entry)
   repeated_at walk at hand marked =
       let stands : In entry (take i order) =
-          rw (number_at ops entry place call default hand)
-          (stands_true (get_or ops place default).number (take i order)
-          (sym (walk.marks place default hand.within) ∙ marked)) in
+      rw (number_at ops entry place call default hand)
+      (stands_true (get_or ops place default).number (take i order)
+      (sym (walk.marks place default hand.within) ∙ marked)) in
       repeated_first kind (calls_of ops) order i entry call content walk.so_far at hand.found stands
 
   -- an operation that returned before the greatest invocation so far is too late
@@ -141,11 +141,11 @@ module _ (kind : Kind) (ops : List Invocation) (order : List ℤ) (i : ℕ) (see
   next_at after op top gives rising here inside at early is can agrees kept new_top =
       let parts = call_parts (get_or ops place default) call (here.hand.is default) in
       let step : IsStep content call after =
-          record {
-            reply = gives;
-            possible = ap (next content) (sym (is ∙ parts.1)) ∙ can;
-            replied = λ r q. agrees r (parts.2 ∙ q);
-          } in
+      record {
+        reply = gives;
+        possible = ap (next content) (sym (is ∙ parts.1)) ∙ can;
+        replied = λ r q. agrees r (parts.2 ∙ q);
+      } in
       rw (take_more order i (pos 0) inside, ← at)
       (walk_more kind ops (take i order) seen content greatest entry place call default after top rising here.walk
       here.hand here.fresh early step kept new_top)
@@ -194,12 +194,12 @@ module _ (kind : Kind) (ops : List Invocation) (order : List ℤ) (seen : List B
       let place = place_of_call ops c i in
       let parts = call_parts (get_or ops place.0 default) c (place.2 default) in
       let stands = stands_marked place.0 default c walk place.1 (place.2 default)
-          (marked place.0 default place.1 (ap is_some parts.2 ∙ r)) in
+      (marked place.0 default place.1 (ap is_some parts.2 ∙ r)) in
       let known = walk.so_far.known (pos c.number) stands in
       let number = found_number (calls_of ops) (pos c.number) known.0 known.1 in
       let same : known.0 ≡ c =
-          one_call ops known.0 c default rising (found_known (calls_of ops) (pos c.number) known.0 known.1) i
-          (same_pos known.0.number c.number (sym number)) in
+      one_call ops known.0 c default rising (found_known (calls_of ops) (pos c.number) known.0 known.1) i
+      (same_pos known.0.number c.number (sym number)) in
       (pos c.number, stands, known.1 ∙ ap Some same))
 
   -- the first operation that returned and is not marked is the least that the order leaves out
@@ -211,7 +211,7 @@ module _ (kind : Kind) (ops : List Invocation) (order : List ℤ) (seen : List B
       let call = returned_call made (first.returned default) in
       let parts = call_parts made call.0 call.1 in
       let fresh : In (pos made.number) order → ⊥ =
-          stands_false made.number order (sym (walk.marks first.place default first.within) ∙ first.unmarked) in
+      stands_false made.number order (sym (walk.marks first.place default first.within) ∙ first.unmarked) in
       record {
         places = no_fault kind (calls_of ops) order content walk.so_far;
         call = call.0;
@@ -226,7 +226,7 @@ module _ (kind : Kind) (ops : List Invocation) (order : List ℤ) (seen : List B
             let place = place_of_call ops c i in
             let its = call_parts (get_or ops place.0 default) c (place.2 default) in
             let before : place.0 < first.place =
-                earlier place.0 place.1 (omega (arith, first.is default, its.0, less)) in
+            earlier place.0 place.1 (omega (arith, first.is default, its.0, less)) in
             contains_from_in order (pos c.number)
             (stands_marked place.0 default c walk place.1 (place.2 default)
             (first.before place.0 default before (ap is_some its.2 ∙ r))));
@@ -237,7 +237,7 @@ module _ (kind : Kind) (ops : List Invocation) (order : List ℤ) (seen : List B
       earlier j inside less = elim (cases_order j first.place) [
         | inl same ↦
             let numbers : (get_or ops j default).number ≡ (get_or ops first.place default).number =
-                ap (λ i. (get_or ops i default).number) same in
+            ap (λ i. (get_or ops i default).number) same in
             absurd (omega arith)
         | inr apart ↦ elim apart [
           | inl below ↦ below

@@ -102,8 +102,8 @@ found_by_number ops entry place default rising inside is done =
     let call = call_from made done in
     let number : pos call.0.number ≡ entry = ap pos (sym (call_parts made call.0 call.1).0) ∙ is in
     let own = names_itself (calls_of ops) call.0
-        (rising_calls ops (pairs_from_all (λ a b. a.number < b.number) ops rising))
-        (call_at_place ops place default call.0 inside call.1) in (
+    (rising_calls ops (pairs_from_all (λ a b. a.number < b.number) ops rising))
+    (call_at_place ops place default call.0 inside call.1) in (
       call.0,
       record {
         within = inside;
@@ -127,9 +127,9 @@ pub failed_here : (ops : List Invocation) (entry : ℤ) (place : ℕ) (default :
     → call_with_number (calls_of ops) entry ≡ None
 failed_here ops entry place default rising inside eq none = not_named ops entry default (λ j c m n q.
     let here : pos (get_or ops place default).number ≡ entry =
-        int_ranked (pos (get_or ops place default).number) entry Equal (sym eq) in
+    int_ranked (pos (get_or ops place default).number) entry Equal (sym eq) in
     let same : (get_or ops place default).number ≡ (get_or ops j default).number =
-        same_pos (get_or ops place default).number (get_or ops j default).number (here ∙ sym n) in
+    same_pos (get_or ops place default).number (get_or ops j default).number (here ∙ sym n) in
     elim (cases_order place j) [
       | inl s ↦ let t : None ≡ Some c = sym none ∙ (ap (λ i. call_of (get_or ops i default)) s ∙ q) in absurd (cc t)
       | inr r ↦ numbers_apart ops place j default default rising inside m

@@ -243,19 +243,19 @@ module _ (kind : Kind) (ops : List Invocation) (order : List ℤ) (seen : List B
       mark j other inside = elim (cases_eq j place) [
         | inl is ↦
             let same : (get_or ops j other).number ≡ (get_or ops place default).number =
-                ap (λ i. (get_or ops i other).number) is
-                ∙ ap (λ (y : Invocation). y.number) (get_or_default ops place other default hand.within) in
+            ap (λ i. (get_or ops i other).number) is
+            ∙ ap (λ (y : Invocation). y.number) (get_or_default ops place other default hand.within) in
             let long = walk.long in
             let within = hand.within in
             let here : get_or (set seen place true) j false ≡ true =
-                rw (is, get_or-set_same seen place true false (omega arith)) in
+            rw (is, get_or-set_same seen place true false (omega arith)) in
             here ∙ sym (stands_push (get_or ops j other).number (get_or ops place default).number order
             ∙ or_right (stands_in (get_or ops j other).number order)
             ((get_or ops place default).number == (get_or ops j other).number)
             (eq-eqb (get_or ops place default).number (get_or ops j other).number (sym same)))
         | inr ne ↦
             let apart : (get_or ops place default).number ≢ (get_or ops j other).number =
-                numbers_apart ops place j default other rising hand.within inside (λ q. ne (sym q)) in
+            numbers_apart ops place j default other rising hand.within inside (λ q. ne (sym q)) in
             get_or-set_other seen place j true false ne
             ∙ (walk.marks j other inside
             ∙ sym (stands_push (get_or ops j other).number (get_or ops place default).number order

@@ -169,8 +169,8 @@ module _ (kind : Kind) (calls : List Call) (order : List ℤ) (i : ℕ) (entry :
   no_late other by call at found early h =
       let same : call ≡ h.0 = same_call other call h.0 at found h.2.here h.2.named in
       let upto : pos by ≤ℤ pos h.1.at =
-          early h.1 (ap (λ (x : Call). x.returned) same ∙ h.3) (pos by)
-          (in_from_contains (take i order) (pos by) h.5.stands) in
+      early h.1 (ap (λ (x : Call). x.returned) same ∙ h.3) (pos by)
+      (in_from_contains (take i order) (pos by) h.5.stands) in
       let before : h.1.at < by = h.4 in
       omega (arith, ints)
 
@@ -182,10 +182,10 @@ module _ (kind : Kind) (calls : List Call) (order : List ℤ) (i : ℕ) (entry :
   no_impossible other call content after reply so_far at found can h =
       let same : call ≡ h.0 = same_call other call h.0 at found h.2.here h.2.named in
       let there : content ≡ h.1 =
-          same_Some content h.1
-          (sym (along_content calls (empty kind) (take i order) content so_far.replies) ∙ h.3) in
+      same_Some content h.1
+      (sym (along_content calls (empty kind) (take i order) content so_far.replies) ∙ h.3) in
       let never : next content call.op ≡ None =
-          ap (λ (x : Call). next content x.op) same ∙ (ap (λ (x : Content). next x h.0.op) there ∙ h.4) in
+      ap (λ (x : Call). next content x.op) same ∙ (ap (λ (x : Content). next x h.0.op) there ∙ h.4) in
       absurd (cc (can, never))
 
   -- ---- the first fault, by its rank

@@ -112,7 +112,7 @@ pub along_at : (calls : List Call) (content : Content) (order : List ℤ) (last 
 along_at calls content [] last place entry call there along here found q = absurd (cc here)
 along_at calls content (first ∷ order) last zero entry call there along here found q =
     let same : along.0 ≡ call =
-        same_Some along.0 call (sym along.2 ∙ (ap (call_with_number calls) (same_Some first entry here) ∙ found)) in
+    same_Some along.0 call (sym along.2 ∙ (ap (call_with_number calls) (same_Some first entry here) ∙ found)) in
     (along.1, rw (same, same_Some content there q) at along.3)
 along_at calls content (first ∷ order) last (suc place) entry call there along here found q =
     along_at calls along.1 order last place entry call there along.4 here found

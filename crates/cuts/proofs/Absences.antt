@@ -247,9 +247,9 @@ early_spent value number call later content after reply turned early spent =
           let here = ap one put in
           let no_take = ap one (no_put_takes (int_eq value) call.op (Some reply) (early_put value number call put).0) in
           let none_here = and_le (takes_out (int_eq value) call.op (reply_of call.returned))
-              (ended_before number call.returned) in
+          (ended_before number call.returned) in
           let none_told = ap one (no_put_takes (int_eq value) call.op (reply_of call.returned)
-              (early_put value number call put).0) in
+          (early_put value number call put).0) in
           omega arith
       | inr taken ↦
           let told = ap one (early_removal value number call taken).0 in
@@ -273,7 +273,7 @@ without_early value number (call ∷ calls) whole part others along in_time spen
     elim (true_or_false (is_put_before value number call || is_taken_before value number call)) [
       | inl early ↦
           let skipped = subst (λ z. IfSome z (λ p. Touches value call.op p.1 → IsOthers value p.0 part)) along.2
-              (skips value whole part call.op others) (touched along.1 early turned.fewer) in
+          (skips value whole part call.op others) (touched along.1 early turned.fewer) in
           subst (RepliesAlong part) (sym (filter_away (stays value number) call calls (ap not early)))
           (without_early value number calls along.0 part skipped along.4 in_time.1
           (early_spent value number call calls whole along.0 along.1 turned early spent))
@@ -294,8 +294,8 @@ without_early value number (call ∷ calls) whole part others along in_time spen
                   absurd (omega arith)
               | inr no_take ↦
                   let g = subst
-                      (λ z. IfSome z (λ p. IsApart value call.op p.1 → Goes value call.op part p.0 p.1)) along.2
-                      (goes value whole part call.op others) (no_put, no_take) in
+                  (λ z. IfSome z (λ p. IsApart value call.op p.1 → Goes value call.op part p.0 p.1)) along.2
+                  (goes value whole part call.op others) (no_put, no_take) in
                   let none_took = ap one no_take in
                   let none_put = ap one no_put in
                   let none_here = ap one no_early.1 in
@@ -315,10 +315,10 @@ without_early value number (call ∷ calls) whole part others along in_time spen
         → Touches value call.op reply
     touched reply early fewer = elim
         (or_true (is_put_before value number call) (is_taken_before value number call) early) [
-      | inl put ↦ inl (early_put value number call put).0
-      | inr taken ↦ inr (more (takes_out (int_eq value) call.op (reply_of call.returned))
-          (takes_out (int_eq value) call.op (Some reply)) (early_removal value number call taken).0 fewer)
-    ]
+          | inl put ↦ inl (early_put value number call put).0
+          | inr taken ↦ inr (more (takes_out (int_eq value) call.op (reply_of call.returned))
+              (takes_out (int_eq value) call.op (Some reply)) (early_removal value number call taken).0 fewer)
+        ]
       where
         more : (a b : Bool) → a ≡ true → one a ≤ one b → b ≡ true
         more a b q l = grind arith

@@ -115,7 +115,7 @@ split_at : (kind : Kind) (calls : List Call) (order : List ℤ) (removal : Call)
     → IsValidOrder kind calls order → Split kind calls removal
 split_at kind calls order removal rising stands ended valid =
     let split = in_split removal valid.entries (in_entries valid removal (in_from_contains calls removal stands)
-        ended) in
+    ended) in
     record {
       earlier = split.0;
       later = split.1;
@@ -154,7 +154,7 @@ taken_early : (kind : Kind) (calls : List Call) (removal : Call) (split : Split 
     → tally (may_by keeps) split.earlier ≤ count_by (may_precede keeps removal.number response.at) calls
 taken_early kind calls removal split keeps response returned =
     let late : (e : Call) → In e split.earlier → may_by keeps e ≡ true → may_precede keeps removal.number response.at e
-        ≡ true =
+    ≡ true =
     λ e i p.
     let other = pairs_to (λ x y. x.number ≢ y.number) split.earlier removal split.later split.apart e i in
     let in_time = pairs_to (λ x y. ReturnsBefore y x → ⊥) split.earlier removal split.later split.in_time e i in
@@ -165,7 +165,7 @@ taken_early kind calls removal split keeps response returned =
     (pairs_front (λ x y. x.number ≢ y.number) split.earlier (removal ∷ split.later) split.apart) in
     let may = tally_le (may_by keeps) (may_precede keeps removal.number response.at) split.earlier late in
     let few = count_among (may_precede keeps removal.number response.at) split.earlier calls front
-        (λ e i p. split.known e i) in
+    (λ e i p. split.known e i) in
     let counted = count_tally (may_precede keeps removal.number response.at) calls in
     omega arith
   where
@@ -188,7 +188,7 @@ plain_case kind calls removal split response found from before removes returned 
     let puts = tally_le (is_put_ahead keeps from before) (put_by keeps) split.earlier
     (λ e i p. (put_parts keeps from before e p).0) in
     let here = spent removal response found split.earlier split.later kind removes returned gave dequeued popped
-        split.replies in
+    split.replies in
     let counted = count_tally (is_put_ahead keeps from before) calls in
     omega arith
 
@@ -208,7 +208,7 @@ queue_case kind calls removal split response found from before is_queue dequeue 
     let here = queue_spent found split.earlier removal split.later [] dequeue gives replies in
     let in_time = pairs_front (λ x y. ReturnsBefore y x → ⊥) split.earlier (removal ∷ split.later) split.in_time in
     let ahead : (e : Call) → In e calls → is_put_ahead every from before e ≡ true
-        → In e (until_put found split.earlier) =
+    → In e (until_put found split.earlier) =
     λ e i p.
     let q = put_parts every from before e p in
     let t = ended before e.returned q.1 in
@@ -217,7 +217,7 @@ queue_case kind calls removal split response found from before is_queue dequeue 
     (λ w. turned e.number w.0.at
     (all_at (λ e. (r : Return) → e.returned ≡ Some r → e.number < r.at) calls ends e i w.0 w.1) w.2) in
     let more = count_among (is_put_ahead every from before) calls (until_put found split.earlier)
-        split.distinct ahead in
+    split.distinct ahead in
     let puts = tally_le (is_put_ahead every from before) (put_by every) (until_put found split.earlier)
     (λ e i p. (put_parts every from before e p).0) in
     let counted = count_tally (is_put_ahead every from before) calls in
@@ -245,10 +245,10 @@ stack_case kind calls removal split response found from before is_stack pop retu
     (λ (k : Kind). RepliesAlong (empty k) (split.earlier ++ removal ∷ split.later)) is_stack split.replies in
     let since = since_along found split.earlier removal split.later [] replies in
     let here = stack_spent found (since_put found split.earlier) removal split.later since.0 pop gives
-        (since_none found split.earlier) since.1 in
+    (since_none found split.earlier) since.1 in
     let in_time = pairs_front (λ x y. ReturnsBefore y x → ⊥) split.earlier (removal ∷ split.later) split.in_time in
     let above : (e : Call) → In e calls → is_put_ahead every from before e ≡ true
-        → In e (since_put found split.earlier) =
+    → In e (since_put found split.earlier) =
     λ e i p.
     let q = put_parts every from before e p in
     in_since found split.earlier e (early kind calls removal split every from before removes invoked e i p) in_time
@@ -261,7 +261,7 @@ stack_case kind calls removal split response found from before is_stack pop retu
     (λ w. turned e.number w.0.at
     (all_at (λ e. (r : Return) → e.returned ≡ Some r → e.number < r.at) calls ends e i w.0 w.1) w.2) in
     let more = count_among (is_put_ahead every from before) calls (since_put found split.earlier)
-        split.distinct above in
+    split.distinct above in
     let puts = tally_le (is_put_ahead every from before) (put_by every) (since_put found split.earlier)
     (λ e i p. (put_parts every from before e p).0) in
     let fewer = since_tally (may_by every) found split.earlier in
@@ -337,7 +337,7 @@ ahead_bounded kind calls removal at from found order of_kind rising ends stands 
             (λ (o : Option ℤ). is_settled o Pop from calls ≡ true) c.1
             (subst (λ (op : AnyOp). is_settled found op from calls ≡ true) c.2 settled) in
             let q = stack_case kind calls removal split response c.0 from removal.number (of_op Pop c.2)
-                c.2 shows.returned
+            c.2 shows.returned
             (shows.value ∙ ap Value c.1) (omega arith) all ends in
             moved kind calls removal split from removal.op Pop found c.0 c.2 c.1 q
       ]

@@ -187,14 +187,13 @@ in_with_value v (w ∷ ws) x i = grind (arith, with_value-more, with_value-front
 pub rising_with_value : (v : ℤ) (ws : List ℤ) → IsRising ws → IsRising (with_value v ws)
 rising_with_value v [] h = (λ y i. absurd i, tt)
 rising_with_value v (w ∷ ws) h = elim (true_or_false (int_lt w v)) [
-  | inl low ↦ subst IsRising (sym (with_value-more v w ws low))
-      (
-        λ y i.
-            let among = in_with_value v ws y i in
-            let later = h.0 y in
-            grind (arith, ints),
-        rising_with_value v ws h.1,
-      )
+  | inl low ↦ subst IsRising (sym (with_value-more v w ws low)) (
+    λ y i.
+        let among = in_with_value v ws y i in
+        let later = h.0 y in
+        grind (arith, ints),
+    rising_with_value v ws h.1,
+  )
   | inr high ↦ subst IsRising (sym (with_value-front v w ws high))
       (λ y i. let later = h.0 y in grind (arith, ints), h)
 ]
@@ -363,8 +362,8 @@ abbrev IsTableShadow : (ℤ → Bool) → map.FinMap int_cmp ℤ → map.FinMap 
 IsTableShadow keeps whole part = (k : ℤ) → keeps k ≡ true → map.get part k ≡ map.get whole k
 
 -- The part has what the whole has at each key that it keeps, and an operation names this key.
-module _ (keeps : ℤ → Bool) (whole part : map.FinMap int_cmp ℤ) (key : ℤ) (shadow : IsTableShadow keeps whole part)
-    where
+module _ (keeps : ℤ → Bool) (whole part : map.FinMap int_cmp ℤ) (key : ℤ)
+    (shadow : IsTableShadow keeps whole part) where
   put_shadow : (value : ℤ) → IsTableShadow keeps (map.insert whole key value) (map.insert part key value)
   put_shadow value q a = let same = shadow q a in grind (arith, ints, get-insert)
 

@@ -83,7 +83,7 @@ reached keeps (call ∷ earlier) removal later first sound along =
     let turned = turn keeps call first along.0 along.1 along.2 along.3 in
     let more = may_le keeps call.op call.returned along.1 along.3 in
     let rest = reached keeps earlier removal later along.0 (subst (λ z. IfSome z (λ p. IsSound p.0)) along.2
-        (sound_next first call.op sound)) along.4 in
+    (sound_next first call.op sound)) along.4 in
     record { content = rest.content; sound = rest.sound; along = rest.along; counted = omega arith }
 
 -- no value of a rising list is less than its first

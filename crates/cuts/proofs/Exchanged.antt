@@ -106,9 +106,9 @@ one_late calls xs i p many apart pending known = elim (late p.call.number xs) [
   | inr all ↦
       let test : Call → Bool = λ e. is_open e && nat_lt e.number p.call.number in
       let passes = all_pass test xs (λ x j.
-          let earlier = all x j in
-          let removes = pending x j in
-          grind (arith, nat_tests)) in
+      let earlier = all x j in
+      let removes = pending x j in
+      grind (arith, nat_tests)) in
       let fewer = count_among test xs calls (apart_calls xs apart) (λ x j q. known x j) in
       let ranked = p.at in
       absurd (omega arith)

@@ -68,16 +68,16 @@ pub queue_spent : (found : ℤ) (earlier : List Call) (removal : Call) (later : 
     → in_front found values (fresh found earlier) ≤ tally (may_by every) earlier
 queue_spent found [] removal later values dequeues gives along =
     let does : next (queue values) Dequeue ≡ Some (along.0, along.1) =
-        ap (next (queue values)) (sym dequeues) ∙ along.2 in
+    ap (next (queue values)) (sym dequeues) ∙ along.2 in
     let front = subst (λ z. IfSome z (λ p. p.1 ≡ Value (Some found) → in_front found values 0 ≡ 0)) does
-        (found_first found values) (gives along.1 along.3) in
+    (found_first found values) (gives along.1 along.3) in
     omega arith
 queue_spent found (call ∷ earlier) removal later values dequeues gives along =
     let step = subst (λ z. IfSome z (λ p. Moves found values call.op (fresh found earlier) p.0 p.1)) along.2
-        (queue_moves found values call.op (fresh found earlier)) in
+    (queue_moves found values call.op (fresh found earlier)) in
     let more = may_le every call.op call.returned along.1 along.3 in
     let rest = queue_spent found earlier removal later step.0 dequeues gives
-        (subst (λ (c : Content). RepliesAlong c (earlier ++ removal ∷ later)) step.1 along.4) in
+    (subst (λ (c : Content). RepliesAlong c (earlier ++ removal ∷ later)) step.1 along.4) in
     let moved = step.2 in
     omega arith
 
@@ -141,14 +141,14 @@ pub stack_spent : (found : ℤ) (earlier : List Call) (removal : Call) (later : 
 stack_spent found [] removal later values pops gives none along =
     let does : next (stack values) Pop ≡ Some (along.0, along.1) = ap (next (stack values)) (sym pops) ∙ along.2 in
     let front = subst (λ z. IfSome z (λ p. p.1 ≡ Value (Some found) → in_front found values 0 ≡ 0)) does
-        (found_on_top found values) (gives along.1 along.3) in
+    (found_on_top found values) (gives along.1 along.3) in
     omega arith
 stack_spent found (call ∷ earlier) removal later values pops gives none along =
     let step = subst (λ z. IfSome z (λ p. Sinks found values call.op p.0 p.1)) along.2
-        (stack_moves found values call.op) in
+    (stack_moves found values call.op) in
     let more = may_le every call.op call.returned along.1 along.3 in
     let rest = stack_spent found earlier removal later step.0 pops gives (λ x i. none x (inr i))
-        (subst (λ (c : Content). RepliesAlong c (earlier ++ removal ∷ later)) step.1 along.4) in
+    (subst (λ (c : Content). RepliesAlong c (earlier ++ removal ∷ later)) step.1 along.4) in
     sums _ _ _ _ _ _ _ (step.2 (none call (inl refl))) more rest
   where
     -- the balances of a call and of the others, added up
@@ -200,7 +200,7 @@ pub since_along : (found : ℤ) (earlier : List Call) (removal : Call) (later : 
 since_along found [] removal later values along = (values, along)
 since_along found (call ∷ earlier) removal later values along =
     let step = subst (λ z. IfSome z (λ p. Sinks found values call.op p.0 p.1)) along.2
-        (stack_moves found values call.op) in
+    (stack_moves found values call.op) in
     go (any_put found (call ∷ earlier))
     (since_along found earlier removal later step.0
     (subst (λ (c : Content). RepliesAlong c (earlier ++ removal ∷ later)) step.1 along.4))

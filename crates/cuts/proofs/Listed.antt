@@ -273,7 +273,7 @@ from_step kind from calls part kept order are suffix covers valid = go (kept fro
         let own = one_number (λ (z : Call). z.number) z.0 e calls are.rising z.1 (in_kept e i)
         (sym (from_timed from calls part are.rising suffix z.0 y.0 z.1 z.2).number ∙ y.2) in
         let made : call_from from suffix.at suffix.first e ≡ Some y.0 =
-            ap (call_from from suffix.at suffix.first) (sym own) ∙ z.2 in
+        ap (call_from from suffix.at suffix.first) (sym own) ∙ z.2 in
         elim (call_from_cases from suffix.at suffix.first e y.0 made) [
           | inl w ↦ absurd (false_is_not_true (sym q ∙ ap kept (sym (ap (λ (z : Call). z.number) w.2) ∙ y.2) ∙ chosen))
           | inr w ↦ made ∙ ap (λ (z : Call). Some z) w.1

@@ -233,12 +233,12 @@ suffix_valid kind calls call response first order stands kinds returned leaves_f
     let in_time = pairs_at (λ x y. ReturnsBefore y x → ⊥) earlier call later
     (subst (Pairs (λ x y. ReturnsBefore y x → ⊥)) s.2 (in_time_order valid)) in
     let from_later : (x : Call) → In x picked → (y : Call) × In y later × IsCutOf x y × (x ≡ cut y) = λ x i.
-        let y = in_map cut x later (in_pick m.flags es x i) in
-        (y.0, y.1, subst (λ (z : Call). IsCutOf z y.0) (sym y.2) (cut_of first at y.0), y.2) in
+    let y = in_map cut x later (in_pick m.flags es x i) in
+    (y.0, y.1, subst (λ (z : Call). IsCutOf z y.0) (sym y.2) (cut_of first at y.0), y.2) in
     let from_front : (x : Call) → In x front → (y : Call) × In y earlier × IsCutOf x y × IsFront from at first y x =
-        λ x i.
-        let y = in_filter_map (front_call from at first) x earlier i in
-        (y.0, y.1, front_cut from at first y.0 x y.2, front_facts from at first y.0 x y.2) in (
+    λ x i.
+    let y = in_filter_map (front_call from at first) x earlier i in
+    (y.0, y.1, front_cut from at first y.0 x y.2, front_facts from at first y.0 x y.2) in (
       map number entries,
       record {
         entries = entries;

@@ -112,7 +112,7 @@ completed_any process h es (call number object op later reply rest t) r s =
     let below = completed_any process rest es t r s.1 in
     let first' : ProcessCall = first process number object op later reply in
     let calls_are : calls_in (at number (Inv process object op) ∷ at later (Res process object reply) ∷ rest)
-        ≡ first' ∷ calls_in rest =
+    ≡ first' ∷ calls_in rest =
     calls_in-call process number object op later reply rest in
     record {
       list = record { made = first'; reply = reply } ∷ below.list;
@@ -173,8 +173,8 @@ lined_step invocation response later queues ended others head same mine pair bel
     let e_is : invocation ≡ Inv ended.made.process ended.made.object ended.made.call.op = cc same in
     let f_is : response ≡ Res ended.made.process ended.made.object ended.reply = cc same in
     let here : (k : ℕ) → by_process k later ≡ ended_events (shorter k) = λ k.
-        let whole = all k in
-        grind arith in
+    let whole = all k in
+    grind arith in
     let owns : (k : ℕ) (x : Ended) → In x (shorter k) → x.made.process ≡ k = λ k.
     let at_p = owned p in
     let at_k = owned k in

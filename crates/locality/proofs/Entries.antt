@@ -124,7 +124,7 @@ pub point_from : (greatest : ℕ) (entries : List ProcessCall) (entry : ProcessC
 point_from greatest [] entry once i = absurd i
 point_from greatest (head ∷ entries) entry once i =
     let top : (max greatest (number_of head) ≡ greatest) ⊎ (max greatest (number_of head) ≡ number_of head) =
-        max_either greatest (number_of head) in
+    max_either greatest (number_of head) in
     elim i [
       | inl q ↦
           let h : point_in greatest (head ∷ entries) (number_of entry) ≡ max greatest (number_of head) =
@@ -150,13 +150,13 @@ point_before greatest (head ∷ entries) entry response once in_order i back aft
       let h = point_here greatest head entries in
       let t : number_of entry ≡ number_of head = ap number_of s in
       let u : point_in greatest (head ∷ entries) (number_of entry) ≡ point_in greatest (head ∷ entries)
-          (number_of head) = ap (point_in greatest (head ∷ entries)) t in
+      (number_of head) = ap (point_in greatest (head ∷ entries)) t in
       omega arith
   | inr j ↦
       let low : number_of head ≤ response.at = not_below (number_of head) response.at
-          (λ lt. in_order.0 entry j (response, back, lt)) in
+      (λ lt. in_order.0 entry j (response, back, lt)) in
       let rest = point_before (max greatest (number_of head)) entries entry response once.1 in_order.1 j back after
-          (omega arith) in
+      (omega arith) in
       let h = point_there greatest head entries (number_of entry) (once.0 entry j) in
       omega arith
 ]
@@ -169,8 +169,11 @@ pub give_some : (object : Specification) (content : object.Content) (entries : L
     → (reply : AnyReply) × (give_in object content entries replies (number_of entry) ≡ Some reply)
 give_some object content [] replies entry once i = absurd i
 give_some object content (head ∷ entries) replies entry once i = elim i [
-  | inl q ↦ (replies.1, ap (λ (g : ProcessCall). give_in object content (head ∷ entries) replies (number_of g)) q
-      ∙ give_here object content head entries replies)
+  | inl q ↦ (
+    replies.1,
+    ap (λ (g : ProcessCall). give_in object content (head ∷ entries) replies (number_of g)) q
+        ∙ give_here object content head entries replies,
+  )
   | inr j ↦
       let rest = give_some object replies.0 entries replies.4 entry once.1 j in
       (rest.0, give_there object content head entries replies (number_of entry) (once.0 entry j) ∙ rest.1)
@@ -185,7 +188,7 @@ given_entry object content [] replies number reply given = absurd cc
 given_entry object content (entry ∷ entries) replies number reply given =
     let rest = given_entry object replies.0 entries replies.4 number reply in
     let here : (b : Bool) → (number_of entry == number) ≡ b
-        → cond b (Some replies.1) (give_in object replies.0 entries replies.4 number) ≡ Some reply
+    → cond b (Some replies.1) (give_in object replies.0 entries replies.4 number) ≡ Some reply
     → (found : ProcessCall) × In found (entry ∷ entries) × (number_of found ≡ number) =
     elim [
       | true ↦ λ q k. (entry, inl refl, eqb-true (number_of entry) number q)

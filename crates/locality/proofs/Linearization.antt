@@ -281,7 +281,7 @@ module _ (objects : ℕ → Specification) (h : List Numbered) (hist : IsHistory
       let moment : ℕ = event.number in
       let rising : Pairs (λ (x y : Numbered). x.number < y.number) (before ++ event ∷ after) = rw cut at (up h hist) in
       let events_are : length (filter (responds process) (events before))
-          ≡ length (filter (λ k. responds process k.event) before) =
+      ≡ length (filter (λ k. responds process k.event) before) =
       length_filter_events (responds process) before in
       let lower : length (filter (λ k. responds process k.event) before)
       ≡ length (filter (λ k. responds process k.event && nat_lt k.number moment) h) =
@@ -322,7 +322,7 @@ module _ (objects : ℕ → Specification) (h : List Numbered) (hist : IsHistory
       let moment : ℕ = event.number in
       let rising : Pairs (λ (x y : Numbered). x.number < y.number) (before ++ event ∷ after) = rw cut at (up h hist) in
       let events_are : length (filter (invokes process) (events before))
-          ≡ length (filter (λ k. invokes process k.event) before) =
+      ≡ length (filter (λ k. invokes process k.event) before) =
       length_filter_events (invokes process) before in
       let lower : length (filter (λ k. invokes process k.event) before)
       ≡ length (filter (λ k. invokes process k.event && nat_lt k.number moment) h) =
@@ -378,10 +378,10 @@ module _ (objects : ℕ → Specification) (h : List Numbered) (hist : IsHistory
           let invoked : length (filter (invokes f.process) (dones give (below k.number)))
           ≤ length (filter (invokes f.process) (events a)) = invoked_below f.process a k b q in
           let same_responses : length (filter (responds e.process) (events a))
-              ≡ length (filter (responds e.process) m.front) =
+          ≡ length (filter (responds e.process) m.front) =
           ap (λ es. length (filter (responds e.process) es)) s in
           let same_invocations : length (filter (invokes f.process) (events a))
-              ≡ length (filter (invokes f.process) m.front) =
+          ≡ length (filter (invokes f.process) m.front) =
           ap (λ es. length (filter (invokes f.process) es)) s in
           let returned = m.returned in
           let waiting = m.waiting in

@@ -54,7 +54,7 @@ turn_at test k (x ∷ h) l = go k (test x) refl l (turn_at test k h) (λ j. turn
     go k false e l same less =
         let rest = same l in
         let not_counted = ap
-            (λ (t : Bool). length (cond t (x ∷ filter test rest.before) (filter test rest.before))) e in
+        (λ (t : Bool). length (cond t (x ∷ filter test rest.before) (filter test rest.before))) e in
         record {
           before = x ∷ rest.before;
           event = rest.event;

@@ -175,7 +175,7 @@ completed process h give (call number object op later reply rest t) a =
     let os = calls_in-call process number object op later reply rest in
     let made : ProcessCall = first process number object op later reply in
     let given : give made ≡ Some reply =
-        a made (record { at = later; reply = reply }) (subst (In made) (sym os) (inl refl)) refl in
+    a made (record { at = later; reply = reply }) (subst (In made) (sym os) (inl refl)) refl in
     let below = completed process rest give t (λ f q i. a f q (subst (In f) (sym os) (inr i))) in
     subst (λ (os : List ProcessCall). complete (Inv process object op ∷ Res process object reply
     ∷ (events rest ++ added give os))

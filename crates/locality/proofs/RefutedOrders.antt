@@ -87,7 +87,7 @@ first_in_first_out calls put take value taken stored order put_op stores take_op
     (pairs_from_all (λ (a b : Call). ReturnsBefore b a → ⊥) valid.entries valid.in_order) in
     let along : RepliesAlong (queue []) (put ∷ front.0) = rw front.1 at valid.replies in
     let made = step (queue []) put.op (Enqueue value) (queue (value ∷ []), Value (Some value))
-        put_op along.0 along.1 along.2 refl in
+    put_op along.0 along.1 along.2 refl in
     let take_later : In take (put ∷ front.0) = rw front.1 at (stands take taken take_in takes) in
     elim take_later [
       | inl q ↦ absurd cc
@@ -117,7 +117,7 @@ overtaken h put take value taken hist is put_op put_later take_op take_later tak
     let order = orders_of_kinds (λ x. Queue) h hist lin 0 in
     let returns : Return = record { at = 1; reply = Value (Some (pos 1)) } in
     let one = first_in_first_out (first ∷ put ∷ take ∷ []) first take (pos 1) taken returns order.0 refl refl take_op
-        take_back
+    take_back
     (inl refl) (inr (inr (inl refl)))
     (λ e i. elim i [
       | inl q ↦ inl q

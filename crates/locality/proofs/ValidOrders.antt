@@ -147,7 +147,7 @@ longer : (test : Ended → Bool) (front rest : List Ended) (one : Ended) → tes
 longer test front rest one passes = omega (
   arith,
   ap length (filter-append test front (one ∷ rest)
-  ∙ ap (λ b. filter test front ++ cond b (one ∷ filter test rest) (filter test rest)) passes),
+      ∙ ap (λ b. filter test front ++ cond b (one ∷ filter test rest) (filter test rest)) passes),
   length-append (filter test front) (one ∷ filter test rest),
 )
 
@@ -190,7 +190,7 @@ refuted before between after earlier later front rest whole returned waiting =
           ∙ count-append (invokes earlier.made.process) (ended_events (before ++ earlier ∷ between)) w.0 in
           let d = ended_invokes earlier.made.process (before ++ earlier ∷ between) in
           let g = longer (λ e. e.made.process == earlier.made.process) before between earlier
-              (eq-eqb earlier.made.process earlier.made.process refl) in
+          (eq-eqb earlier.made.process earlier.made.process refl) in
           omega arith
     ]
 
@@ -251,7 +251,7 @@ module _ (objects : ℕ → Specification) (h : List Numbered) (hist : IsHistory
       let mine : Ended → Bool = λ d. d.made.process == one.made.process in
       let self : mine one ≡ true = eq-eqb one.made.process one.made.process refl in
       let queue_is : queue one.made.process ≡ filter mine before ++ one ∷ filter mine after =
-          sym (all.parts one.made.process)
+      sym (all.parts one.made.process)
       ∙ (ap (filter mine) whole ∙ (filter-append mine before (one ∷ after)
       ∙ ap (λ b. filter mine before ++ cond b (one ∷ filter mine after) (filter mine after)) self)) in
       let own = completed one.made.process in (
@@ -288,7 +288,7 @@ module _ (objects : ℕ → Specification) (h : List Numbered) (hist : IsHistory
       let q : ℕ = later.made.process in
       let upto : List Ended = before ++ earlier ∷ between in
       let whole' : all.line ≡ upto ++ later ∷ after = whole
-          ∙ sym (append_assoc before (earlier ∷ between) (later ∷ after)) in
+      ∙ sym (append_assoc before (earlier ∷ between) (later ∷ after)) in
       let in_earlier : In earlier all.line = rw whole (in_middle earlier before (between ++ later ∷ after)) in
       let in_later : In later all.line = rw whole' (in_middle later upto after) in
       let cut_p = turn_of before (between ++ later ∷ after) earlier whole in
@@ -298,7 +298,7 @@ module _ (objects : ℕ → Specification) (h : List Numbered) (hist : IsHistory
       let front : List Numbered = cut.0 in
       let moment : ℕ = call.0.number in
       let rising : Pairs (λ (x y : Numbered). x.number < y.number) (front ++ call.0 ∷ cut.1) =
-          rw cut.2 at (up h hist) in
+      rw cut.2 at (up h hist) in
       let turn_p : ℕ = length (filter (λ e. e.made.process == p) before) in
       let turn_q : ℕ = length (filter (λ e. e.made.process == q) upto) in
       let turn_p_is : length (ops_of (filter (λ e. e.made.process == p) before)) ≡ turn_p =
@@ -377,7 +377,7 @@ module _ (objects : ℕ → Specification) (h : List Numbered) (hist : IsHistory
   apart before between after earlier later whole same_number =
       let upto : List Ended = before ++ earlier ∷ between in
       let whole' : all.line ≡ upto ++ later ∷ after = whole
-          ∙ sym (append_assoc before (earlier ∷ between) (later ∷ after)) in
+      ∙ sym (append_assoc before (earlier ∷ between) (later ∷ after)) in
       let in_a : In earlier all.line = rw whole (in_middle earlier before (between ++ later ∷ after)) in
       let in_b : In later all.line = rw whole' (in_middle later upto after) in
       let same : earlier.made ≡ later.made =

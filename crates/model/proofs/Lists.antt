@@ -186,10 +186,10 @@ front_split {X} f n (x ∷ xs) h low =
           let ne = eqb-false (f x) n e in
           let le = low x (inl refl) in
           let other : (y : X) → In y xs → f y ≢ n = λ y i same.
-              let up = h.0 y i in
-              let apart : f x ≢ n = ne in
-              let its : f y ≡ n = same in
-              omega arith in
+          let up = h.0 y i in
+          let apart : f x ≢ n = ne in
+          let its : f y ≡ n = same in
+          omega arith in
           let none : ks ≡ [] = filter_none (λ x. f x == n) xs (λ y i. ne_eqb (f y) n (other y i)) in
           let all : ds ≡ xs = filter_all (λ x. not (f x == n)) xs (λ y i. ap not (ne_eqb (f y) n (other y i))) in
           sym (ap (λ ys. ys ++ (x ∷ ds)) none ∙ ap (λ ys. x ∷ ys) all)
@@ -210,8 +210,8 @@ below_split {X} f t (x ∷ xs) h =
       | false ↦ λ e.
           let le = ltb-false (f x) t e in
           let far : (y : X) → In y xs → nat_lt (f y) t ≡ false = λ y i.
-              let up = h.0 y i in
-              le-ltb (f y) t (omega arith) in
+          let up = h.0 y i in
+          le-ltb (f y) t (omega arith) in
           let none : ks ≡ [] = filter_none (λ x. nat_lt (f x) t) xs far in
           let all : ds ≡ xs = filter_all (λ x. not (nat_lt (f x) t)) xs (λ y i. ap not (far y i)) in
           sym (ap (λ ys. ys ++ (x ∷ ds)) none ∙ ap (λ ys. x ∷ ys) all)
@@ -349,6 +349,6 @@ pub pairs_from_all : {X : Type 0} (R : X → X → Type 0) (xs : List X) → All
 pairs_from_all R [] h = tt
 pairs_from_all {X} R (x ∷ xs) h =
     let first : (y : X) → In y xs → R x y = λ y i.
-        let k = contains_from_in xs y i in
-        subst (R x) k.2 (h 0 (suc k.0) y (omega arith) (omega (arith, k.1))) in
+    let k = contains_from_in xs y i in
+    subst (R x) k.2 (h 0 (suc k.0) y (omega arith) (omega (arith, k.1))) in
     (first, pairs_from_all R xs (λ i j d l m. h (suc i) (suc j) d (omega arith) (omega arith)))

@@ -150,10 +150,10 @@ uses_from_named : (events : List Event) (named : Event) (op : AnyOp) (object pla
 uses_from_named [] named op object place lt at on is = absurd (omega arith)
 uses_from_named (event ∷ events) named op object zero lt at on is =
     let own : use_by event.object event.action ≡ use_by named.object (Invoke op) =
-        ap (λ (v : Event). use_by v.object v.action) at ∙ ap (use_by named.object) is in
+    ap (λ (v : Event). use_by v.object v.action) at ∙ ap (use_by named.object) is in
     let here : Contains (map (λ (u : Use). u.object) (cons_option (use_by named.object (Invoke op)) (uses events)))
-        object =
-        (0, omega arith, on) in
+    object =
+    (0, omega arith, on) in
     subst (λ u. Contains (map (λ (v : Use). v.object) (cons_option u (uses events))) object) (sym own) here
 uses_from_named (event ∷ events) named op object (suc place) lt at on is =
     use_first event.object event.action (uses events) object

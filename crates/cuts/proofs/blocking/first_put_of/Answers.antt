@@ -11,8 +11,8 @@ pub returns-then-puts_value : goal.returns-then-puts_value
 returns-then-puts_value c =
     let v : ℤ = to_z w64 (of_z w64 c.args.value) in
     let same : v ≡ c.args.value =
-        let fits = c.ranges.value.sfits in
-        omega (arith, ints) in
+    let fits = c.ranges.value.sfits in
+    omega (arith, ints) in
     let here = found_at (λ (o : Invocation). is_put (int_eq v) o.op o.«end») c.args.operations.now
     c.loop-operation.operation-index _ c.loop-operation-test.true c.loop-operation.invariant
     (sym c.puts_value.ensures ∙ c.if-puts_value.true) in

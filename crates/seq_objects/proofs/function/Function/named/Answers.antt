@@ -13,6 +13,6 @@ loop-f-preserved c =
 pub returns-clause-unknown : goal.returns-clause-unknown
 returns-clause-unknown c f e =
     let below : place f < c.loop-f.f-index =
-        let within = place-below f in
-        omega arith in
+    let within = place-below f in
+    omega arith in
     c.loop-f.invariant (place f) below (ap name_of (get_or-place f Enqueue) ∙ e)
