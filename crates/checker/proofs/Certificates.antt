@@ -140,11 +140,10 @@ no_certificate certificates m x h none c =
 -- ---- one after the other
 
 -- with the next object, which has a valid certificate too, all these have one
-pub fine_with_next : (es : List Event) (certificates : List Certificate) (os : List ObjectCalls) (o : ObjectCalls)
-    → AreFine es certificates os
-    → IsFineAt es certificates o.object → AreFine es certificates (os ++ o ∷ [])
-fine_with_next es certificates os o h fine = λ p i. elim (in_append p os (o ∷ []) i) [
-  | inl j ↦ h p j
+pub fine_with_next : (es : List Event) (certificates : List Certificate) (os : List ObjectCalls) (next : ObjectCalls)
+    → AreFine es certificates os → IsFineAt es certificates next.object → AreFine es certificates (os ++ next ∷ [])
+fine_with_next es certificates os next all_fine fine = λ p i. elim (in_append p os (next ∷ []) i) [
+  | inl j ↦ all_fine p j
   | inr j ↦ elim j [
     | inl e ↦ rw e fine
     | inr n ↦ absurd n
@@ -162,28 +161,28 @@ all_left certificates m h = record {
 }
 
 -- the certificate of one more object was taken out of the table
-pub one_taken : (certificates : List Certificate) (os : List ObjectCalls) (o : ObjectCalls) (left new : NumberMap ℕ)
+pub one_taken : (certificates : List Certificate) (os : List ObjectCalls) (next : ObjectCalls) (left new : NumberMap ℕ)
     → AreLeft certificates os left
-    → value_of new o.object ≡ None → ((x : ℕ) → x ≢ o.object → value_of new x ≡ value_of left x)
-    → AreLeft certificates (os ++ o ∷ []) new
-one_taken certificates os o left new h own others = record {
-  places = λ x k q. elim (cases_eq x o.object) [
+    → value_of new next.object ≡ None → ((x : ℕ) → x ≢ next.object → value_of new x ≡ value_of left x)
+    → AreLeft certificates (os ++ next ∷ []) new
+one_taken certificates os next left new were own others = record {
+  places = λ x k q. elim (cases_eq x next.object) [
     | inl e ↦ (let n : None ≡ Some k = sym own ∙ (ap (value_of new) (sym e) ∙ q) in cc n)
-    | inr ne ↦ h.places x k (sym (others x ne) ∙ q)
+    | inr ne ↦ were.places x k (sym (others x ne) ∙ q)
   ];
-  apart = λ p i. elim (in_append p os (o ∷ []) i) [
-    | inl j ↦ elim (cases_eq p.object o.object) [
+  apart = λ p i. elim (in_append p os (next ∷ []) i) [
+    | inl j ↦ elim (cases_eq p.object next.object) [
       | inl e ↦ ap (value_of new) e ∙ own
-      | inr ne ↦ others p.object ne ∙ h.apart p j
+      | inr ne ↦ others p.object ne ∙ were.apart p j
     ]
     | inr j ↦ elim j [
       | inl e ↦ ap (λ (q : ObjectCalls). value_of new q.object) e ∙ own
       | inr n ↦ absurd n
     ]
   ];
-  gone = λ c i q. elim (cases_eq c.object o.object) [
-    | inl e ↦ (o, in_middle o os [], sym e)
-    | inr ne ↦ let g = h.gone c i (sym (others c.object ne) ∙ q) in (g.0, in_left g.0 os (o ∷ []) g.1, g.2)
+  gone = λ c i q. elim (cases_eq c.object next.object) [
+    | inl e ↦ (next, in_middle next os [], sym e)
+    | inr ne ↦ let g = were.gone c i (sym (others c.object ne) ∙ q) in (g.0, in_left g.0 os (next ∷ []) g.1, g.2)
   ];
 }
 
@@ -323,63 +322,65 @@ least_strange es certificates os x apart objects fine besides = record {
 
 -- ---- where the next object is refused
 
-already : (os : List ObjectCalls) (o : ObjectCalls) (later : List ObjectCalls)
-    → Pairs (λ a b. a.object < b.object) (os ++ o ∷ later)
-    → (p : ObjectCalls) → In p (os ++ o ∷ later) → p.object < o.object → In p os
-already [] o later r p i l = elim i [
-  | inl e ↦ (let e' : p.object ≡ o.object = ap (λ (z : ObjectCalls). z.object) e in absurd (omega arith))
-  | inr j ↦ (let g = r.0 p j in absurd (omega arith))
+already : (os : List ObjectCalls) (next : ObjectCalls) (later : List ObjectCalls)
+    → Pairs (λ a b. a.object < b.object) (os ++ next ∷ later)
+    → (object : ObjectCalls) → In object (os ++ next ∷ later) → object.object < next.object → In object os
+already [] next later rising object i less = elim i [
+  | inl e ↦ (let e' : object.object ≡ next.object = ap (λ (z : ObjectCalls). z.object) e in absurd (omega arith))
+  | inr j ↦ (let g = rising.0 object j in absurd (omega arith))
 ]
-already (q ∷ os) o later r p i l = elim i [
+already (q ∷ os) next later rising object i less = elim i [
   | inl e ↦ inl e
-  | inr j ↦ inr (already os o later r.1 p j l)
+  | inr j ↦ inr (already os next later rising.1 object j less)
 ]
 
 -- The objects before this one have valid certificates, and this one is refused: then that is the first refusal.
-first_refusal : (es : List Event) (certificates : List Certificate) (all os : List ObjectCalls) (o : ObjectCalls)
+first_refusal : (es : List Event) (certificates : List Certificate) (all os : List ObjectCalls) (next : ObjectCalls)
     (later : List ObjectCalls)
-    (r : Refusal) → AllPairs (λ a b. a.object ≢ b.object) certificates → AreObjects es all
-    → all ≡ os ++ o ∷ later → AreFine es certificates os
-    → IsRefused (kind_of_object es o.object) (calls_on o.object (denoted es)) certificates o.object r
-    → IsFirstRefusal es certificates r
-first_refusal es certificates all os o later r apart objects split fine refused = go r refused
+    (refusal : Refusal) → AllPairs (λ a b. a.object ≢ b.object) certificates → AreObjects es all
+    → all ≡ os ++ next ∷ later → AreFine es certificates os
+    → IsRefused (kind_of_object es next.object) (calls_on next.object (denoted es)) certificates next.object refusal
+    → IsFirstRefusal es certificates refusal
+first_refusal es certificates all os next later refusal apart objects split fine refused = go refusal refused
   where
-    up : Pairs (λ a b. a.object < b.object) (os ++ o ∷ later)
+    up : Pairs (λ a b. a.object < b.object) (os ++ next ∷ later)
     up = rw split at (pairs_from_all (λ a b. a.object < b.object) all objects.rising)
 
-    named : IsNamed es o.object
-    named = is_named es all objects o (rw split (in_middle o os later))
+    named : IsNamed es next.object
+    named = is_named es all objects next (rw split (in_middle next os later))
 
-    least : (y : ℕ) (s : Refusal) → y < o.object → IsNamed es y → IsRefusalAt es certificates y s → ⊥
+    least : (y : ℕ) (s : Refusal) → y < next.object → IsNamed es y → IsRefusalAt es certificates y s → ⊥
     least y s l named stands =
         let p = object_named es all objects y named in
-        let i = already os o later up p.0 (subst (In p.0) split p.1) (rw p.2 at l) in
+        let i = already os next later up p.0 (subst (In p.0) split p.1) (rw p.2 at l) in
         no_refusal es certificates apart y (rw p.2 (fine p.0 i)) s stands
 
-    go : (r : Refusal) → IsRefused (kind_of_object es o.object) (calls_on o.object (denoted es)) certificates o.object r
-        → IsFirstRefusal es certificates r
-    go (NoCertificate y) s = record { object = o.object; named = named; stands = (s.0, s.1); least = least }
+    go : (refusal : Refusal)
+        → IsRefused (kind_of_object es next.object) (calls_on next.object (denoted es)) certificates next.object refusal
+        → IsFirstRefusal es certificates refusal
+    go (NoCertificate y) s = record { object = next.object; named = named; stands = (s.0, s.1); least = least }
     go (StrangeObject y) s = absurd s
-    go (BadOrder y f) s = record { object = o.object; named = named; stands = (s.0, s.1, s.2); least = least }
+    go (BadOrder y f) s = record { object = next.object; named = named; stands = (s.0, s.1, s.2); least = least }
     go NoMemory s = tt
 
 -- certificates that are valid are refused by an allocation failure alone
 refused_are_not_valid : (es : List Event) (certificates : List Certificate) (all os : List ObjectCalls)
-    (o : ObjectCalls) (later : List ObjectCalls)
-    (r : Refusal) → AllPairs (λ a b. a.object ≢ b.object) certificates → AreObjects es all
-    → all ≡ os ++ o ∷ later → AreFine es certificates os
-    → IsRefused (kind_of_object es o.object) (calls_on o.object (denoted es)) certificates o.object r
-    → AreValid es certificates → r ≡ NoMemory
-refused_are_not_valid es certificates all os o later r apart objects split fine refused valid =
-    go r (first_refusal es certificates all os o later r apart objects split fine refused) refused
+    (next : ObjectCalls) (later : List ObjectCalls)
+    (refusal : Refusal) → AllPairs (λ a b. a.object ≢ b.object) certificates → AreObjects es all
+    → all ≡ os ++ next ∷ later → AreFine es certificates os
+    → IsRefused (kind_of_object es next.object) (calls_on next.object (denoted es)) certificates next.object refusal
+    → AreValid es certificates → refusal ≡ NoMemory
+refused_are_not_valid es certificates all os next later refusal apart objects split fine refused valid =
+    go refusal (first_refusal es certificates all os next later refusal apart objects split fine refused) refused
   where
-    go : (r : Refusal) → IsFirstRefusal es certificates r
-        → IsRefused (kind_of_object es o.object) (calls_on o.object (denoted es)) certificates o.object r → r ≡ NoMemory
+    go : (refusal : Refusal) → IsFirstRefusal es certificates refusal
+        → IsRefused (kind_of_object es next.object) (calls_on next.object (denoted es)) certificates next.object refusal
+        → refusal ≡ NoMemory
     go (NoCertificate y) f s = absurd (f.stands.1 (valid.each f.object f.named).0)
     go (StrangeObject y) f s = absurd s
     go (BadOrder y g) f s =
-        let each = valid.each o.object (rw (sym f.stands.0 ∙ s.0) at f.named) in
-        absurd (s.3 (rw (same_orders certificates apart o.object each.0 s.1) at each.1))
+        let each = valid.each next.object (rw (sym f.stands.0 ∙ s.0) at f.named) in
+        absurd (s.3 (rw (same_orders certificates apart next.object each.0 s.1) at each.1))
     go NoMemory f s = refl
 
 -- certificates are not valid if one is for an object that is not in the history
@@ -400,47 +401,49 @@ pub are_objects : (es : List Event) (fs os : List ObjectCalls) → fs ≡ os →
 are_objects es fs os is rising named kinds calls =
     rw is (record { rising = rising; named = named; kinds = kinds; calls = calls })
 
-next_parts : (fs : List ObjectCalls) (i : ℕ) (o : ObjectCalls) → i < length fs → o ≡ get_or fs i o
-    → fs ≡ take i fs ++ o ∷ drop (suc i) fs
-next_parts fs i o l is = parts fs i l ∙ ap (λ x. take i fs ++ x ∷ drop (suc i) fs) (sym is)
+next_parts : (fs : List ObjectCalls) (i : ℕ) (next : ObjectCalls) → i < length fs → next ≡ get_or fs i next
+    → fs ≡ take i fs ++ next ∷ drop (suc i) fs
+next_parts fs i next inside is = parts fs i inside ∙ ap (λ x. take i fs ++ x ∷ drop (suc i) fs) (sym is)
   where
-    parts : (gs : List ObjectCalls) (j : ℕ) → j < length gs → gs ≡ take j gs ++ get_or gs j o ∷ drop (suc j) gs
+    parts : (gs : List ObjectCalls) (j : ℕ) → j < length gs → gs ≡ take j gs ++ get_or gs j next ∷ drop (suc j) gs
     parts [] j m = absurd (omega arith)
     parts (g ∷ gs) zero m = refl
     parts (g ∷ gs) (suc j) m = ap (λ t. g ∷ t) (parts gs j (omega arith))
 
-in_objects : (fs : List ObjectCalls) (i : ℕ) (o : ObjectCalls) → i < length fs → o ≡ get_or fs i o → In o fs
-in_objects fs i o l is = rw is (in_from_get fs i o l)
+in_objects : (fs : List ObjectCalls) (i : ℕ) (next : ObjectCalls) → i < length fs → next ≡ get_or fs i next → In next fs
+in_objects fs i next inside is = rw is (in_from_get fs i next inside)
 
 -- what holds of the kind and the calls of an object holds of those in the history
-pub next_is : (es : List Event) (fs : List ObjectCalls) (i : ℕ) (o : ObjectCalls) (P : Kind → List Call → Type 0)
-    → AreObjects es fs → i < length fs
-    → o ≡ get_or fs i o → P o.kind (calls_of o.ops) → P (kind_of_object es o.object) (calls_on o.object (denoted es))
-next_is es fs i o P h l is p =
-    let j = in_objects fs i o l is in
-    let its_kind = subst (λ k. P k (calls_of o.ops))
-    (all_at (λ (o : ObjectCalls). o.kind ≡ kind_of_object es o.object) fs h.kinds o j) p in
-    subst (P (kind_of_object es o.object))
-    (all_at (λ (o : ObjectCalls). calls_of o.ops ≡ calls_on o.object (denoted es)) fs h.calls o j) its_kind
+pub next_is : (es : List Event) (fs : List ObjectCalls) (i : ℕ) (next : ObjectCalls) (P : Kind → List Call → Type 0)
+    → AreObjects es fs → i < length fs → next ≡ get_or fs i next → P next.kind (calls_of next.ops)
+    → P (kind_of_object es next.object) (calls_on next.object (denoted es))
+next_is es fs i next P objects inside is holds =
+    let j = in_objects fs i next inside is in
+    let its_kind = subst (λ k. P k (calls_of next.ops))
+    (all_at (λ (o : ObjectCalls). o.kind ≡ kind_of_object es o.object) fs objects.kinds next j) holds in
+    subst (P (kind_of_object es next.object))
+    (all_at (λ (o : ObjectCalls). calls_of o.ops ≡ calls_on o.object (denoted es)) fs objects.calls next j) its_kind
 
 -- one more object of the list has a valid certificate
-pub next_fine : (es : List Event) (certificates : List Certificate) (fs : List ObjectCalls) (i : ℕ) (o : ObjectCalls)
+pub next_fine : (es : List Event) (certificates : List Certificate) (fs : List ObjectCalls) (i : ℕ) (next : ObjectCalls)
     → AreObjects es fs
-    → i < length fs → o ≡ get_or fs i o → IsFine o.kind (calls_of o.ops) certificates o.object
-    → IsFineAt es certificates o.object
-next_fine es certificates fs i o h l is fine =
-    next_is es fs i o (λ kind calls. IsFine kind calls certificates o.object) h l is fine
+    → i < length fs → next ≡ get_or fs i next → IsFine next.kind (calls_of next.ops) certificates next.object
+    → IsFineAt es certificates next.object
+next_fine es certificates fs i next objects inside is fine =
+    next_is es fs i next (λ kind calls. IsFine kind calls certificates next.object) objects inside is fine
 
 -- Where the next object is refused, that is the first refusal. Certificates that are valid are refused by an
 -- allocation failure alone.
 pub next_is_first : (es : List Event) (certificates : List Certificate) (fs : List ObjectCalls) (i : ℕ)
-    (o : ObjectCalls) (r : Refusal)
+    (next : ObjectCalls) (refusal : Refusal)
     → AllPairs (λ a b. a.object ≢ b.object) certificates → AreObjects es fs → AreFine es certificates (take i fs)
-    → i < length fs → o ≡ get_or fs i o → IsRefused o.kind (calls_of o.ops) certificates o.object r
-    → IsFirstRefusal es certificates r × (AreValid es certificates → r ≡ NoMemory)
-next_is_first es certificates fs i o r d objects fine l is h =
-    let refused = next_is es fs i o (λ kind calls. IsRefused kind calls certificates o.object r) objects l is h in
-    let parts = next_parts fs i o l is in (
-      first_refusal es certificates fs (take i fs) o (drop (suc i) fs) r d objects parts fine refused,
-      refused_are_not_valid es certificates fs (take i fs) o (drop (suc i) fs) r d objects parts fine refused,
+    → i < length fs → next ≡ get_or fs i next → IsRefused next.kind (calls_of next.ops) certificates next.object refusal
+    → IsFirstRefusal es certificates refusal × (AreValid es certificates → refusal ≡ NoMemory)
+next_is_first es certificates fs i next refusal apart objects fine inside is refused =
+    let in_history = next_is es fs i next (λ kind calls. IsRefused kind calls certificates next.object refusal)
+    objects inside is refused in
+    let parts = next_parts fs i next inside is in (
+      first_refusal es certificates fs (take i fs) next (drop (suc i) fs) refusal apart objects parts fine in_history,
+      refused_are_not_valid es certificates fs (take i fs) next (drop (suc i) fs)
+          refusal apart objects parts fine in_history,
     )

@@ -17,29 +17,32 @@ use Rattle.checker.specs.Refusals.{RefusesOrder}
 use Rattle.checker.proofs.Exact.{fault_refutes}
 use Rattle.checker.proofs.Finding.{rising_calls}
 
-pub valid_is_not_refused : (x : ℕ) (kind : Kind) (ops : List Operation) (order : List ℤ) (r : Refusal)
+-- a valid order is refused by an allocation failure alone
+pub valid_is_not_refused : (object : ℕ) (kind : Kind) (ops : List Operation) (order : List ℤ) (refusal : Refusal)
     → AllPairs (λ a b. a.number < b.number) ops
-    → IsValidOrder kind (calls_of ops) order → RefusesOrder x kind (calls_of ops) order r → r ≡ NoMemory
-valid_is_not_refused x kind ops order (BadOrder y f) up v h =
-    absurd (fault_refutes kind (calls_of ops) order f
-    (rising_calls ops (pairs_from_all (λ a b. a.number < b.number) ops up)) h.1 v)
-valid_is_not_refused x kind ops order (NoCertificate y) up v h = absurd h
-valid_is_not_refused x kind ops order (StrangeObject y) up v h = absurd h
-valid_is_not_refused x kind ops order NoMemory up v h = refl
+    → IsValidOrder kind (calls_of ops) order → RefusesOrder object kind (calls_of ops) order refusal
+    → refusal ≡ NoMemory
+valid_is_not_refused object kind ops order (BadOrder other fault) rising valid refused =
+    absurd (fault_refutes kind (calls_of ops) order fault
+    (rising_calls ops (pairs_from_all (λ a b. a.number < b.number) ops rising)) refused.1 valid)
+valid_is_not_refused object kind ops order (NoCertificate other) rising valid refused = absurd refused
+valid_is_not_refused object kind ops order (StrangeObject other) rising valid refused = absurd refused
+valid_is_not_refused object kind ops order NoMemory rising valid refused = refl
 
-pub valid_is_ok : (x : ℕ) (kind : Kind) (ops : List Operation) (order : List ℤ) (r : Result Unit Refusal)
+-- so a check of it answers that it is valid, if no allocation fails
+pub valid_is_ok : (object : ℕ) (kind : Kind) (ops : List Operation) (order : List ℤ) (answer : Result Unit Refusal)
     → AllPairs (λ a b. a.number < b.number) ops
-    → IsValidOrder kind (calls_of ops) order → IfErr r (RefusesOrder x kind (calls_of ops) order)
-    → IfErr r (λ e. e ≡ NoMemory)
-valid_is_ok x kind ops order (Ok u) up v h = tt
-valid_is_ok x kind ops order (Err e) up v h = valid_is_not_refused x kind ops order e up v h
+    → IsValidOrder kind (calls_of ops) order → IfErr answer (RefusesOrder object kind (calls_of ops) order)
+    → IfErr answer (λ e. e ≡ NoMemory)
+valid_is_ok object kind ops order (Ok u) rising valid refused = tt
+valid_is_ok object kind ops order (Err e) rising valid refused =
+    valid_is_not_refused object kind ops order e rising valid refused
 
 -- nor has it a first fault
-pub ok_is_faultless : (kind : Kind) (ops : List Operation) (order : List ℤ) (r : Result Unit Refusal)
-    → AllPairs (λ a b. a.number < b.number) ops
-    → OnOk r (IsValidOrder kind (calls_of ops) order)
-    → OnOk r ((f : OrderFault) → IsFirstFault kind (calls_of ops) order f → ⊥)
-ok_is_faultless kind ops order (Ok u) up v =
+pub ok_is_faultless : (kind : Kind) (ops : List Operation) (order : List ℤ) (answer : Result Unit Refusal)
+    → AllPairs (λ a b. a.number < b.number) ops → OnOk answer (IsValidOrder kind (calls_of ops) order)
+    → OnOk answer ((f : OrderFault) → IsFirstFault kind (calls_of ops) order f → ⊥)
+ok_is_faultless kind ops order (Ok u) rising valid =
     λ f h. fault_refutes kind (calls_of ops) order f
-    (rising_calls ops (pairs_from_all (λ a b. a.number < b.number) ops up)) h v
-ok_is_faultless kind ops order (Err e) up v = tt
+    (rising_calls ops (pairs_from_all (λ a b. a.number < b.number) ops rising)) h valid
+ok_is_faultless kind ops order (Err e) rising valid = tt

@@ -92,11 +92,11 @@ balanced keeps c op = grind (arith, size_after, size_cons, size_with_value)
 -- ---- along calls
 
 -- a call and those after it, in numbers
-pub record Turn (keeps : ℤ → Bool) (e : Call) (c after : Content) (reply : AnyReply) : Type 0 where
-  pub balance : kept_size keeps after + one (takes_out keeps e.op (Some reply))
-      ≡ kept_size keeps c + one (puts_in keeps e.op)
-  pub fewer : one (takes_out keeps e.op (reply_of e.returned)) ≤ one (takes_out keeps e.op (Some reply))
-  pub open_call : is_some e.returned ≡ false → one (takes_out keeps e.op (reply_of e.returned)) ≡ 0
+pub record Turn (keeps : ℤ → Bool) (call : Call) (before after : Content) (reply : AnyReply) : Type 0 where
+  pub balance : kept_size keeps after + one (takes_out keeps call.op (Some reply))
+      ≡ kept_size keeps before + one (puts_in keeps call.op)
+  pub fewer : one (takes_out keeps call.op (reply_of call.returned)) ≤ one (takes_out keeps call.op (Some reply))
+  pub open_call : is_some call.returned ≡ false → one (takes_out keeps call.op (reply_of call.returned)) ≡ 0
 
 -- nothing and false is false
 pub and_false : (b : Bool) → (b && false) ≡ false
@@ -104,10 +104,11 @@ and_false true = refl
 and_false false = refl
 
 -- one call of an order changes the number of kept values by what it puts in and takes out
-pub turn : (keeps : ℤ → Bool) (e : Call) (c after : Content) (reply : AnyReply) → next c e.op ≡ Some (after, reply)
-    → IfSome e.returned (λ r. r.reply ≡ reply) → Turn keeps e c after reply
-turn keeps e c after reply does agrees = record {
-  balance = subst (λ z. IfSome z (λ p. Balanced keeps e.op c p.0 p.1)) does (balanced keeps c e.op);
+pub turn : (keeps : ℤ → Bool) (call : Call) (before after : Content) (reply : AnyReply)
+    → next before call.op ≡ Some (after, reply)
+    → IfSome call.returned (λ r. r.reply ≡ reply) → Turn keeps call before after reply
+turn keeps call before after reply does agrees = record {
+  balance = subst (λ z. IfSome z (λ p. Balanced keeps call.op before p.0 p.1)) does (balanced keeps before call.op);
   fewer = grind arith;
   open_call = grind arith;
 }

@@ -362,78 +362,78 @@ abbrev IsTableShadow : (ℤ → Bool) → map.FinMap int_cmp ℤ → map.FinMap 
 IsTableShadow keeps whole part = (k : ℤ) → keeps k ≡ true → map.get part k ≡ map.get whole k
 
 -- The part has what the whole has at each key that it keeps, and an operation names this key.
-module _ (keeps : ℤ → Bool) (whole part : map.FinMap int_cmp ℤ) (key : ℤ) (shadow : IsTableShadow keeps whole part)
-  where
-    put_shadow : (value : ℤ) → IsTableShadow keeps (map.insert whole key value) (map.insert part key value)
-    put_shadow value q a = let same = shadow q a in grind (arith, ints, get-insert)
+module _ (keeps : ℤ → Bool) (whole part : map.FinMap int_cmp ℤ) (key : ℤ)
+    (shadow : IsTableShadow keeps whole part) where
+  put_shadow : (value : ℤ) → IsTableShadow keeps (map.insert whole key value) (map.insert part key value)
+  put_shadow value q a = let same = shadow q a in grind (arith, ints, get-insert)
 
-    put_other : (value : ℤ) → keeps key ≡ false → IsTableShadow keeps (map.insert whole key value) part
-    put_other value out q a = let same = shadow q a in grind (arith, ints, get-insert)
+  put_other : (value : ℤ) → keeps key ≡ false → IsTableShadow keeps (map.insert whole key value) part
+  put_other value out q a = let same = shadow q a in grind (arith, ints, get-insert)
 
-    del_shadow : IsTableShadow keeps (map.remove whole key) (map.remove part key)
-    del_shadow q a = let same = shadow q a in grind (arith, ints, get-remove)
+  del_shadow : IsTableShadow keeps (map.remove whole key) (map.remove part key)
+  del_shadow q a = let same = shadow q a in grind (arith, ints, get-remove)
 
-    del_other : keeps key ≡ false → IsTableShadow keeps (map.remove whole key) part
-    del_other out q a = let same = shadow q a in grind (arith, ints, get-remove)
+  del_other : keeps key ≡ false → IsTableShadow keeps (map.remove whole key) part
+  del_other out q a = let same = shadow q a in grind (arith, ints, get-remove)
 
-    del_nothing : map.get whole key ≡ None → IsTableShadow keeps (map.remove whole key) part
-    del_nothing absent q a = let same = shadow q a in grind (arith, ints, get-remove)
+  del_nothing : map.get whole key ≡ None → IsTableShadow keeps (map.remove whole key) part
+  del_nothing absent q a = let same = shadow q a in grind (arith, ints, get-remove)
 
-    del_step : (kept told : Bool) (found : Option ℤ) → map.get whole key ≡ found
-        → fits_del keeps kept key (shown told (Value found)) ≡ true
-        → Step keeps (Del key) kept told (Value found) (table part) (table (map.remove whole key))
-    del_step kept told found had fit = go kept told found had fit
-      where
-        take : (found : Option ℤ) → map.get whole key ≡ found → keeps key ≡ true
-            → Takes keeps (Del key) (Value found) (table part) (table (map.remove whole key))
-        take found had own = (
-          table (map.remove part key),
-          ap (λ (z : Option ℤ). Some (table (map.remove part key), Value z)) (shadow key own ∙ had),
-          del_shadow,
-        )
+  del_step : (kept told : Bool) (found : Option ℤ) → map.get whole key ≡ found
+      → fits_del keeps kept key (shown told (Value found)) ≡ true
+      → Step keeps (Del key) kept told (Value found) (table part) (table (map.remove whole key))
+  del_step kept told found had fit = go kept told found had fit
+    where
+      take : (found : Option ℤ) → map.get whole key ≡ found → keeps key ≡ true
+          → Takes keeps (Del key) (Value found) (table part) (table (map.remove whole key))
+      take found had own = (
+        table (map.remove part key),
+        ap (λ (z : Option ℤ). Some (table (map.remove part key), Value z)) (shadow key own ∙ had),
+        del_shadow,
+      )
 
-        either : (kept told : Bool) (found : Option ℤ) → map.get whole key ≡ found → is_same kept (keeps key) ≡ true
-            → Step keeps (Del key) kept told (Value found) (table part) (table (map.remove whole key))
-        either kept told found had fit =
-            by_same keeps (Del key) kept told (Value found) (table part) (table (map.remove whole key)) (keeps key) fit
-            (λ own. take found had own) (λ out. del_other out)
+      either : (kept told : Bool) (found : Option ℤ) → map.get whole key ≡ found → is_same kept (keeps key) ≡ true
+          → Step keeps (Del key) kept told (Value found) (table part) (table (map.remove whole key))
+      either kept told found had fit =
+          by_same keeps (Del key) kept told (Value found) (table part) (table (map.remove whole key)) (keeps key) fit
+          (λ own. take found had own) (λ out. del_other out)
 
-        go : (kept told : Bool) (found : Option ℤ) → map.get whole key ≡ found
-            → fits_del keeps kept key (shown told (Value found)) ≡ true
-            → Step keeps (Del key) kept told (Value found) (table part) (table (map.remove whole key))
-        go kept false found had fit = either kept false found had fit
-        go kept true (Some v) had fit = either kept true (Some v) had fit
-        go true true None had fit = let t = take None had fit in inr (refl, t.0, t.1, t.2)
-        go false true None had fit = inl (inl refl, del_nothing had)
+      go : (kept told : Bool) (found : Option ℤ) → map.get whole key ≡ found
+          → fits_del keeps kept key (shown told (Value found)) ≡ true
+          → Step keeps (Del key) kept told (Value found) (table part) (table (map.remove whole key))
+      go kept false found had fit = either kept false found had fit
+      go kept true (Some v) had fit = either kept true (Some v) had fit
+      go true true None had fit = let t = take None had fit in inr (refl, t.0, t.1, t.2)
+      go false true None had fit = inl (inl refl, del_nothing had)
 
-    if_shadow : (value : ℤ) (took : Bool)
-        → IsTableShadow keeps (inserted_if took whole key value) (inserted_if took part key value)
-    if_shadow value true = put_shadow value
-    if_shadow value false = shadow
+  if_shadow : (value : ℤ) (took : Bool)
+      → IsTableShadow keeps (inserted_if took whole key value) (inserted_if took part key value)
+  if_shadow value true = put_shadow value
+  if_shadow value false = shadow
 
-    if_other : (value : ℤ) (took : Bool) → keeps key ≡ false
-        → IsTableShadow keeps (inserted_if took whole key value) part
-    if_other value true out = put_other value out
-    if_other value false out = shadow
+  if_other : (value : ℤ) (took : Bool) → keeps key ≡ false
+      → IsTableShadow keeps (inserted_if took whole key value) part
+  if_other value true out = put_other value out
+  if_other value false out = shadow
 
-    if_not : (value : ℤ) (took : Bool) → took ≡ false → IsTableShadow keeps (inserted_if took whole key value) part
-    if_not value true e = absurd (false_is_not_true (sym e))
-    if_not value false e = shadow
+  if_not : (value : ℤ) (took : Bool) → took ≡ false → IsTableShadow keeps (inserted_if took whole key value) part
+  if_not value true e = absurd (false_is_not_true (sym e))
+  if_not value false e = shadow
 
-    -- a put that takes place only where the table passes a test, which is the same where the key is kept
-    if_step : (op : AnyOp) (value : ℤ) (test : map.FinMap int_cmp ℤ → Bool)
-        → next (table part) op ≡ Some (table (inserted_if (test part) part key value), Flag (test part))
-        → (keeps key ≡ true → test part ≡ test whole) → (kept told : Bool)
-        → fits_change keeps kept key (shown told (Flag (test whole))) ≡ true
-        → Step keeps op kept told (Flag (test whole)) (table part) (table (inserted_if (test whole) whole key value))
-    if_step op value test does same kept told fit =
-        by_change keeps op key kept told (test whole) (table part) (table (inserted_if (test whole) whole key value)) fit
-        (λ own. (
-          table (inserted_if (test whole) part key value),
-          does ∙ ap (λ (t : Bool). Some (table (inserted_if t part key value), Flag t)) (same own),
-          if_shadow value (test whole),
-        ))
-        (if_other value (test whole)) (if_not value (test whole))
+  -- a put that takes place only where the table passes a test, which is the same where the key is kept
+  if_step : (op : AnyOp) (value : ℤ) (test : map.FinMap int_cmp ℤ → Bool)
+      → next (table part) op ≡ Some (table (inserted_if (test part) part key value), Flag (test part))
+      → (keeps key ≡ true → test part ≡ test whole) → (kept told : Bool)
+      → fits_change keeps kept key (shown told (Flag (test whole))) ≡ true
+      → Step keeps op kept told (Flag (test whole)) (table part) (table (inserted_if (test whole) whole key value))
+  if_step op value test does same kept told fit =
+      by_change keeps op key kept told (test whole) (table part) (table (inserted_if (test whole) whole key value)) fit
+      (λ own. (
+        table (inserted_if (test whole) part key value),
+        does ∙ ap (λ (t : Bool). Some (table (inserted_if t part key value), Flag t)) (same own),
+        if_shadow value (test whole),
+      ))
+      (if_other value (test whole)) (if_not value (test whole))
 
 table_step : (all : Bool) (keeps : ℤ → Bool) (whole part : map.FinMap int_cmp ℤ) (op : AnyOp)
     → IsTableShadow keeps whole part → StepAt all keeps op (table whole) (table part)

@@ -66,20 +66,25 @@ sound_next c op s = search rules
 
 -- ---- the content that the removal finds
 
-record Reached (keeps : ℤ → Bool) (xs : List Call) (n : Call) (ys : List Call) (c : Content) : Type 0 where
+record Reached (keeps : ℤ → Bool) (earlier : List Call) (removal : Call) (later : List Call) (first : Content)
+    : Type 0 where
   pub content : Content
   pub sound : IsSound content
-  pub along : RepliesAlong content (n ∷ ys)
-  pub counted : kept_size keeps c + tally (put_by keeps) xs ≤ kept_size keeps content + tally (may_by keeps) xs
+  pub along : RepliesAlong content (removal ∷ later)
+  pub counted : kept_size keeps first + tally (put_by keeps) earlier
+      ≤ kept_size keeps content + tally (may_by keeps) earlier
 
-reached : (keeps : ℤ → Bool) (xs : List Call) (n : Call) (ys : List Call) (c : Content) → IsSound c
-    → RepliesAlong c (xs ++ n ∷ ys) → Reached keeps xs n ys c
-reached keeps [] n ys c s h = record { content = c; sound = s; along = h; counted = omega arith }
-reached keeps (e ∷ xs) n ys c s h =
-    let t = turn keeps e c h.0 h.1 h.2 h.3 in
-    let more = may_le keeps e.op e.returned h.1 h.3 in
-    let r = reached keeps xs n ys h.0 (subst (λ z. IfSome z (λ p. IsSound p.0)) h.2 (sound_next c e.op s)) h.4 in
-    record { content = r.content; sound = r.sound; along = r.along; counted = omega arith }
+-- the calls before a removal lead to the content that it finds
+reached : (keeps : ℤ → Bool) (earlier : List Call) (removal : Call) (later : List Call) (first : Content)
+    → IsSound first → RepliesAlong first (earlier ++ removal ∷ later) → Reached keeps earlier removal later first
+reached keeps [] removal later first sound along =
+    record { content = first; sound = sound; along = along; counted = omega arith }
+reached keeps (call ∷ earlier) removal later first sound along =
+    let turned = turn keeps call first along.0 along.1 along.2 along.3 in
+    let more = may_le keeps call.op call.returned along.1 along.3 in
+    let rest = reached keeps earlier removal later along.0 (subst (λ z. IfSome z (λ p. IsSound p.0)) along.2
+    (sound_next first call.op sound)) along.4 in
+    record { content = rest.content; sound = rest.sound; along = rest.along; counted = omega arith }
 
 -- no value of a rising list is less than its first
 none_lesser : (b : ℤ) (vs : List ℤ) → ((v : ℤ) → In v vs → int_lt v b ≡ false)

@@ -60,20 +60,25 @@ found_first : (b : ℤ) (vs : List ℤ) → IfSome (next (queue vs) Dequeue)
     (λ p. p.1 ≡ Value (Some b) → in_front b vs 0 ≡ 0)
 found_first b vs = grind (arith, ints)
 
-pub queue_spent : (b : ℤ) (xs : List Call) (n : Call) (ys : List Call) (vs : List ℤ) → n.op ≡ Dequeue
-    → ((reply : AnyReply) → IfSome n.returned (λ r. r.reply ≡ reply) → reply ≡ Value (Some b))
-    → RepliesAlong (queue vs) (xs ++ n ∷ ys) → in_front b vs (fresh b xs) ≤ tally (may_by every) xs
-queue_spent b [] n ys vs q gives h =
-    let does : next (queue vs) Dequeue ≡ Some (h.0, h.1) = ap (next (queue vs)) (sym q) ∙ h.2 in
-    let e = subst (λ z. IfSome z (λ p. p.1 ≡ Value (Some b) → in_front b vs 0 ≡ 0)) does (found_first b vs)
-    (gives h.1 h.3) in
+-- what is in front of the value that a removal finds is taken out before it
+pub queue_spent : (found : ℤ) (earlier : List Call) (removal : Call) (later : List Call) (values : List ℤ)
+    → removal.op ≡ Dequeue
+    → ((reply : AnyReply) → IfSome removal.returned (λ r. r.reply ≡ reply) → reply ≡ Value (Some found))
+    → RepliesAlong (queue values) (earlier ++ removal ∷ later)
+    → in_front found values (fresh found earlier) ≤ tally (may_by every) earlier
+queue_spent found [] removal later values dequeues gives along =
+    let does : next (queue values) Dequeue ≡ Some (along.0, along.1) =
+    ap (next (queue values)) (sym dequeues) ∙ along.2 in
+    let front = subst (λ z. IfSome z (λ p. p.1 ≡ Value (Some found) → in_front found values 0 ≡ 0)) does
+    (found_first found values) (gives along.1 along.3) in
     omega arith
-queue_spent b (e ∷ xs) n ys vs q gives h =
-    let s = subst (λ z. IfSome z (λ p. Moves b vs e.op (fresh b xs) p.0 p.1)) h.2
-    (queue_moves b vs e.op (fresh b xs)) in
-    let more = may_le every e.op e.returned h.1 h.3 in
-    let rest = queue_spent b xs n ys s.0 q gives (subst (λ (c : Content). RepliesAlong c (xs ++ n ∷ ys)) s.1 h.4) in
-    let moved = s.2 in
+queue_spent found (call ∷ earlier) removal later values dequeues gives along =
+    let step = subst (λ z. IfSome z (λ p. Moves found values call.op (fresh found earlier) p.0 p.1)) along.2
+    (queue_moves found values call.op (fresh found earlier)) in
+    let more = may_le every call.op call.returned along.1 along.3 in
+    let rest = queue_spent found earlier removal later step.0 dequeues gives
+    (subst (λ (c : Content). RepliesAlong c (earlier ++ removal ∷ later)) step.1 along.4) in
+    let moved = step.2 in
     omega arith
 
 -- the calls before the first that puts in b
@@ -127,21 +132,24 @@ found_on_top : (b : ℤ) (vs : List ℤ) → IfSome (next (stack vs) Pop)
 found_on_top b vs = grind (arith, ints)
 
 -- where none of the calls puts in b, what they put in is taken out
-pub stack_spent : (b : ℤ) (xs : List Call) (n : Call) (ys : List Call) (vs : List ℤ) → n.op ≡ Pop
-    → ((reply : AnyReply) → IfSome n.returned (λ r. r.reply ≡ reply) → reply ≡ Value (Some b))
-    → ((e : Call) → In e xs → puts_in (int_eq b) e.op ≡ false) → RepliesAlong (stack vs) (xs ++ n ∷ ys)
-    → in_front b vs 0 + tally (put_by every) xs ≤ tally (may_by every) xs
-stack_spent b [] n ys vs q gives none h =
-    let does : next (stack vs) Pop ≡ Some (h.0, h.1) = ap (next (stack vs)) (sym q) ∙ h.2 in
-    let e = subst (λ z. IfSome z (λ p. p.1 ≡ Value (Some b) → in_front b vs 0 ≡ 0)) does (found_on_top b vs)
-    (gives h.1 h.3) in
+pub stack_spent : (found : ℤ) (earlier : List Call) (removal : Call) (later : List Call) (values : List ℤ)
+    → removal.op ≡ Pop
+    → ((reply : AnyReply) → IfSome removal.returned (λ r. r.reply ≡ reply) → reply ≡ Value (Some found))
+    → ((e : Call) → In e earlier → puts_in (int_eq found) e.op ≡ false)
+    → RepliesAlong (stack values) (earlier ++ removal ∷ later)
+    → in_front found values 0 + tally (put_by every) earlier ≤ tally (may_by every) earlier
+stack_spent found [] removal later values pops gives none along =
+    let does : next (stack values) Pop ≡ Some (along.0, along.1) = ap (next (stack values)) (sym pops) ∙ along.2 in
+    let front = subst (λ z. IfSome z (λ p. p.1 ≡ Value (Some found) → in_front found values 0 ≡ 0)) does
+    (found_on_top found values) (gives along.1 along.3) in
     omega arith
-stack_spent b (e ∷ xs) n ys vs q gives none h =
-    let s = subst (λ z. IfSome z (λ p. Sinks b vs e.op p.0 p.1)) h.2 (stack_moves b vs e.op) in
-    let more = may_le every e.op e.returned h.1 h.3 in
-    let rest = stack_spent b xs n ys s.0 q gives (λ x i. none x (inr i))
-    (subst (λ (c : Content). RepliesAlong c (xs ++ n ∷ ys)) s.1 h.4) in
-    sums _ _ _ _ _ _ _ (s.2 (none e (inl refl))) more rest
+stack_spent found (call ∷ earlier) removal later values pops gives none along =
+    let step = subst (λ z. IfSome z (λ p. Sinks found values call.op p.0 p.1)) along.2
+    (stack_moves found values call.op) in
+    let more = may_le every call.op call.returned along.1 along.3 in
+    let rest = stack_spent found earlier removal later step.0 pops gives (λ x i. none x (inr i))
+    (subst (λ (c : Content). RepliesAlong c (earlier ++ removal ∷ later)) step.1 along.4) in
+    sums _ _ _ _ _ _ _ (step.2 (none call (inl refl))) more rest
   where
     -- the balances of a call and of the others, added up
     sums : (front put after took may puts mays : ℕ) → front + put ≤ after + took → took ≤ may
@@ -186,18 +194,21 @@ since_none b (e ∷ es) p i = go (any_put b (e ∷ es)) refl i (λ j. since_none
     go false k j f = no_put b (e ∷ es) k p j
 
 -- the content after the last that puts in b
-pub since_along : (b : ℤ) (xs : List Call) (n : Call) (ys : List Call) (vs : List ℤ)
-    → RepliesAlong (stack vs) (xs ++ n ∷ ys) → (ws : List ℤ) × RepliesAlong (stack ws) (since_put b xs ++ n ∷ ys)
-since_along b [] n ys vs h = (vs, h)
-since_along b (e ∷ xs) n ys vs h =
-    let s = subst (λ z. IfSome z (λ p. Sinks b vs e.op p.0 p.1)) h.2 (stack_moves b vs e.op) in
-    go (any_put b (e ∷ xs))
-    (since_along b xs n ys s.0 (subst (λ (c : Content). RepliesAlong c (xs ++ n ∷ ys)) s.1 h.4))
+pub since_along : (found : ℤ) (earlier : List Call) (removal : Call) (later : List Call) (values : List ℤ)
+    → RepliesAlong (stack values) (earlier ++ removal ∷ later)
+    → (ws : List ℤ) × RepliesAlong (stack ws) (since_put found earlier ++ removal ∷ later)
+since_along found [] removal later values along = (values, along)
+since_along found (call ∷ earlier) removal later values along =
+    let step = subst (λ z. IfSome z (λ p. Sinks found values call.op p.0 p.1)) along.2
+    (stack_moves found values call.op) in
+    go (any_put found (call ∷ earlier))
+    (since_along found earlier removal later step.0
+    (subst (λ (c : Content). RepliesAlong c (earlier ++ removal ∷ later)) step.1 along.4))
   where
-    go : (t : Bool) → (ws : List ℤ) × RepliesAlong (stack ws) (since_put b xs ++ n ∷ ys)
-        → (ws : List ℤ) × RepliesAlong (stack ws) (cond t (since_put b xs) (e ∷ xs) ++ n ∷ ys)
+    go : (t : Bool) → (ws : List ℤ) × RepliesAlong (stack ws) (since_put found earlier ++ removal ∷ later)
+        → (ws : List ℤ) × RepliesAlong (stack ws) (cond t (since_put found earlier) (call ∷ earlier) ++ removal ∷ later)
     go true r = r
-    go false r = (vs, h)
+    go false r = (values, along)
 
 pub since_tally : (q : Call → Bool) (b : ℤ) (es : List Call) → tally q (since_put b es) ≤ tally q es
 since_tally q b [] = omega arith

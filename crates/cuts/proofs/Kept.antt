@@ -131,11 +131,11 @@ open_none n (o ∷ ops) f =
     grind (arith, nat_tests)
 
 -- a part that leaves out a pending removal among the first ones does not keep the first ones
-pub one_missing : (kept : ℕ → Bool) (most left i : ℕ) (ops : List Operation) (d : Operation) → i < length ops
-    → keeps_first kept most ops ≡ keeps_first kept left (drop i ops) → is_open (get_or ops i d) ≡ true → zero < left
-    → kept (get_or ops i d).number ≡ false → false ≡ keeps_first kept most ops
-one_missing kept most left i ops d lt e o less n =
-    let whole = e ∙ ap (keeps_first kept left) (drop-cons ops i d lt) in
+pub one_missing : (kept : ℕ → Bool) (most left i : ℕ) (ops : List Operation) (default : Operation) → i < length ops
+    → keeps_first kept most ops ≡ keeps_first kept left (drop i ops) → is_open (get_or ops i default) ≡ true
+    → zero < left → kept (get_or ops i default).number ≡ false → false ≡ keeps_first kept most ops
+one_missing kept most left i ops default inside same o less out =
+    let whole = same ∙ ap (keeps_first kept left) (drop-cons ops i default inside) in
     grind (arith, nat_tests)
 
 -- a pending removal that the part leaves out comes after this many

@@ -27,15 +27,15 @@ from_one cut number calls (Ok (Some p)) e rising h =
 from_one cut number calls (Err x) e rising h = tt
 
 -- the part leaves out the calls on an absent value, and the cut names the other calls
-pub without_named : (cut : Cut) (v w : ℤ) (before : ℕ) (calls : List Call)
-    (cut_out : Result (Option ObjectCalls) AllocError) → cut ≡ Without v before → w ≡ v
-    → IfOk cut_out (λ o. IfSome o (λ p. IsWithout w before calls (calls_of p.ops)))
+pub without_named : (cut : Cut) (value other : ℤ) (before : ℕ) (calls : List Call)
+    (cut_out : Result (Option ObjectCalls) AllocError) → cut ≡ Without value before → other ≡ value
+    → IfOk cut_out (λ o. IfSome o (λ p. IsWithout other before calls (calls_of p.ops)))
     → IfOk cut_out (λ o. IfSome o (λ p. Names cut calls (calls_of p.ops)))
-without_named cut v w before calls (Ok None) e f h = tt
-without_named cut v w before calls (Ok (Some p)) e f h =
+without_named cut value other before calls (Ok None) e f h = tt
+without_named cut value other before calls (Ok (Some p)) e f h =
     subst (λ (z : Cut). Names z calls (calls_of p.ops)) (sym e)
     (subst (λ (z : ℤ). IsWithout z before calls (calls_of p.ops)) f h)
-without_named cut v w before calls (Err x) e f h = tt
+without_named cut value other before calls (Err x) e f h = tt
 
 -- the cuts name the same part of the whole as those of them that are left name of what the others cut
 pub record IsCutSoFar (cuts : List Cut) (i : ℕ) (whole now : List Call) : Type 0 where
@@ -45,9 +45,11 @@ pub record IsCutSoFar (cuts : List Cut) (i : ℕ) (whole now : List Call) : Type
 pub not_cut : (cuts : List Cut) (whole : List Call) → IsCutSoFar cuts 0 whole whole
 not_cut cuts whole = record { names = λ part h. h; only = λ part h. h }
 
-left : (cuts : List Cut) (i : ℕ) (d : Cut) → i < length cuts → drop i cuts ≡ get_or cuts i d ∷ drop (i + 1) cuts
-left cuts i d lt =
-    let e : suc i ≡ i + 1 = omega arith in drop-cons cuts i d lt ∙ ap (λ (n : ℕ). get_or cuts i d ∷ drop n cuts) e
+left : (cuts : List Cut) (i : ℕ) (default : Cut) → i < length cuts
+    → drop i cuts ≡ get_or cuts i default ∷ drop (i + 1) cuts
+left cuts i default inside =
+    let next : suc i ≡ i + 1 = omega arith in
+    drop-cons cuts i default inside ∙ ap (λ (n : ℕ). get_or cuts i default ∷ drop n cuts) next
 
 -- once the next cut has named its part, that is the part so far
 pub cut_further : (cuts : List Cut) (i : ℕ) (default : Cut) (whole now next : List Call) → i < length cuts
@@ -64,11 +66,14 @@ cut_further cuts i default whole now next inside so_far named one = record {
     split : drop i cuts ≡ get_or cuts i default ∷ drop (i + 1) cuts
     split = left cuts i default inside
 
-pub none_left : (cuts : List Cut) (i : ℕ) (d : Cut) (whole now : List Call) → i < length cuts
+-- if the next cut names nothing, the cuts name no part
+pub none_left : (cuts : List Cut) (i : ℕ) (default : Cut) (whole now : List Call) → i < length cuts
     → IsCutSoFar cuts i whole now
-    → ((part : List Call) → Names (get_or cuts i d) now part → ⊥) → (part : List Call) → NamesPart cuts whole part → ⊥
-none_left cuts i d whole now lt h none part k =
-    let r = subst (λ (cs : List Cut). NamesPart cs now part) (left cuts i d lt) (h.only part k) in none r.0 r.1
+    → ((part : List Call) → Names (get_or cuts i default) now part → ⊥) → (part : List Call) → NamesPart cuts whole part
+    → ⊥
+none_left cuts i default whole now inside so_far none part names =
+    let r = subst (λ (cs : List Cut). NamesPart cs now part) (left cuts i default inside) (so_far.only part names) in
+    none r.0 r.1
 
 -- the cuts leave the same kind as those of them that are left leave of what the others cut
 abbrev pub IsKindSoFar : List Cut → ℕ → Kind → Kind → Type 0

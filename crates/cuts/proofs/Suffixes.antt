@@ -112,28 +112,28 @@ joined_some kind from at first content front es does writes written along = reco
 
 -- ---- what becomes of a call
 
-call_from_other : (from at : ℕ) (first : Option (AnyOp × AnyReply)) (y : Call) → y.number ≢ from
-    → ended_before from y.returned ≡ false → call_from from at first y ≡ Some (call_later first at y)
-call_from_other from at first y n e = grind (arith, nat_tests)
+call_from_other : (from at : ℕ) (first : Option (AnyOp × AnyReply)) (call : Call) → call.number ≢ from
+    → ended_before from call.returned ≡ false → call_from from at first call ≡ Some (call_later first at call)
+call_from_other from at first call other not_over = grind (arith, nat_tests)
 
-call_from_own : (from at : ℕ) (first : Option (AnyOp × AnyReply)) (y : Call) (p : AnyOp × AnyReply) → y.number ≡ from
-    → first ≡ Some p → call_from from at first y ≡ Some (returned_call from at p)
-call_from_own from at first y p n e = grind (arith, nat_tests)
+call_from_own : (from at : ℕ) (first : Option (AnyOp × AnyReply)) (call : Call) (own : AnyOp × AnyReply)
+    → call.number ≡ from → first ≡ Some own → call_from from at first call ≡ Some (returned_call from at own)
+call_from_own from at first call own same is = grind (arith, nat_tests)
 
-pub call_from_cases : (from at : ℕ) (first : Option (AnyOp × AnyReply)) (y x : Call)
-    → call_from from at first y ≡ Some x
-    → ((p : AnyOp × AnyReply) × (first ≡ Some p) × (x ≡ returned_call from at p))
-    ⊎ ((y.number ≢ from) × (x ≡ call_later first at y) × (ended_before from y.returned ≡ false))
-call_from_cases from at first y x e = grind (arith, nat_tests)
+pub call_from_cases : (from at : ℕ) (first : Option (AnyOp × AnyReply)) (call part : Call)
+    → call_from from at first call ≡ Some part
+    → ((p : AnyOp × AnyReply) × (first ≡ Some p) × (part ≡ returned_call from at p))
+    ⊎ ((call.number ≢ from) × (part ≡ call_later first at call) × (ended_before from call.returned ≡ false))
+call_from_cases from at first call part e = grind (arith, nat_tests)
 
 not_ended : (from : ℕ) (o : Option Return) → ((r : Return) → o ≡ Some r → r.at < from → ⊥) → ended_before from o ≡ false
 not_ended from None h = refl
 not_ended from (Some r) h = let late = h r refl in grind (arith, nat_tests)
 
-front_cut : (from at : ℕ) (first : Option (AnyOp × AnyReply)) (y x : Call) → front_call from at first y ≡ Some x
-    → IsCutOf x y
-front_cut from at first y x e =
-    subst (λ (z : Call). IsCutOf z y) (front_facts from at first y x e).is_later (cut_of first at y)
+front_cut : (from at : ℕ) (first : Option (AnyOp × AnyReply)) (call part : Call)
+    → front_call from at first call ≡ Some part → IsCutOf part call
+front_cut from at first call part is =
+    subst (λ (z : Call). IsCutOf z call) (front_facts from at first call part is).is_later (cut_of first at call)
 
 -- ---- the suffix of a valid order
 

@@ -48,31 +48,32 @@ any_push p [] y = grind arith
 any_push p (x ∷ xs) y = grind (arith, any_push p xs y)
 
 -- one object more: it is among those that were seen, or new
-with_object : (old new : ℕ → Bool) (n more o : ℕ) (seen : List ℕ) → ((x : ℕ) → new x ≡ cond (o == x) true (old x))
-    → more ≡ cond (old o) 0 1
-    → AreSeen old n seen → AreSeen new (n + more) (with_new nat_eq seen o)
-with_object old new n more o seen among is h = go (list_any (nat_eq o) seen) refl
+with_object : (old new : ℕ → Bool) (number more object : ℕ) (seen : List ℕ)
+    → ((x : ℕ) → new x ≡ cond (object == x) true (old x)) → more ≡ cond (old object) 0 1
+    → AreSeen old number seen → AreSeen new (number + more) (with_new nat_eq seen object)
+with_object old new number more object seen among is h = go (list_any (nat_eq object) seen) refl
   where
-    known : list_any (nat_eq o) seen ≡ true → (x : ℕ) (b : Bool) → (o == x) ≡ b → cond b true (old x)
+    known : list_any (nat_eq object) seen ≡ true → (x : ℕ) (b : Bool) → (object == x) ≡ b → cond b true (old x)
         ≡ list_any (nat_eq x) seen
-    known q x true e = sym (subst (λ y. list_any (nat_eq y) seen ≡ true) (eqb-true o x e) q)
+    known q x true e = sym (subst (λ y. list_any (nat_eq y) seen ≡ true) (eqb-true object x e) q)
     known q x false e = h.objects x
 
-    fresh : (x : ℕ) (b : Bool) → (o == x) ≡ b → cond b true (old x) ≡ (list_any (nat_eq x) seen || (x == o))
+    fresh : (x : ℕ) (b : Bool) → (object == x) ≡ b → cond b true (old x) ≡ (list_any (nat_eq x) seen || (x == object))
     fresh x b e = let before = h.objects x in grind (arith, nat_tests)
 
-    go : (b : Bool) → list_any (nat_eq o) seen ≡ b → AreSeen new (n + more) (cond b seen (seen ++ o ∷ []))
+    go : (b : Bool) → list_any (nat_eq object) seen ≡ b
+        → AreSeen new (number + more) (cond b seen (seen ++ object ∷ []))
     go true q =
-        let none : more ≡ 0 = is ∙ ap (λ b. cond b 0 1) (h.objects o ∙ q) in
+        let none : more ≡ 0 = is ∙ ap (λ b. cond b 0 1) (h.objects object ∙ q) in
         let count = h.count in
-        record { objects = λ x. among x ∙ known q x (o == x) refl; count = omega (arith, none, count) }
+        record { objects = λ x. among x ∙ known q x (object == x) refl; count = omega (arith, none, count) }
     go false q =
-        let one : more ≡ 1 = is ∙ ap (λ b. cond b 0 1) (h.objects o ∙ q) in
+        let one : more ≡ 1 = is ∙ ap (λ b. cond b 0 1) (h.objects object ∙ q) in
         let count = h.count in
-        let long : length (seen ++ o ∷ []) ≡ length seen + 1 = length-append seen (o ∷ []) in
+        let long : length (seen ++ object ∷ []) ≡ length seen + 1 = length-append seen (object ∷ []) in
         record {
-          objects = λ x. among x ∙ fresh x (o == x) refl
-              ∙ sym (any_push (nat_eq x) seen o);
+          objects = λ x. among x ∙ fresh x (object == x) refl
+              ∙ sym (any_push (nat_eq x) seen object);
           count = omega (arith, one, count, long);
         }
 
@@ -109,26 +110,28 @@ seen_next kind all i default new count inside h =
 -- ---- kinds
 
 -- one kind more
-pub kinds_on : (all : List Invoked) (i : ℕ) (d : Invoked) (old new : List Kind) → i < length all → old
+pub kinds_on : (all : List Invoked) (i : ℕ) (default : Invoked) (old new : List Kind) → i < length all → old
     ≡ first_seen same_kind (map (λ (v : Invoked). v.kind) (take i all))
-    → new ≡ with_new same_kind old (get_or all i d).kind → new
+    → new ≡ with_new same_kind old (get_or all i default).kind → new
     ≡ first_seen same_kind (map (λ (v : Invoked). v.kind) (take (i + 1) all))
-kinds_on all i d old new lt h step =
-    let k = (get_or all i d).kind in
+kinds_on all i default old new inside h step =
+    let k = (get_or all i default).kind in
     step ∙ ap (λ ks. with_new same_kind ks k) h
     ∙ sym (first_seen-push same_kind (map (λ (v : Invoked). v.kind) (take i all)) k)
-    ∙ ap (first_seen same_kind) (sym (ap (map (λ (v : Invoked). v.kind)) (take_more all i d lt)
-    ∙ map-append (λ (v : Invoked). v.kind) (take i all) (get_or all i d ∷ [])))
+    ∙ ap (first_seen same_kind) (sym (ap (map (λ (v : Invoked). v.kind)) (take_more all i default inside)
+    ∙ map-append (λ (v : Invoked). v.kind) (take i all) (get_or all i default ∷ [])))
 
 -- ---- what is counted is what the history has
 
 abbrev pub of_invoked : Invoked → Use
 of_invoked i = record { object = i.object; kind = i.kind }
 
-uses_step : (x : ℕ) (a : Action) (failed : Bool) (us : List Use) (later : List Invoked) → us ≡ map of_invoked later
-    → cons_option (use_by x a) us ≡ map of_invoked (invocation_by x a failed ++ later)
-uses_step x (Invoke op) failed us later h = ap (λ vs. record { object = x; kind = kind_of op } ∷ vs) h
-uses_step x a failed us later h = h
+uses_step : (object : ℕ) (action : Action) (failed : Bool) (others : List Use) (later : List Invoked)
+    → others ≡ map of_invoked later
+    → cons_option (use_by object action) others ≡ map of_invoked (invocation_by object action failed ++ later)
+uses_step object (Invoke op) failed others later same =
+    ap (λ vs. record { object = object; kind = kind_of op } ∷ vs) same
+uses_step object action failed others later same = same
 
 uses_are : (es : List Event) → uses es ≡ map of_invoked (invocations es)
 uses_are [] = refl
