@@ -21,8 +21,8 @@ use Rattle.cuts.proofs.Ordered.{calls_apart, in_calls, in_entries, named_apart, 
 use Rattle.cuts.proofs.Conserved.{one, tally, count_tally, kept_size, size_empty, turn, Turn, count_among}
 use Rattle.cuts.proofs.Contents.{IsRising, filter_in, filter_out, after_in, after_out, with_value_in}
 use Rattle.cuts.proofs.Contents.{with_value_out, rising_with_value}
-use Rattle.std.proofs.lemmas.Bool.{or_parts}
-use Rattle.cuts.proofs.Booleans.{both_true, some_at, false_is_not_true, true_or_false}
+use Rattle.std.proofs.lemmas.Bool.{or_parts, and_parts}
+use Rattle.cuts.proofs.Booleans.{some_at, false_is_not_true, true_or_false}
 
 -- ---- contents
 
@@ -144,12 +144,12 @@ or_true a b e = search rules
 
 early_put : (v : ℤ) (number : ℕ) (e : Call) → is_put_before v number e ≡ true
     → (puts_in (int_eq v) e.op ≡ true) × (nat_lt e.number number ≡ true)
-early_put v number e h = both_true (puts_in (int_eq v) e.op) (nat_lt e.number number) h
+early_put v number e h = and_parts (puts_in (int_eq v) e.op) (nat_lt e.number number) h
 
 early_removal : (v : ℤ) (number : ℕ) (e : Call) → is_taken_before v number e ≡ true
     → (takes_out (int_eq v) e.op (reply_of e.returned) ≡ true) × (ended_before number e.returned ≡ true)
 early_removal v number e h =
-    both_true (takes_out (int_eq v) e.op (reply_of e.returned)) (ended_before number e.returned) h
+    and_parts (takes_out (int_eq v) e.op (reply_of e.returned)) (ended_before number e.returned) h
 
 -- a call that had returned before the number returned before a call that was invoked at it or later
 returned_first : (v : ℤ) (number : ℕ) (y e : Call) → is_taken_before v number y ≡ true

@@ -23,11 +23,11 @@ use Rattle.cuts.specs.Kinds.Containers.{puts_in, is_removal, is_value_ahead}
 use Rattle.cuts.specs.Ahead.{found_in, found_by, first_put, ahead_before, is_settled, is_put_ahead, may_precede}
 use Rattle.cuts.proofs.Ordered.{calls_apart, in_calls, in_entries, numbers_apart, in_time_order}
 use Rattle.cuts.proofs.Conserved.{tally, count_tally, tally_le, count_among}
-use Rattle.std.proofs.lemmas.Bool.{and_from}
+use Rattle.std.proofs.lemmas.Bool.{and_from, and_parts}
 use Rattle.cuts.proofs.Emptied.{pairs_front, pairs_to, pairs_beyond, put_by, may_by, spent}
 use Rattle.cuts.proofs.InFront.{every, queue_spent, until_put, fresh_until, in_until, first_least, stack_spent}
 use Rattle.cuts.proofs.InFront.{since_put, since_none, since_along, since_tally, in_since}
-use Rattle.cuts.proofs.Booleans.{each_passes, false_is_not_true, both_true}
+use Rattle.cuts.proofs.Booleans.{each_passes, false_is_not_true}
 
 -- ---- the calls, and those in an order
 
@@ -39,8 +39,8 @@ ended before o e = grind (arith, nat_tests)
 put_parts : (keeps : ℤ → Bool) (from before : ℕ) (e : Call) → is_put_ahead keeps from before e ≡ true
     → (puts_in keeps e.op ≡ true) × (ended_before before e.returned ≡ true) × (from ≤ e.number)
 put_parts keeps from before e p =
-    let a = both_true (puts_in keeps e.op) (ended_before before e.returned && not (nat_lt e.number from)) p in
-    let b = both_true (ended_before before e.returned) (not (nat_lt e.number from)) a.1 in
+    let a = and_parts (puts_in keeps e.op) (ended_before before e.returned && not (nat_lt e.number from)) p in
+    let b = and_parts (ended_before before e.returned) (not (nat_lt e.number from)) a.1 in
     (a.0, b.0, begun e.number from b.1)
   where
     begun : (number from : ℕ) → not (nat_lt number from) ≡ true → from ≤ number

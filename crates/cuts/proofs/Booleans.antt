@@ -1,13 +1,12 @@
 -- A test gives true or false, and each result has its consequence. These are stated once here for all proofs of the
 -- crate, and each is immediate.
-use Rattle.std.proofs.Common.{◌≡◌, ◌⊎◌, inl, inr, ◌<◌, ◌&&◌, ℕ, nat_lt, Bool, true, false, Option, Some, None, IfSome}
+use Rattle.std.proofs.Common.{◌≡◌, ◌⊎◌, inl, inr, ◌&&◌, Bool, true, false, Option, Some, None, IfSome}
 use Rattle.std.proofs.Common.{refl, arith, ap, ◌∙◌, List, [], ◌∷◌}
 use Rattle.std.specs.List.{list_all}
 use Rattle.model.specs.Lists.{In}
 use Rattle.std.specs.Prelude.{ℤ}
 use Rattle.std.specs.Ordering.{int_eq}
 use Rattle.std.proofs.lemmas.Int.{ints}
-use Rattle.std.proofs.lemmas.Bool.Decides.{nat_tests}
 
 -- false is not true
 pub false_is_not_true : false ≡ true → ⊥
@@ -17,15 +16,6 @@ false_is_not_true e = absurd (cc e)
 pub true_or_false : (b : Bool) → (b ≡ true) ⊎ (b ≡ false)
 true_or_false true = inl refl
 true_or_false false = inr refl
-
--- of a conjunction that holds both hold
-pub both_true : (a b : Bool) → (a && b) ≡ true → (a ≡ true) × (b ≡ true)
-both_true true b e = (refl, e)
-both_true false b e = absurd (false_is_not_true e)
-
--- a number that the test finds less is less
-pub less_by_test : (a b : ℕ) → nat_lt a b ≡ true → a < b
-less_by_test a b e = grind (arith, nat_tests)
 
 -- integers that the test finds equal are equal
 pub same_by_test : (v a : ℤ) → int_eq v a ≡ true → v ≡ a

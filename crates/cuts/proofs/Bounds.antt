@@ -5,7 +5,7 @@ use Rattle.std.proofs.Common.{cond, List, [], ◌∷◌, length, Option, Some, N
 use Rattle.std.proofs.Common.{refl, ap, sym, ◌∙◌, subst, arith}
 use Rattle.std.specs.Prelude.{is_none}
 use Rattle.std.proofs.lemmas.Int.{ints}
-use Rattle.std.proofs.lemmas.Bool.{eqb-true, and_from}
+use Rattle.std.proofs.lemmas.Bool.{eqb-true, and_from, and_parts}
 use Rattle.std.proofs.lemmas.Bool.Decides.{nat_tests}
 use Rattle.std.proofs.lemmas.Option.{same_Some}
 use Rattle.std.specs.Ordering.{int_cmp, int_eq}
@@ -29,7 +29,7 @@ use Rattle.cuts.specs.Kinds.Counting.{sets, takes, may_count_from_any}
 use Rattle.cuts.proofs.Ordered.{calls_apart, in_calls, in_entries, entries_apart, in_time_order}
 use Rattle.cuts.proofs.Conserved.{one, tally, count_tally, size_after, size_cons, size_with_value, one_le}
 use Rattle.cuts.proofs.Conserved.{tally_le, count_among}
-use Rattle.cuts.proofs.Booleans.{false_is_not_true, true_or_false, same_by_test, both_true}
+use Rattle.cuts.proofs.Booleans.{false_is_not_true, true_or_false, same_by_test}
 use Rattle.cuts.proofs.Tables.{get-insert, get-remove}
 
 -- ---- how often an object contains it
@@ -142,7 +142,7 @@ from_start : (what : Counted) (es : List Call) (c : Content) → RepliesAlong c 
     → tally (taken_from what 0) es ≤ there what c + tally (set_from what 0) es
 from_start what es c h =
     let a = tally_le (taken_from what 0) (taken_by what) es
-    (λ x i e. (both_true (taken_by what x) (not (nat_lt x.number 0)) e).0) in
+    (λ x i e. (and_parts (taken_by what x) (not (nat_lt x.number 0)) e).0) in
     let b = tally_le (set_by what) (set_from what 0) es
     (λ x i e. and_from (set_by what x) (not (ended_before 0 x.returned)) e
     (not_ended 0 x.returned (λ r q. omega arith))) in
@@ -184,9 +184,9 @@ from_later what from (e ∷ es) c s ends in_time h = elim (true_or_false (taken_
       let here = ap one miss in
       omega arith
   | inl hit ↦
-      let low = begun e.number from (both_true (taken_by what e) (not (nat_lt e.number from)) hit).1 in
+      let low = begun e.number from (and_parts (taken_by what e) (not (nat_lt e.number from)) hit).1 in
       let a = tally_le (taken_from what from) (taken_by what) (e ∷ es)
-      (λ x i q. (both_true (taken_by what x) (not (nat_lt x.number from)) q).0) in
+      (λ x i q. (and_parts (taken_by what x) (not (nat_lt x.number from)) q).0) in
       let b = tally_le (set_by what) (set_from what from) (e ∷ es)
       (λ x i q. and_from (set_by what x) (not (ended_before from x.returned)) q
       (not_ended from x.returned (λ r w. elim i [
@@ -245,7 +245,7 @@ count_bounded kind calls what from most order rising ends before v =
     let more_sets = count_among (set_from what from) v.entries calls (entries_apart v) (λ e i p. in_calls v e i) in
     let more_takes = count_among (taken_from what from) calls v.entries (calls_apart calls rising)
     (λ e i p. in_entries v e i
-    (returned e.op e.returned (both_true (taken_by what e) (not (nat_lt e.number from)) p).0)) in
+    (returned e.op e.returned (and_parts (taken_by what e) (not (nat_lt e.number from)) p).0)) in
     let all_sets = count_tally (set_from what from) calls in
     let all_takes = count_tally (taken_from what from) calls in
     let here = along kind what from most v.entries before

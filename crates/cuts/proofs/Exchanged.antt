@@ -4,6 +4,7 @@ use Rattle.std.proofs.Common.{rules, ◌≡◌, ◌≢◌, ◌⊎◌, inl, inr, 
 use Rattle.std.proofs.Common.{◌&&◌, List, [], ◌∷◌, length}
 use Rattle.std.proofs.Common.{Option, Some, None, IfSome, IsSome, is_some, refl, ap, sym, ◌∙◌, subst, arith}
 use Rattle.std.proofs.lemmas.Bool.Decides.{nat_tests}
+use Rattle.std.proofs.lemmas.Bool.{ltb-true, ltb-false}
 use Rattle.model.specs.declared.Kind.{Kind}
 use Rattle.model.specs.declared.AnyOp.{AnyOp}
 use Rattle.model.specs.declared.AnyReply.{AnyReply}
@@ -20,12 +21,6 @@ use Rattle.cuts.proofs.Conserved.{one, tally, puts, taken, kept_size, turn, cons
 use Rattle.cuts.proofs.Sequences.{one_number}
 use Rattle.cuts.proofs.Fitting.{reply_shown}
 use Rattle.cuts.proofs.Booleans.{false_is_not_true, true_or_false}
-
-is_before : (a b : ℕ) → nat_lt a b ≡ true → a < b
-is_before a b e = grind (arith, nat_tests)
-
-at_least : (a b : ℕ) → nat_lt a b ≡ false → b ≤ a
-at_least a b e = grind (arith, nat_tests)
 
 -- ---- pending removals by their invocations
 
@@ -79,11 +74,11 @@ late n (x ∷ xs) = elim (true_or_false (nat_lt x.number n)) [
   | inl lt ↦ elim (late n xs) [
     | inl w ↦ inl (w.0, inr w.1, w.2)
     | inr all ↦ inr (λ y i. elim i [
-      | inl e ↦ subst (λ (z : Call). z.number < n) (sym e) (is_before x.number n lt)
+      | inl e ↦ subst (λ (z : Call). z.number < n) (sym e) (ltb-true x.number n lt)
       | inr j ↦ all y j
     ])
   ]
-  | inr ge ↦ inl (x, inl refl, at_least x.number n ge)
+  | inr ge ↦ inl (x, inl refl, ltb-false x.number n ge)
 ]
 
 all_pass : (p : Call → Bool) (xs : List Call) → ((x : Call) → In x xs → p x ≡ true) → tally p xs ≡ length xs

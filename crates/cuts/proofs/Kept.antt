@@ -6,6 +6,7 @@ use Rattle.std.proofs.Common.{length, get_or, drop, refl, ap, sym, ◌∙◌, su
 use Rattle.std.specs.List.{filter_map, list_all}
 use Rattle.std.proofs.Math.Seq.{drop-cons}
 use Rattle.std.proofs.lemmas.Bool.Decides.{nat_tests}
+use Rattle.std.proofs.lemmas.Bool.{and_parts}
 use Rattle.model.specs.declared.AnyOp.{AnyOp}
 use Rattle.model.specs.Objects.{kind_of}
 use Rattle.model.specs.Orders.{Call, IsValidOrder}
@@ -28,7 +29,7 @@ use Rattle.cuts.proofs.Closed.{projection_valid}
 use Rattle.cuts.proofs.Sequences.{in_filter_map_from}
 use Rattle.cuts.proofs.CutOperations.{bind, filter_map-filter, map-same, IsCutOperation, cut_history}
 use Rattle.cuts.proofs.CutOperations.{cut_calls, cut_lives, did_not_fail, rising_calls, all_calls}
-use Rattle.cuts.proofs.Booleans.{false_is_not_true, both_true, each_passes, all_pass}
+use Rattle.cuts.proofs.Booleans.{false_is_not_true, each_passes, all_pass}
 use Rattle.cuts.proofs.CountedCalls.{passes, tally_calls, count_calls}
 
 -- the element itself, if it passes the test
@@ -154,7 +155,7 @@ first_kept kept most (y ∷ ops) h k x i o n = go (λ m e j. first_kept kept m o
         let opened = ap (λ (u : Operation). is_open u) (sym w) ∙ o in
         grind (arith, nat_tests)
     go again true q e (inr j) =
-        let l = again (most - 1) (both_true (most == 0 || kept y.number) (keeps_first kept (most - 1) ops) e).1 j in
+        let l = again (most - 1) (and_parts (most == 0 || kept y.number) (keeps_first kept (most - 1) ops) e).1 j in
         let m = open_more y x ops true q (h.0 x j) in
         omega arith
     go again false q e (inr j) =

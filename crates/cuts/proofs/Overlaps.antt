@@ -5,6 +5,7 @@ use Rattle.std.proofs.Common.{◌++◌, Option, Some, None, IfSome, IsSome, map,
 use Rattle.std.specs.Prelude.{option_map}
 use Rattle.std.specs.Option.{option_map_or}
 use Rattle.std.proofs.lemmas.Option.{same_Some}
+use Rattle.std.proofs.lemmas.Bool.{ltb-true}
 use Rattle.model.specs.declared.Kind.{Kind}
 use Rattle.model.specs.declared.Kind.TheVariants.{Register}
 use Rattle.model.specs.declared.AnyOp.{AnyOp}
@@ -14,10 +15,10 @@ use Rattle.model.specs.declared.AnyReply.TheVariants.{Value, Swapped, Flag}
 use Rattle.model.specs.Objects.{Content, register, empty, next, kind_of}
 use Rattle.model.specs.Orders.{Call, Return, ReturnsBefore, RepliesAlong}
 use Rattle.model.specs.Lists.{In}
+use Rattle.model.proofs.Orders.{returned_some}
 use Rattle.cuts.specs.Parts.{ended_before, written_before, write_call, pending_call, overlapping, call_later}
 use Rattle.cuts.specs.Parts.{returned_call}
 use Rattle.cuts.specs.Kinds.Starts.{key_of, leaves, written}
-use Rattle.cuts.proofs.Booleans.{less_by_test}
 
 -- ---- what was written
 
@@ -207,10 +208,6 @@ pub late_facts : (from at : ℕ) (first : Option (AnyOp × AnyReply)) (y : Call)
     → IsSome (call_later first at y).returned → Late from at first y
 late_facts from at first y so = whole (nat_lt at y.number) refl so
   where
-    some_of : (o : Option Return) → IsSome o → (r : Return) × (o ≡ Some r)
-    some_of None s = absurd (cc s)
-    some_of (Some r) s = (r, refl)
-
     with_value : (r : Return) → y.returned ≡ Some r → nat_lt at y.number ≡ false → (o : Option ℤ)
         → written_before first y.op r.reply ≡ o
         → IsSome (option_map_or (write_call y.number r.at) o (pending_call y.number y.op)).returned
@@ -237,7 +234,7 @@ late_facts from at first y so = whole (nat_lt at y.number) refl so
     whole : (b : Bool) → nat_lt at y.number ≡ b
         → IsSome (cond b y (overlapping first y.number y.op y.returned)).returned → Late from at first y
     whole true l so =
-        let r = some_of y.returned so in record { return = r.0; was = r.1; either = inl (less_by_test at y.number l) }
+        let r = returned_some y.returned so in record { return = r.0; was = r.1; either = inl (ltb-true at y.number l) }
     whole false l so = returned y.returned refl l so
 
 -- ---- their replies

@@ -23,6 +23,7 @@ use Rattle.verifying.specs.declared.decision.Decision.TheVariants.{Order, Imposs
 use Rattle.verifying.specs.declared.decision.ShownReason.{ShownReason}
 use Rattle.verifying.specs.Decisions.{AreDecisionsOn, IsDecisionOn, IsShownReason, certificate_decided}
 use Rattle.verifying.specs.Decisions.{certificates_decided, is_impossible, is_order}
+use Rattle.refutation.proofs.Objects.{zip_push}
 use Rattle.history_commands.specs.Merged.{Answer, AnswersClaims, AnswersShard, AreInOrder, AreLinesWith, AreMerged}
 use Rattle.history_commands.specs.Merged.{IsExplainedShard, IsMerge, IsMergeOutput, Shard, finding_on, lines_by}
 use Rattle.history_commands.specs.Merged.{seen_lines, shown_on, whole_name, worse, worst}
@@ -37,12 +38,6 @@ use Rattle.history_commands.proofs.Findings.{all_certified, no_refuted, own_find
 use Rattle.history_commands.proofs.Findings.{yes_certified}
 
 -- ---- one shard more
-
-zip_push : {X Y : Type 0} (R : X → Y → Type 0) (xs : List X) (ys : List Y) (x : X) (y : Y) → AllZip R xs ys → R x y
-    → AllZip R (xs ++ x ∷ []) (ys ++ y ∷ [])
-zip_push R [] [] x y h r = (r, tt)
-zip_push R (w ∷ xs) (z ∷ ys) x y h r = (h.0, zip_push R xs ys x y h.1 r)
-zip_push R xs ys x y h r = absurd h
 
 flat_push : {X : Type 0} (f : Answer → List X) (answers : List Answer) (a : Answer)
     → flat_map f answers ++ f a ≡ flat_map f (answers ++ a ∷ [])

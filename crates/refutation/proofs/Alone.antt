@@ -4,7 +4,7 @@ use Rattle.std.proofs.Common.{◌≡◌, ◌≢◌, ◌⊎◌, inl, inr, ℕ, �
 use Rattle.std.proofs.Common.{Option, Some, None, map, filter, AllPairs, All, refl, ap, sym, ◌∙◌, arith}
 use Rattle.std.specs.Option.{option_or}
 use Rattle.std.proofs.lemmas.Option.{same_Some}
-use Rattle.std.proofs.lemmas.Bool.{eqb-true, eqb-false, eq-eqb, and_from}
+use Rattle.std.proofs.lemmas.Bool.{eqb-true, eqb-false, eq-eqb, and_from, ltb-true}
 use Rattle.std.proofs.lemmas.Bool.Decides.{nat_tests}
 use Rattle.model.specs.declared.Kind.{Kind}
 use Rattle.model.specs.declared.AnyOp.{AnyOp}
@@ -43,9 +43,6 @@ later_apart e es h = record { pairs = h.pairs.1; ends = λ y r i q. h.ends y r (
 
 -- ---- an event in its place
 
-lt_true : (a b : ℕ) → nat_lt a b ≡ true → a < b
-lt_true a b e = grind (arith, nat_tests)
-
 lt_false : (a b : ℕ) → nat_lt a b ≡ false → a ≢ b → b < a
 lt_false a b e ne = grind (arith, nat_tests)
 
@@ -69,7 +66,7 @@ placed_rise m (n ∷ later) up ne = go (nat_lt n.number m.number) refl (placed_r
 
     go : (b : Bool) → nat_lt n.number m.number ≡ b → Rise (placed m later)
         → Rise (cond b (n ∷ placed m later) (m ∷ n ∷ later))
-    go true e r = (first (lt_true n.number m.number e), r)
+    go true e r = (first (ltb-true n.number m.number e), r)
     go false e r = (front (lt_false n.number m.number e (ne n (inl refl))), up)
 
 -- no event is of process p

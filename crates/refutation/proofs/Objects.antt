@@ -51,7 +51,7 @@ answer_added Not answers more answer e one all x i p = elim (in_append x answers
 ]
 
 -- a relation that holds of two lists, place by place, and of one more element of each
-zip_push : {X Y : Type 0} (Fits : X → Y → Type 0) (xs : List X) (ys : List Y) (x : X) (y : Y) → AllZip Fits xs ys
+pub zip_push : {X Y : Type 0} (Fits : X → Y → Type 0) (xs : List X) (ys : List Y) (x : X) (y : Y) → AllZip Fits xs ys
     → Fits x y → AllZip Fits (xs ++ x ∷ []) (ys ++ y ∷ [])
 zip_push Fits [] [] x y h r = (r, tt)
 zip_push Fits (z ∷ xs) (w ∷ ys) x y h r = (h.0, zip_push Fits xs ys x y h.1 r)
