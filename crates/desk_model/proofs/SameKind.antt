@@ -15,6 +15,7 @@ use Rattle.model.specs.Objects.{next_map, next_mutex, next_set, next_counter, ne
 use Rattle.model.proofs.Objects.{kind_of_empty}
 use Rattle.desk_model.specs.World.{AnyEntry, Replays}
 
+-- two steps with the same result leave contents of one kind
 after_kind : (content content' : Content) (reply reply' : AnyReply)
     → ◌≡◌ {A = Option (Content × AnyReply)} (Some (content, reply)) (Some (content', reply'))
     → kind_with content' ≡ kind_with content
