@@ -15,6 +15,7 @@ use Rattle.desk_invariant.specs.declared.board.Own.{Own}
 use Rattle.desk_invariant.specs.declared.board.Own.TheVariants as own
 use Rattle.desk_invariant.specs.declared.board.DeskView.{DeskView}
 use Rattle.desk_invariant.specs.Views.{row_place, seen_of, is_waiting, waits_on, after_miss, after_win, after_release}
+use Rattle.publication_list.specs.Calls.{WalkerSeen}
 use Rattle.publication.specs.Handles.{Holding, Handling}
 use Rattle.publication.specs.Calls.{IsPollMiss, IsPicked, IsPickMiss, CanDoAfter, kind_held, IsAnsweredCall, IsPutBack}
 use Rattle.combiner.specs.declared.passes.Tried.{Tried}
@@ -23,7 +24,7 @@ use Rattle.combiner.specs.Passes.{KeepsCalls, Goes, IsTried, IsSettled, IsSettle
 
 -- ---- what stays of a client's calls
 
--- what stays where the own calls of w are written from those of v
+-- what a view keeps, an equal one keeps
 keeps_same : (view after view' : DeskView) → after ≡ view' → KeepsCalls view view' → KeepsCalls view after
 keeps_same view after view' e kept = subst (KeepsCalls view) (sym e) kept
 
@@ -50,9 +51,10 @@ keeps_held view =
 
 -- ---- a pass that goes on
 
--- a pass that has tried no row is where it was
-pub goes_nowhere : (pass : Holding) → Goes pass pass
-goes_nowhere pass = record {
+-- a pass goes on if only the list, the ages and the room for entries change
+goes_still : (pass : Holding) {list : WalkerSeen} {ages : List ℕ} {room : ℕ}
+    → Goes pass (record pass { state = record pass.state { list = list; ages = ages; room = room } })
+goes_still pass = record {
   desk = refl;
   object = refl;
   places = refl;
@@ -61,6 +63,10 @@ goes_nowhere pass = record {
   calls = keeps_all pass.knows;
   ready = λ e. e;
 }
+
+-- a pass that has tried no row is where it was
+pub goes_nowhere : (pass : Holding) → Goes pass pass
+goes_nowhere pass = goes_still pass
 
 -- two stretches of a pass in which rows were tried are one
 pub goes_on : (pass between after : Holding) → Goes pass between → Goes between after → Goes pass after
@@ -76,38 +82,18 @@ goes_on pass between after a b = record {
 
 -- where only the list and the ages changed
 pub goes_same : (pass after : Holding) → IsSameBut pass after → Goes pass after
-goes_same pass after same = subst (Goes pass)
-    (sym same.2) record {
-      desk = refl;
-      object = refl;
-      places = refl;
-      log = starts_same pass.log;
-      seen = refl;
-      calls = keeps_all pass.knows;
-      ready = λ e. e;
-    }
+goes_same pass after same = let (list, ages, is) = same in subst (Goes pass) (sym is) (goes_still pass)
 
 -- where only the room for entries changed
 pub goes_room : (pass after : Holding) (room : ℕ) → after ≡ record pass { state = record pass.state { room = room } }
     → Goes pass after
-goes_room pass after room is = subst (Goes pass)
-    (sym is) record {
-      desk = refl;
-      object = refl;
-      places = refl;
-      log = starts_same pass.log;
-      seen = refl;
-      calls = keeps_all pass.knows;
-      ready = λ e. e;
-    }
+goes_room pass after room is = subst (Goes pass) (sym is) (goes_still pass)
 
 -- what changed only the list and the ages twice changed only these
 pub same_on : (pass between after : Holding) → IsSameBut pass between → IsSameBut between after → IsSameBut pass after
-same_on pass between after a b = (
-  b.0,
-  b.1,
-  b.2 ∙ ap (λ (z : Holding). record z { state = record z.state { list = b.0; ages = b.1 } }) a.2,
-)
+same_on pass between after a b =
+    let (list, ages, is) = b in
+    (list, ages, is ∙ ap (λ (z : Holding). record z { state = record z.state { list = list; ages = ages } }) a.2)
 
 -- what is known of the own call stays true if only the list and the ages change
 pub same_settled : (pass after : Holding) → IsSameBut pass after → IsSettledNow pass → IsSettledNow after

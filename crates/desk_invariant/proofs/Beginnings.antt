@@ -81,6 +81,7 @@ module _ {S O R : Type 0} (content : S → Content) (op_in : O → AnyOp) (reply
 
   -- ---- the first state
 
+  -- the rule holds of a table with words 0, the cores of all objects in their slots, and the view of the maker alone
   pub opening_keeps_rule : (lists : List TableId) (words : List ℕ) (slots : List (Slot S O R)) → length kinds < 17
       → clients < 33 → quota < 10001
       → length words ≡ 81 → ((i : ℕ) → get_or words i 0 ≡ 0) → length slots ≡ 80
@@ -210,6 +211,7 @@ module _ {S O R : Type 0} (content : S → Content) (op_in : O → AnyOp) (reply
 
   -- ---- a client's first step
 
+  -- the first step of a client keeps the rule: it takes its two slots out
   pub begin_keeps_rule : (slots id client : ℕ) (me : Me (Slot S O R) DeskView) → me.0.role ≡ role.Client
       → me.0.number ≡ client
       → client < 32 → me.0.own ≡ own.Absent → me.0.held ≡ held.Free → me.0.ended ≡ false

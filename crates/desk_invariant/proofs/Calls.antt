@@ -24,6 +24,7 @@ use Rattle.desk_invariant.specs.declared.board.Held.TheVariants as held
 use Rattle.desk_invariant.specs.declared.board.Role.TheVariants as role
 use Rattle.desk_invariant.specs.declared.board.DeskView.{DeskView}
 use Rattle.desk_model.specs.declared.Request.{Request}
+use Rattle.desk_model.specs.declared.Answer.{Answer}
 use Rattle.desk_model.specs.World.{AnyEntry, AnyRequest, AnyAnswer, AnyDone, Stage, idle, drawn, posted, picked}
 use Rattle.desk_model.specs.World.{answered, taken, World, kind_at, logged, logged_on, entries_of_client, served}
 use Rattle.desk_model.specs.World.{served_now, request_of, calls_made, journal_of, IsLegalLog, StartsWith}
@@ -284,6 +285,7 @@ module _ {S O R : Type 0} (content : S → Content) (op_in : O → AnyOp) (reply
       (sym (logged_else y client request answer (λ f. other (sym f))))
       (covers_own kinds world client view (own.Waiting request) is ok y))
 
+  -- a look at the own row keeps the rule, whether there is an answer or not
   pub look_for_answer_keeps_rule : (slots id client : ℕ) (me : Me (Slot S O R) DeskView) → me.0.role ≡ role.Client
       → me.0.number ≡ client → client < 32
       → Allows DeskRule slots id me (row_place client) (λ f. f)
@@ -306,6 +308,16 @@ module _ {S O R : Type 0} (content : S → Content) (op_in : O → AnyOp) (reply
       λ d q own_row here waiting. ((λ hit. absurd (miss hit)), λ _. (refl, not)) in
       (view', keeps, tt, misses rule (row_place client) id me.1 is_client at, told))
 
+  -- what the client is told of the answer that came out of its row, and of the log of its call's object
+  record IsTaken (me after : Me (Slot S O R) DeskView) (client : ℕ) (request : AnyRequest) (given : Answer R)
+      (log : List AnyEntry) : Type 0 where
+    hand : after ≡ (after_take request (answer_in reply_in given) log me.0, (16 + client, slot.Answer given) ∷ me.1)
+    legal : IsLegalLog (kind_at me.0.kinds request.object) log
+    begins : StartsWith log (seen_of me.0 request.object)
+    calls : entries_of_client me.0.number log
+        ≡ served request.object me.0.number me.0.done ++ logged me.0.number request (answer_in reply_in given)
+
+  -- a try to take the answer keeps the rule, while the client holds nothing
   pub take_keeps_rule : (slots id client : ℕ) (me : Me (Slot S O R) DeskView) (request : AnyRequest)
       → me.0.role ≡ role.Client → me.0.number ≡ client
       → me.0.own ≡ own.Waiting request → me.0.held ≡ held.Free → request.object < 16 → client < 32
@@ -364,7 +376,7 @@ module _ {S O R : Type 0} (content : S → Content) (op_in : O → AnyOp) (reply
             (seat_gone world world.clock client stage world.done kinds (after_meet object log me.0)
             (own.Taken request answer) me.0.done unpicked unposted refl ok.done covers seat));
       } in
-      -- what a hit tells of the answer and the log, and that it is no miss
+      -- what a hit tells of the answer and the log, by whichever names the call and the row have; it is no miss
       let legal : IsLegalLog (kind_at me.0.kinds object) log =
       subst (λ z. IsLegalLog (kind_at z object) log) (sym ok.kinds_are) (rule.sound.legal object) in
       let logs_calls : entries_of_client client log
@@ -376,21 +388,21 @@ module _ {S O R : Type 0} (content : S → Content) (op_in : O → AnyOp) (reply
       subst
       (λ z. entries_of_client z log ≡ served object z me.0.done ++ logged z request (answer_in reply_in given))
       (sym number) logs_calls in
-      let told : play.takes_answer content op_in reply_in attempt me found
-      (view', (16 + client, slot.Answer given) ∷ me.1) =
-      λ d q own_row here waiting.
-      let row : client ≡ d = omega arith in
-      let same : request ≡ q = ap (request_known request) (sym is ∙ waiting) in (
-        (λ _. (
-          given,
-          log,
-          (λ i. (after_take (same i) (answer_in reply_in given) log me.0, (16 + row i, slot.Answer given) ∷ me.1)),
-          subst (λ z. IsLegalLog (kind_at me.0.kinds z.object) log) same legal,
-          subst (λ z. StartsWith log (seen_of me.0 z.object)) same (ok.seen object),
-          subst (λ z. entries_of_client me.0.number log
-              ≡ served z.object me.0.number me.0.done ++ logged me.0.number z (answer_in reply_in given)) same
-              own_calls,
-        )),
+      let me' : Me (Slot S O R) DeskView = (view', (16 + client, slot.Answer given) ∷ me.1) in
+      let told_one : IsTaken me me' client request given log = record {
+        hand = refl;
+        legal = legal;
+        begins = ok.seen object;
+        calls = own_calls;
+      } in
+      let told_any : (d : ℕ) (q : AnyRequest) → client ≡ d → request ≡ q → IsTaken me me' d q given log =
+      λ d q row same. subst (λ (z : ℕ × AnyRequest). IsTaken me me' z.0 z.1 given log)
+      (λ i. (row i, same i)) told_one in
+      let told : play.takes_answer content op_in reply_in attempt me found me' =
+      λ d q own_row here waiting. (
+        (λ _.
+            let t = told_any d q (omega arith) (ap (request_known request) (sym is ∙ waiting)) in
+            (given, log, t.hand, t.legal, t.begins, t.calls)),
         λ miss. absurd (miss hit),
       ) in (
         view',
@@ -418,6 +430,7 @@ module _ {S O R : Type 0} (content : S → Content) (op_in : O → AnyOp) (reply
   answer_known d (own.Taken q a) = a
   answer_known d o = d
 
+  -- drawing the ticket of the return keeps the rule, and then the call is over
   pub return_keeps_rule : (slots id : ℕ) (me : Me (Slot S O R) DeskView) (request : AnyRequest) (answer : AnyAnswer)
       → me.0.role ≡ role.Client → me.0.own ≡ own.Taken request answer → me.0.held ≡ held.Free → me.0.ended ≡ false
       → Allows DeskRule slots id me clock_place (λ x. (x + 1) % 2 ^ 64)

@@ -101,6 +101,7 @@ module _ {S O R : Type 0} (content : S → Content) (op_in : O → AnyOp) (reply
       } in
       (view', gives, tt, rw carried (kept_after rule id view' at is_client alike after), refl)
 
+  -- a look at the end of another client keeps the rule, and tells whether it has ended
   pub look_at_end_keeps_rule : (slots id another : ℕ) (me : Me (Slot S O R) DeskView) → me.0.role ≡ role.Client
       → another < 32
       → Allows DeskRule slots id me (end_place another) (λ f. f)

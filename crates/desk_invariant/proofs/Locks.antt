@@ -91,6 +91,7 @@ module _ {S O R : Type 0} (content : S → Content) (op_in : O → AnyOp) (reply
 
   -- ---- looking at a lock, and winning the object
 
+  -- a look at a lock keeps the rule
   pub look_at_lock_keeps_rule : (slots id object : ℕ) (me : Me (Slot S O R) DeskView) → me.0.role ≡ role.Client
       → Allows DeskRule slots id me object (λ f. f)
       (play.looks_at_lock content op_in reply_in (step slots object 0 0 maybe.none) me)
@@ -108,6 +109,7 @@ module _ {S O R : Type 0} (content : S → Content) (op_in : O → AnyOp) (reply
       λ inside. ((λ hit. absurd (miss hit)), λ _. refl) in
       (view', keeps, tt, misses rule object id me.1 is_client at, told))
 
+  -- a try to win an object keeps the rule, for a client that holds nothing and has not ended
   pub win_keeps_rule : (slots id object word : ℕ) (me : Me (Slot S O R) DeskView) → me.0.role ≡ role.Client
       → object < length kinds → word ≡ 1 + me.0.number → me.0.held ≡ held.Free → me.0.ended ≡ false
       → Allows DeskRule slots id me object (λ f. either (eqb f 0) word f)

@@ -44,6 +44,7 @@ module _ {S O R : Type 0} (content : S → Content) (op_in : O → AnyOp) (reply
       λ is_client. let (sits, seat) = old.client is_client in (sits, seat_knowing seat.ready seat.retired seat) in
       assumption (client, (rule.seats other message there).seen))
 
+  -- a client at rest that sees the whole log of an object keeps the rule
   pub learn_keeps_rule : (slots id object : ℕ) (me : Me (Slot S O R) DeskView) → me.0.role ≡ role.Client → object < 16
       → IsAtRest me.0.own
       → Allows DeskRule slots id me object (λ f. f)
@@ -71,6 +72,7 @@ module _ {S O R : Type 0} (content : S → Content) (op_in : O → AnyOp) (reply
       (log, refl, legal, seen, received, wide, account) in
       (view', keeps, tt, unmoved rule object id view' me.1 at is_client alike knows, told)
 
+  -- a client at rest that sees the log that it received keeps the rule, if this goes on from what it had seen
   pub adopt_keeps_rule : (slots id object : ℕ) (me : Me (Slot S O R) DeskView) → me.0.role ≡ role.Client → object < 16
       → StartsWith (received_of me.0 object) (seen_of me.0 object) → IsAtRest me.0.own
       → Allows DeskRule slots id me object (λ f. f)

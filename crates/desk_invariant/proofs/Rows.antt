@@ -309,7 +309,7 @@ module _ {S O R : Type 0} (content : S → Content) (op_in : O → AnyOp) (reply
         own = seat_row world row request stage world.log goes kinds hands client me.0
             (held.Hand object log row request) view'.back (other_rows world client row stage me.0.back ok.back) ok now;
       } in
-      -- what a hit tells of the request, by whichever names the pass and the row have, and that it is no miss
+      -- what a hit tells of the request, by whichever names the pass and the row have; it is no miss
       let me' : Me (Slot S O R) DeskView = (view', (16 + row, slot.Request sent) ∷ me.1) in
       let told_one : IsPickedUp me me' object row log sent = record {
         for_object = ap (λ z. z.object) image ∙ on;

@@ -186,6 +186,7 @@ pub record IsPass (kinds : List Kind) (world : World) (client object : ℕ) (log
   pub logged : world.log object ≡ log
   pub only : HoldsOnly world client object
 
+-- what the view of such a client tells
 pub pass_of : {kinds : List Kind} {world : World} {client object : ℕ} {log : List AnyEntry} {view : DeskView}
     → SeatAgrees kinds world client view → view.held ≡ held.Pass object log → IsPass kinds world client object log
 pass_of {kinds = kinds} {world = world} {client = client} ok holding =
@@ -203,6 +204,7 @@ pub record IsHand (kinds : List Kind) (world : World) (client object : ℕ) (log
   pub few : row < 32
   pub picked_up : world.stage row ≡ picked request
 
+-- what the view of such a client tells
 pub hand_of : {kinds : List Kind} {world : World} {client object : ℕ} {log : List AnyEntry} {row : ℕ}
     {request : AnyRequest} {view : DeskView} → SeatAgrees kinds world client view
     → view.held ≡ held.Hand object log row request → IsHand kinds world client object log row request

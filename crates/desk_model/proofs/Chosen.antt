@@ -44,11 +44,12 @@ call_beside P (f ∷ es) (l ∷ ks) a e i = elim i [
 
 -- what holds of the calls beside each two entries holds of each two calls
 pub pairs_beside : (P : AnyEntry → Call → Type 0) (R : Call → Call → Type 0) (es : List AnyEntry) (ks : List Call)
-    → Along P es ks
-    → Pairs (λ e f. (a b : Call) → P e a → P f b → R a b) es → Pairs R ks
+    → Along P es ks → Pairs (λ e f. (a b : Call) → P e a → P f b → R a b) es → Pairs R ks
 pairs_beside P R [] [] a h = tt
-pairs_beside P R (e ∷ es) (k ∷ ks) a h =
-    (λ l i. let f = entry_beside P es ks a.1 l i in h.0 f.0 f.1 k l a.0 f.2, pairs_beside P R es ks a.1 h.1)
+pairs_beside P R (e ∷ es) (k ∷ ks) a h = (first, pairs_beside P R es ks a.1 h.1)
+  where
+    first : (l : Call) → In l ks → R k l
+    first l i = let (f, there, at) = entry_beside P es ks a.1 l i in h.0 f there k l a.0 at
 pairs_beside P R es ks a h = absurd a
 
 -- ---- the call beside an entry says the same as the entry
@@ -72,8 +73,10 @@ module _ (P : AnyEntry → Call → Type 0) (same : (e : AnyEntry) (k : Call) �
       → RepliesAlong c ks
   replies_beside c after [] [] h a = tt
   replies_beside c after (e ∷ es) (k ∷ ks) h a =
-      let s = same e k a.0 in
-      (h.0, e.reply, ap (next c) s.op ∙ h.1, s.reply, replies_beside h.0 after es ks h.2 a.1)
+      let (mid, step, later) = h in
+      let (at, rest) = a in
+      let s = same e k at in
+      (mid, e.reply, ap (next c) s.op ∙ step, s.reply, replies_beside mid after es ks later rest)
   replies_beside c after es ks h a = absurd a
 
 -- ---- the tickets of a log

@@ -82,7 +82,8 @@ pub denoted_rises : (client : ℕ) (done : List AnyDone) (asked : Option AnyRequ
     → Pairs (λ a b. a.number < b.number) (denoted client done asked)
 denoted_rises client [] None h = tt
 denoted_rises client [] (Some asked) h = (λ y i. absurd i, tt)
-denoted_rises client (d ∷ done) asked h = go d.answer (denoted_rises client done asked h.1.1)
+denoted_rises client (d ∷ done) asked (invoked_first, (returned_first, rest)) =
+    go d.answer (denoted_rises client done asked rest)
   where
     later : (m : Numbered) → In m (denoted client done asked) → In m.number (map ticket_of (journal_of done asked))
     later m i = (of_client client done asked m i).1
@@ -91,10 +92,10 @@ denoted_rises client (d ∷ done) asked h = go d.answer (denoted_rises client do
         → Pairs (λ a b. a.number < b.number) (turn client d.request d.returned a (denoted client done asked))
     go (Reply r) k = (
       λ m i. elim i [
-        | inl e ↦ let l = h.0 d.returned (inl refl) in omega (arith, ap (λ (m : Numbered). m.number) e)
-        | inr j ↦ h.0 m.number (inr (later m j))
+        | inl e ↦ let l = invoked_first d.returned (inl refl) in omega (arith, ap (λ (m : Numbered). m.number) e)
+        | inr j ↦ invoked_first m.number (inr (later m j))
       ],
-      (λ m i. h.1.0 m.number (later m i), k),
+      (λ m i. returned_first m.number (later m i), k),
     )
     go Refused k = k
 

@@ -232,8 +232,8 @@ module _ (kinds : List Kind) (quota : ℕ) where
             (λ d. refl) same (λ e. absurd (cc)) (λ y. starts_same (world.log y)) sound.journals;
       }
 
-  -- After the row, picked up for the object, is put back or answered, no other row is in the hand of the holder of the
-  -- object, and each other row that was picked up is in a hand.
+  -- After the row, picked up for the object, is put back or answered, what is in a hand is another row, with a request
+  -- for the object of that hand.
   others_in_hand : (world : World) (object row j : ℕ) (stage : Stage) (request : AnyRequest)
       → world.stage row ≡ picked request → request.object ≡ object → S world
       → (y : ℕ) → changed world.hand object None y ≡ Some j
@@ -248,6 +248,7 @@ module _ (kinds : List Kind) (quota : ℕ) where
       let another : j ≢ row = λ g. other (sym on_x ∙ (ap (λ z. z.object) (same g) ∙ on)) in
       (q, changed_else world.stage row stage j another ∙ at, on_x))
 
+  -- each other row that was picked up is in a hand
   others_picked_up : (world : World) (object row : ℕ) (stage : Stage) (request : AnyRequest)
       → world.stage row ≡ picked request → request.object ≡ object → world.hand object ≡ Some row → NotPicked stage
       → S world

@@ -72,16 +72,16 @@ pub replays_more : (content between after : Content) (log : List AnyEntry) (row 
     → Replays content (log ++ logged row request answer) after
 replays_more content between after [] row request (Reply p) h s = (after, ap (λ z. next z request.op) h ∙ s, refl)
 replays_more content between after [] row request Refused h s = h ∙ sym s
-replays_more content between after (e ∷ es) row request answer h s =
-    (h.0, h.1, replays_more h.0 between after es row request answer h.2 s)
+replays_more content between after (e ∷ es) row request answer (mid, step, later) s =
+    (mid, step, replays_more mid between after es row request answer later s)
 
 -- what a log begins with is legal where the log is
 replays_front : (content after : Content) (xs ys : List AnyEntry) → Replays content (xs ++ ys) after
     → (between : Content) × Replays content xs between
 replays_front content after [] ys h = (content, refl)
-replays_front content after (x ∷ xs) ys h =
-    let (between, replayed) = replays_front h.0 after xs ys h.2 in
-    (between, (h.0, h.1, replayed))
+replays_front content after (x ∷ xs) ys (mid, step, later) =
+    let (between, replayed) = replays_front mid after xs ys later in
+    (between, (mid, step, replayed))
 
 -- a beginning of a legal log is legal
 pub legal_front : (kind : Kind) (log seen : List AnyEntry) → StartsWith log seen → IsLegalLog kind log

@@ -15,6 +15,7 @@ use Rattle.model.specs.Objects.{next_map, next_mutex, next_set, next_counter, ne
 use Rattle.model.proofs.Objects.{kind_of_empty}
 use Rattle.desk_model.specs.World.{AnyEntry, Replays}
 
+-- two steps with the same result leave contents of one kind
 after_kind : (content content' : Content) (reply reply' : AnyReply)
     → ◌≡◌ {A = Option (Content × AnyReply)} (Some (content, reply)) (Some (content', reply'))
     → kind_with content' ≡ kind_with content
@@ -50,7 +51,8 @@ kind_next (owner o) op d r e = stepped_kind owner Lock (λ c. refl) (next_lock o
 replays_kind : (content after : Content) (log : List AnyEntry) → Replays content log after
     → kind_with after ≡ kind_with content
 replays_kind content after [] h = ap kind_with (sym h)
-replays_kind content after (e ∷ es) h = replays_kind h.0 after es h.2 ∙ kind_next content e.op h.0 e.reply h.1
+replays_kind content after (e ∷ es) (mid, step, later) =
+    replays_kind mid after es later ∙ kind_next content e.op mid e.reply step
 
 -- an object that a log leaves has the kind of its first content
 pub kind_replayed : (kind : Kind) (log : List AnyEntry) (after : Content) → Replays (empty kind) log after
@@ -61,7 +63,7 @@ kind_replayed kind log after h = replays_kind (empty kind) after log h ∙ kind_
 pub replays_once : (content after after' : Content) (log : List AnyEntry) → Replays content log after
     → Replays content log after' → after ≡ after'
 replays_once content after after' [] h k = sym h ∙ k
-replays_once content after after' (e ∷ es) h k =
-    let same : ◌≡◌ {A = Option (Content × AnyReply)} (Some (h.0, e.reply)) (Some (k.0, e.reply)) = sym h.1 ∙ k.1 in
-    let f : h.0 ≡ k.0 = ap (λ (z : Content × AnyReply). z.0) (same_Some (h.0, e.reply) (k.0, e.reply) same) in
-    replays_once k.0 after after' es (subst (λ z. Replays z es after) f h.2) k.2
+replays_once content after after' (e ∷ es) (mid, step, later) (mid', step', later') =
+    let both : ◌≡◌ {A = Option (Content × AnyReply)} (Some (mid, e.reply)) (Some (mid', e.reply)) = sym step ∙ step' in
+    let same : mid ≡ mid' = ap (λ (z : Content × AnyReply). z.0) (same_Some (mid, e.reply) (mid', e.reply) both) in
+    replays_once mid' after after' es (subst (λ z. Replays z es after) same later) later'

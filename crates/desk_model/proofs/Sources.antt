@@ -176,16 +176,16 @@ pub put_rises : (object client : ℕ) (done : List AnyDone) (stage : Stage)
     → Pairs (λ t u. t < u) (map ticket_of (journal_of done (request_of stage)))
     → Pairs (λ e f. e.ticket < f.ticket) (put_in object client done stage)
 put_rises object client [] stage h = pairs_now (λ e f. e.ticket < f.ticket) object client stage
-put_rises object client (d ∷ done) stage h =
+put_rises object client (d ∷ done) stage (invoked_first, (returned_first, rest)) =
     pairs_append (λ e f. e.ticket < f.ticket) (logged_on object client d.request d.answer)
     (put_in object client done stage) (pairs_logged (λ e f. e.ticket < f.ticket) object client d.request d.answer)
-    (let rest = h.1 in put_rises object client done stage rest.1)
+    (put_rises object client done stage rest)
     (λ e f i j.
     let p = is_put object client d.request d.answer e i in
     let own : e.ticket ≡ d.request.ticket = ap (λ (g : AnyEntry). g.ticket) p.same in
     let invocation = (is_of object client done stage f j).invocation in
     let later : d.request.ticket < f.ticket =
-    h.0 f.ticket
+    invoked_first f.ticket
     (inr (in_map_from ticket_of (Invoked f.ticket object f.op) (journal_of done (request_of stage)) invocation)) in
     omega arith)
 

@@ -29,6 +29,7 @@ journal_begun [] request = refl
 journal_begun (d ∷ done) request =
     ap (λ z. invoked d.request ∷ Returned d.returned d.answer ∷ z) (journal_begun done request)
 
+-- the journal of a client whose call has returned has one event more
 pub journal_over : (done : List AnyDone) (request : AnyRequest) (answer : AnyAnswer) (ticket : ℕ)
     → journal_of (done ++ record { request = request; answer = answer; returned = ticket } ∷ []) None
     ≡ journal_of done (Some request) ++ Returned ticket answer ∷ []
@@ -221,6 +222,7 @@ module _ (kinds : List Kind) where
             ∙ sound.not_come d (sym (changed_else world.stage client stage d other) ∙ f));
       }
 
+  -- the journals stay sound when the client invokes a call
   pub journals_called : (world : World) (client : ℕ) (request : AnyRequest) → world.stage client ≡ idle
       → request.ticket ≡ world.clock → request.object < length kinds
       → kind_of request.op ≡ kind_at kinds request.object

@@ -38,13 +38,14 @@ pub in_turn : (client : ℕ) (events : List AnyEvent) (history : List Numbered) 
 in_turn client [] history denoted shape = none
 in_turn client (Invoked ticket object op ∷ []) history denoted shape = last ticket object op
 in_turn client (Invoked ticket object op ∷ Returned ticket' (Reply r) ∷ rest) history denoted shape =
-    let calls : calls_in history ≡ first client ticket object op ticket' r ∷ calls_in denoted.0 =
-    ap calls_in denoted.1 ∙ calls_in-call client ticket object op ticket' r denoted.0 in
+    let (later, is, denoted') = denoted in
+    let calls : calls_in history ≡ first client ticket object op ticket' r ∷ calls_in later =
+    ap calls_in is ∙ calls_in-call client ticket object op ticket' r later in
     let fits : HasShape op r =
     shape (first client ticket object op ticket' r) (record { at = ticket'; reply = r })
     (subst (In (first client ticket object op ticket' r)) (sym calls) (inl refl)) refl in
     call ticket object op ticket' (Reply r) rest fits
-    (in_turn client rest denoted.0 denoted.2 (λ o s i back. shape o s (subst (In o) (sym calls) (inr i)) back))
+    (in_turn client rest later denoted' (λ o s i back. shape o s (subst (In o) (sym calls) (inr i)) back))
 in_turn client (Invoked ticket object op ∷ Returned ticket' Refused ∷ rest) history denoted shape =
     call ticket object op ticket' Refused rest tt (in_turn client rest history denoted shape)
 in_turn client events history denoted k = absurd denoted

@@ -85,7 +85,7 @@ follows earlier p x Info kinds m = go (last_event p earlier) refl m
 pub runs_part : (p : ℕ) (s : State) (es : List Event) → Runs p s (filter (λ e. e.process == p) es) → Runs p s es
 runs_part p s [] h = tt
 runs_part p s (e ∷ es) h = (
-  λ q. let k = own q in ((k.0 q).0, runs_part p (state_by e.object e.action) es (k.0 q).1),
+  λ q. let (may, later) = (own q).0 q in (may, runs_part p (state_by e.object e.action) es later),
   λ q. runs_part p s es (other q),
 )
   where
