@@ -44,19 +44,19 @@ pub met : (object : ℕ) (one other : Known) (one_desk other_desk : DeskId) (one
     → HaveBothMet object one other (record { desk = one_desk; knows = one_now; places = one_places })
     (record { desk = other_desk; knows = other_now; places = other_places })
 met object one other one_desk other_desk one_places other_places one_was other_was one_now other_now log one_told
-other_told kinds one_same other_same one_met other_met there there' legal first second = record {
-  log = log;
-  first = one_met ∙ λ k. after_meet object log (record (sym one_same k)
-      { received = sym (ap (λ z. z.received) one_met) k });
-  second = other_met ∙ λ k. after_meet object log (record (sym other_same k)
-      { received = sym (ap (λ z. z.received) other_met) k });
-  no_pass = (
-    ap (λ z. z.won) one_met ∙ ap (λ z. z.won) (sym one_same),
-    ap (λ z. z.won) other_met ∙ ap (λ z. z.won) (sym other_same),
-  );
-  seen_first = ap (λ z. seen_of z object) one_met ∙ get_or-set_same one_was.seen object log [] there;
-  seen_second = ap (λ z. seen_of z object) other_met ∙ get_or-set_same other_was.seen object log [] there';
-  legal = rw kinds legal;
-  begins_first = rw one_same first;
-  begins_second = rw other_same second;
-}
+    other_told kinds one_same other_same one_met other_met there there' legal first second = record {
+      log = log;
+      first = one_met ∙ λ k. after_meet object log (record (sym one_same k)
+          { received = sym (ap (λ z. z.received) one_met) k });
+      second = other_met ∙ λ k. after_meet object log (record (sym other_same k)
+          { received = sym (ap (λ z. z.received) other_met) k });
+      no_pass = (
+        ap (λ z. z.won) one_met ∙ ap (λ z. z.won) (sym one_same),
+        ap (λ z. z.won) other_met ∙ ap (λ z. z.won) (sym other_same),
+      );
+      seen_first = ap (λ z. seen_of z object) one_met ∙ get_or-set_same one_was.seen object log [] there;
+      seen_second = ap (λ z. seen_of z object) other_met ∙ get_or-set_same other_was.seen object log [] there';
+      legal = rw kinds legal;
+      begins_first = rw one_same first;
+      begins_second = rw other_same second;
+    }
