@@ -90,7 +90,7 @@ module _ (world : World) (clock client : ℕ) (stage : Stage) (dones : ℕ → L
         changed_else world.stage client stage r (λ same. unpicked q (ap world.stage (sym same) ∙ e)) ∙ e,
   )
 
-  -- the client agrees with the world then, if its view says of its own call and of its calls that are over what is true
+  -- the client agrees with the world then, if its view is right about its own call and its calls that are over
   pub seat_gone : (kinds : List Kind) (view : DeskView) (call : Own) (done : List AnyDone)
       → NotPicked (world.stage client) → NotPosted (world.stage client) → OwnCallAgrees call stage → done ≡ dones client
       → Covers client view done call → SeatAgrees kinds world client view

@@ -46,7 +46,7 @@ use Rattle.desk_invariant.proofs.Seats.{seat_knowing, mine, unmoved, Rule}
 use Rattle.desk_invariant.proofs.Ties.{tied_row}
 use Rattle.desk_invariant.proofs.Locks.{held_log, held_object, one_object, one_log}
 
--- the row has the word of a request for the object
+-- a row that has the word of a request for the object has such a request
 is_posted : (stage : Stage) (object : ℕ) → object < 16 → row_word stage ≡ 1 + object
     → (request : AnyRequest) × (stage ≡ posted request) × (request.object ≡ object)
 is_posted stage object low word = grind arith
@@ -111,8 +111,8 @@ module _ (world : World) (row : ℕ) (request : AnyRequest) (stage : Stage) (log
   ready_after client q a e =
       changed_else world.stage row stage client (λ same. goes.unanswered q a (ap world.stage (sym same) ∙ e)) ∙ e
 
-  -- another client than the one of the step, which holds the object: it has not the row in its hand, and does not hold
-  -- the object of a request that is posted there
+  -- Another client keeps what it knows at a step of the client that holds the object: it has not picked the row up, and
+  -- does not hold the object of a request that is posted there.
   later_row : (object client another : ℕ) (hand : Option ℕ) → ((y : ℕ) → y ≢ object → logs y ≡ world.log y)
       → ((y : ℕ) (p : AnyRequest) → world.holder y ≡ Some another → world.hand y ≡ Some row
       → world.stage row ≢ picked p)
@@ -138,7 +138,7 @@ module _ (world : World) (row : ℕ) (request : AnyRequest) (stage : Stage) (log
             changed_else world.stage row stage j (λ same. unposted p g (ap world.stage (sym same) ∙ e)) ∙ e,
       )
 
-  -- the client of the step, which holds this then
+  -- the client of the step agrees with the world then, if what it holds does, and what was put back is in its row
   seat_row : (kinds : List Kind) (hands : ℕ → Option ℕ) (client : ℕ) (view : DeskView) (holding : Held)
       (back : List PutBack) → All (InRow (changed world.stage row stage) world.holder client) back
       → SeatAgrees kinds world client view → HeldAgrees (length kinds) (rowed hands) client holding
@@ -154,7 +154,7 @@ module _ (world : World) (row : ℕ) (request : AnyRequest) (stage : Stage) (log
 
 -- ---- a miss
 
--- if the own row was not posted for the object, which the client holds with a free hand, the call is answered
+-- the call on an object that the client holds with a free hand is answered, if its row was not posted for the object
 noted : (kinds : List Kind) (quota client object : ℕ) (world : World) (call : Own) → Sound kinds quota world
     → world.hand object ≡ None → row_word (world.stage client) ≢ 1 + object → waits_on object call ≡ true
     → OwnCallAgrees call (world.stage client) → IsAnswered (world.stage client)
@@ -435,7 +435,7 @@ module _ {S O R : Type 0} (content : S → Content) (op_in : O → AnyOp) (reply
 
   -- ---- answering the request
 
-  -- logs that grow by these entries of the object begin with what they were
+  -- each log begins with what it was, after that of the object has grown by these entries
   grows : (world : World) (object : ℕ) (entries : List AnyEntry) (y : ℕ)
       → StartsWith (changed world.log object (world.log object ++ entries) y) (world.log y)
   grows world object entries =

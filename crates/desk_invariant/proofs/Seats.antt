@@ -66,7 +66,7 @@ pub record Later (world world' : World) (client : ℕ) : Type 0 where
 abbrev pub InRow : (ℕ → Stage) → (ℕ → Option ℕ) → ℕ → PutBack → Type 0
 InRow stage holder client b = (stage b.row ≡ posted b.request) × (holder b.request.object ≡ Some client)
 
--- they are so still after another row, which was not posted, has gone to the stage
+-- requests that were put back are in their rows still after a row that was not posted has gone to the stage
 pub rows_stay : (world : World) (client row : ℕ) (stage : Stage) (back : List PutBack) → NotPosted (world.stage row)
     → All (InRow world.stage world.holder client) back
     → All (InRow (changed world.stage row stage) world.holder client) back

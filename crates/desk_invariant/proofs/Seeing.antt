@@ -39,7 +39,7 @@ pub entries_start : (client : ℕ) (xs ys : List AnyEntry) → StartsWith xs ys
 entries_start client xs ys b =
     (entries_of_client client b.0, ap (entries_of_client client) b.1 ∙ entries-append client ys b.0)
 
--- what holds of the log, and of what was seen of the other objects, holds of what was seen after the log was seen
+-- what holds of this log of the object, and of what was seen of the others, holds of all that is seen with the log
 pub seen_all : (P : ℕ → List AnyEntry → Type 0) (seen : List (List AnyEntry)) (object : ℕ) (log : List AnyEntry)
     → object < length seen → P object log → ((y : ℕ) → y ≢ object → P y (get_or seen y []))
     → (y : ℕ) → P y (get_or (set seen object log) y [])

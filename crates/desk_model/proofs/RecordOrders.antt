@@ -34,7 +34,7 @@ record IsLogged (log : List AnyEntry) (o : ProcessCall) (r : Return) : Type 0 wh
   whole : log ≡ before ++ entry_for o r ∷ after
   early : (e : AnyEntry) → In e before → e.ticket < r.at
 
--- where the entries between what is before and after are one, this one is there
+-- a log that has just this entry between what is before and after has it there
 one_logged : (log before es after : List AnyEntry) (e : AnyEntry) → log ≡ before ++ es ++ after → es ≡ e ∷ []
     → log ≡ before ++ e ∷ after
 one_logged log before es after e whole one =

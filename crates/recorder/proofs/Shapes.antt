@@ -20,7 +20,7 @@ use Rattle.std.specs.FinMap as map
 use Rattle.std.specs.FinSet as set
 use Rattle.events.specs.Events.{HasShape}
 
--- a reply has the shape of the operation's replies, if it is the one in a step that replies with the shape
+-- two steps with the same result have one reply, so its shape too
 shaped : (op : AnyOp) (content content' : Content) (reply reply' : AnyReply) → HasShape op reply
     → ◌≡◌ {A = Option (Content × AnyReply)} (Some (content, reply)) (Some (content', reply')) → HasShape op reply'
 shaped op content content' reply reply' h e =
