@@ -19,7 +19,7 @@ returns-then-left-eq0-clause-found c =
 pub search_operations-requires-clause-few : goal.search_operations-requires-clause-few
 search_operations-requires-clause-few c =
     let n = c.call_count.ensures ∙ ap (λ (ops : List Operation). length (calls_of ops)) c.ops-operations.ensures.ops in
-    let m = c.if-call_count-gt-MAX_OPERATIONS_PLACES.false in
+    let m = c.if-call_count-gt-MOST_PLACES.false in
     omega arith
 
 pub returns-clause-impossible : goal.returns-clause-impossible
