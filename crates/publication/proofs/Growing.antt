@@ -3,7 +3,7 @@
 use Rattle.std.proofs.Common.{◌≡◌, ℕ, zero, suc, ◌+◌, ◌<◌, ◌≤◌, List, [], ◌∷◌, ◌++◌, length, length-append}
 use Rattle.std.proofs.Common.{append-nil, refl, sym, ap, ◌∙◌, ⊎_elim, arith}
 use mathlib.Core.Logic.{dite}
-use mathlib.Core.Option.{some}
+use mathlib.Core.Option.{some, some-injective}
 use native.Mathlib.Decide.{ℕ_discrete}
 use lib.ListN.{get_elem?}
 use Rattle.atomic_table.specs.Seated.{TableId}
@@ -38,6 +38,22 @@ module _ {A : Type 0} where
       ap (λ z. get_elem? z i) e ∙ dite (ℕ_discrete i (length old))
       (λ same. at_last old last i (sym same) ∙ ap some (sym is_last ∙ ap nth (sym same)))
       (λ other. at_longer old (last ∷ []) i (nth i) (before i (omega arith)))
+
+  -- the same backwards: the last element is what `nth` says of its place, and the others are one fewer
+  pub numbered_fewer : (nth : ℕ → A) (old new : List A) (last : A) → new ≡ old ++ last ∷ []
+      → ((i : ℕ) → i < length new → get_elem? new i ≡ some (nth i)) → (last ≡ nth (length old))
+      × (length old + 1 ≡ length new) × ((i : ℕ) → i < length old → get_elem? old i ≡ some (nth i))
+  numbered_fewer nth old new last e all =
+      let n : length new ≡ length old + 1 = ap length e ∙ length-append old (last ∷ []) in
+      let here = ap (λ z. get_elem? z (length old)) (sym e) ∙ all (length old) (omega arith) in (
+        some-injective last (nth (length old)) (sym (at_last old last (length old) refl) ∙ here),
+        sym n,
+        λ i h.
+            let b = there old i h in
+            let longer = at_longer old (last ∷ []) i b.0 b.1 in
+            let same = ap (λ z. get_elem? z i) (sym e) ∙ all i (omega arith) in
+            b.1 ∙ ap some (some-injective b.0 (nth i) (sym longer ∙ same)),
+      )
 
 module _ {S O R : Type 0} where
   -- one more object has its core in its slot

@@ -28,7 +28,7 @@ use Rattle.shards.specs.Taking.{AreMapsTaken, AreTakenOf, AreTakenAfter, IsPiece
 use Rattle.shards.specs.Tallies.{IsTally}
 use Rattle.shards.specs.UnderWay.{AreUnderWay, EndsInsideForm, IsFaultFrom, IsFaultIn, PassesPiece, ReadsOn}
 use Rattle.shards.specs.UnderWay.{too_long_at}
-use Rattle.judging.proofs.ReadSoFar.{one_more_consumed}
+use Rattle.std.proofs.KnownBytes.{Consumes-trans}
 use Rattle.shards.proofs.FittingObjects.{apart_where_fit}
 use Rattle.shards.proofs.Flushing.{adds_both}
 
@@ -88,7 +88,7 @@ pub more_so_far : {count : ℕ} {d : Divider} {p q : Pieces} {left now left_afte
     → IsDividedSoFar count d q left left_after files files_after
 more_so_far {left = left} {now = now} {left_after = left_after} r h = record {
   text = h.text ++ r.more;
-  consumed = one_more_consumed left now left_after h.text r.more h.consumed r.consumed;
+  consumed = Consumes-trans left now left_after h.text r.more h.consumed r.consumed;
   written = h.written;
   under_way = reads_on r h.under_way;
   adds = h.adds;
