@@ -1,6 +1,6 @@
 -- Reading claims form by form: the forms so far have no fault, or this is the first one. By what holds of any forms
 -- that are read one by one (`FormsRead`).
-use Rattle.std.proofs.Common.{◌≡◌, ℕ, ◌<◌, ◌≤◌, List, [], take, get_or, map, true, false, ap, sym, ◌∙◌, arith}
+use Rattle.std.proofs.Common.{◌≡◌, ℕ, ◌<◌, ◌≤◌, List, [], length, take, get_or, map, true, false, ap, sym, ◌∙◌, arith}
 use Rattle.edn_reader.specs.Datum.{Datum}
 use Rattle.edn_reader.specs.View.{view, views}
 use Rattle.edn_reader.specs.declared.form.Form.{Form}
