@@ -12,7 +12,7 @@ use Rattle.events.specs.declared.event.Event.{Event}
 use Rattle.events.specs.declared.operations.End.{End}
 use Rattle.events.specs.declared.operations.End.TheVariants.{Returned, Pending, Failed}
 use Rattle.events.specs.declared.operations.Operation.{Operation}
-use Rattle.events.specs.contracts.operations.InvocationPartialEq.TheImpl as derived
+use Rattle.events.specs.contracts.operations.OperationPartialEq.TheImpl as derived
 use Rattle.reason_report.specs.Segments.{comment_text, value_text}
 
 -- ---- what the history says
