@@ -25,7 +25,7 @@ use Rattle.cuts.specs.declared.counting.Counted.{Counted}
 use Rattle.cuts.specs.declared.counting.Counted.TheVariants.{Value, Entry, NoEntry, Held, Free}
 use Rattle.cuts.specs.Parts.{reply_of, ended_before}
 use Rattle.cuts.specs.Counts.{times_at_first, most_before, set_since, taken_since}
-use Rattle.cuts.specs.Kinds.Counting.{sets, takes, may_count_from_any}
+use Rattle.cuts.specs.Kinds.Counting.{sets, takes, may_count_from}
 use Rattle.cuts.proofs.Ordered.{calls_apart, in_calls, in_entries, entries_apart, in_time_order}
 use Rattle.cuts.proofs.Conserved.{one, tally, count_tally, size_after, size_cons, size_with_value, one_le}
 use Rattle.cuts.proofs.Conserved.{tally_le, count_among}
@@ -162,7 +162,7 @@ single (elements s) = false
 single (objects.count c) = false
 single (owner x) = false
 
-single_empty : (k : Kind) → may_count_from_any k ≡ true → single (empty k) ≡ true
+single_empty : (k : Kind) → may_count_from k ≡ true → single (empty k) ≡ true
 single_empty k e = search rules
 
 single_next : (c : Content) (op : AnyOp) → IfSome (next c op) (λ p. single c ≡ true → single p.0 ≡ true)
@@ -216,7 +216,7 @@ along : (kind : Kind) (what : Counted) (from most : ℕ) (es : List Call) → mo
     → RepliesAlong (empty kind) es → tally (taken_from what from) es ≤ most + tally (set_from what from) es
 along kind what from most es before ends in_time h = go (from == 0) refl before
   where
-    later : (s : Bool) → may_count_from_any kind ≡ s → cond s (Some 1) None ≡ Some most
+    later : (s : Bool) → may_count_from kind ≡ s → cond s (Some 1) None ≡ Some most
         → tally (taken_from what from) es ≤ most + tally (set_from what from) es
     later true q e =
         let a = from_later what from es (empty kind) (single_empty kind q) ends in_time h in
@@ -225,7 +225,7 @@ along kind what from most es before ends in_time h = go (from == 0) refl before
     later false q e = absurd (cc e)
 
     go : (b : Bool) → (from == 0) ≡ b
-        → cond b (Some (times_at_first what)) (cond (may_count_from_any kind) (Some 1) None) ≡ Some most
+        → cond b (Some (times_at_first what)) (cond (may_count_from kind) (Some 1) None) ≡ Some most
         → tally (taken_from what from) es ≤ most + tally (set_from what from) es
     go true q e =
         let a = subst (λ (n : ℕ). tally (taken_from what n) es ≤ there what (empty kind) + tally (set_from what n) es)
@@ -233,7 +233,7 @@ along kind what from most es before ends in_time h = go (from == 0) refl before
         let b = at_first what kind in
         let d = same_Some (times_at_first what) most e in
         omega arith
-    go false q e = later (may_count_from_any kind) refl e
+    go false q e = later (may_count_from kind) refl e
 
 -- if the calls have a valid order, a content was taken away no more often than it was there before and was set
 pub count_bounded : (kind : Kind) (calls : List Call) (what : Counted) (from most : ℕ) (order : List ℤ)

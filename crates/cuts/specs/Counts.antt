@@ -7,7 +7,7 @@ use Rattle.cuts.specs.declared.counting.Counted.{Counted}
 use Rattle.cuts.specs.declared.counting.Counted.TheVariants.{Value, Entry, NoEntry, Held, Free}
 use Rattle.cuts.specs.declared.counting.Count.{Count}
 use Rattle.cuts.specs.Parts.{reply_of, ended_before}
-use Rattle.cuts.specs.Kinds.Counting.{sets, takes, may_count_from_any}
+use Rattle.cuts.specs.Kinds.Counting.{sets, takes, may_count_from}
 
 -- how many calls that had not returned before this number set the content
 abbrev pub set_since : Counted → ℕ → List Call → ℕ
@@ -32,8 +32,7 @@ times_at_first Free = 1
 -- lock.
 abbrev pub most_before : Kind → Counted → ℕ → Option ℕ
 most_before kind what from =
-    if from == 0 then Some (times_at_first what)
-    else (if may_count_from_any kind then Some 1 else None)
+    if from == 0 then Some (times_at_first what) else (if may_count_from kind then Some 1 else None)
 
 -- The content was taken away from a number on more often than it was there before and was set.
 pub record IsOverdrawn (kind : Kind) (count : Count) (calls : List Call) : Type 0 where

@@ -8,7 +8,7 @@ ghost use Rattle.cuts.specs.Counts as counts;
 ghost use Rattle.cuts.specs.Counts.{IsOverdrawn};
 ghost use Rattle.cuts.specs.CutOperations.{is_set, is_gone};
 
-use crate::kinds::counting::{may_count_from_any, sets, takes};
+use crate::kinds::counting::{may_count_from, sets, takes};
 use events::{End, ObjectHistory, Operation};
 use seq_objects::Kind;
 
@@ -73,11 +73,7 @@ fn most_before(kind: Kind, count: Count) -> Option<usize>
             _ => Some(0),
         };
     }
-    if may_count_from_any(kind) {
-        Some(1)
-    } else {
-        None
-    }
+    if may_count_from(kind) { Some(1) } else { None }
 }
 
 /// How many operations set the content, and how many took it away, in this order.

@@ -1,11 +1,11 @@
-//! A desk: sequential objects served to many threads by flat combining, with one log an object. The
-//! list of the rows that a combiner looks at is in `publication_list`.
+//! A desk: sequential objects served to many threads by flat combining, with one log for each
+//! object. The list of the rows that a combiner looks at is in `publication_list`.
 //!
 //! A client posts a call in its row and polls for the answer. A client that wins an object may
-//! serve the requests of the rows for it. No call waits: each takes a bounded number of steps on
-//! the words of the desk or of the object's publication list. Between `win` and `release` the
-//! client holds the object, and others who try to win it are told so. Hendler, Incze, Shavit,
-//! Tzafrir, "Flat Combining and the Synchronization-Parallelism Tradeoff", SPAA 2010.
+//! serve the requests of the rows for it. No function waits: none takes a handle, and each ends.
+//! Between `win` and `release` the client holds the object, and `win` of another client returns
+//! `Held`. Hendler, Incze, Shavit, Tzafrir, "Flat Combining and the Synchronization-Parallelism
+//! Tradeoff", SPAA 2010.
 #![tactic(auto)]
 
 mod client;

@@ -31,11 +31,11 @@ fn events_in(alloc: Global, lines: &[Line]) -> Result<Vec<Event>, AllocError>
 /// Returns the history of a record: the event of each ticket, in order of tickets. A client is a
 /// process, and its number that of the process; a ticket is the number of its event; and a call in
 /// which an allocation failed is one that did not happen.
-pub fn history<S: SeqObject>(alloc: Global, account: &Record<S>) -> Result<History, AllocError>
-    ensures history { IfOk result (AreEventsOf (journals_in S.op_in S.reply_in account.now)) }
-    ensures kept { IsRecordOf S.op_in S.reply_in account.now }
+pub fn history<S: SeqObject>(alloc: Global, recorded: &Record<S>) -> Result<History, AllocError>
+    ensures history { IfOk result (AreEventsOf (journals_in S.op_in S.reply_in recorded.now)) }
+    ensures kept { IsRecordOf S.op_in S.reply_in recorded.now }
 {
-    let lines = lines_of(alloc, account)?;
+    let lines = lines_of(alloc, recorded)?;
     let events = events_in(alloc, &lines)?;
     Ok(History::new(events))
 }
@@ -59,20 +59,20 @@ fn order_of<S: SeqObject>(
 /// The certificates of a record whose history is this.
 fn certificates_by<S: SeqObject>(
     alloc: Global,
-    account: &Record<S>,
+    recorded: &Record<S>,
     history: &History,
 ) -> Result<Vec<Certificate>, AllocError>
-    requires kept { IsRecordOf S.op_in S.reply_in account.now }
-    requires history { AreEventsOf (journals_in S.op_in S.reply_in account.now) history.now }
+    requires kept { IsRecordOf S.op_in S.reply_in recorded.now }
+    requires history { AreEventsOf (journals_in S.op_in S.reply_in recorded.now) history.now }
     ensures { IfOk result (λ v.
-        AreCertificatesOf (journals_in S.op_in S.reply_in account.now)
-        (logs_in S.op_in S.reply_in account.now) v.items) }
+        AreCertificatesOf (journals_in S.op_in S.reply_in recorded.now)
+        (logs_in S.op_in S.reply_in recorded.now) v.items) }
 {
     let objects = split(alloc, history)?;
     let mut certificates = Vec::new(alloc);
     for named in &objects {
         let object = named.object();
-        let order = order_of::<S>(alloc, account.log(object))?;
+        let order = order_of::<S>(alloc, recorded.log(object))?;
         certificates.push(Certificate { object, order })?;
     }
     Ok(certificates)
@@ -82,14 +82,14 @@ fn certificates_by<S: SeqObject>(
 /// tickets of its log.
 pub fn certificates<S: SeqObject>(
     alloc: Global,
-    account: &Record<S>,
+    recorded: &Record<S>,
 ) -> Result<Vec<Certificate>, AllocError>
     ensures { IfOk result (λ v.
-        AreCertificatesOf (journals_in S.op_in S.reply_in account.now)
-        (logs_in S.op_in S.reply_in account.now) v.items) }
+        AreCertificatesOf (journals_in S.op_in S.reply_in recorded.now)
+        (logs_in S.op_in S.reply_in recorded.now) v.items) }
 {
-    let history = history(alloc, account)?;
-    certificates_by(alloc, account, &history)
+    let history = history(alloc, recorded)?;
+    certificates_by(alloc, recorded, &history)
 }
 
 /// What a record says, for which its events are gathered and sorted once.
@@ -105,20 +105,20 @@ pub struct Account {
 
 /// Returns the history, the certificates and the text of the history of a record, as `history`,
 /// `certificates` and `write_history` make them one by one.
-pub fn account_of<S: SeqObject>(alloc: Global, account: &Record<S>) -> Result<Account, AllocError>
+pub fn account_of<S: SeqObject>(alloc: Global, recorded: &Record<S>) -> Result<Account, AllocError>
     ensures history { IfOk result (λ a.
-        AreEventsOf (journals_in S.op_in S.reply_in account.now) a.history) }
+        AreEventsOf (journals_in S.op_in S.reply_in recorded.now) a.history) }
     ensures certificates { IfOk result (λ a.
-        AreCertificatesOf (journals_in S.op_in S.reply_in account.now)
-        (logs_in S.op_in S.reply_in account.now) a.certificates.items) }
+        AreCertificatesOf (journals_in S.op_in S.reply_in recorded.now)
+        (logs_in S.op_in S.reply_in recorded.now) a.certificates.items) }
     ensures text { IfOk result (λ a.
-        IsHistoryText (journals_in S.op_in S.reply_in account.now) a.text.items) }
+        IsHistoryText (journals_in S.op_in S.reply_in recorded.now) a.text.items) }
 {
-    let lines = lines_of(alloc, account)?;
+    let lines = lines_of(alloc, recorded)?;
     let text = history_text(alloc, &lines)?;
     let events = events_in(alloc, &lines)?;
     let history = History::new(events);
-    let certificates = certificates_by(alloc, account, &history)?;
+    let certificates = certificates_by(alloc, recorded, &history)?;
     Ok(Account {
         history,
         certificates,
@@ -127,24 +127,24 @@ pub fn account_of<S: SeqObject>(alloc: Global, account: &Record<S>) -> Result<Ac
 }
 
 /// Checks the record's history with its certificates. If the record is sound they are accepted,
-/// except for an allocation failure. This is that theorem as one contract, of the calls by which
-/// `run` and `simulate` check what `account_of` gathered.
-pub fn check_record<S: SeqObject>(alloc: Global, account: &Record<S>) -> Result<(), Refusal>
+/// unless an allocation fails. Tests call it; `run` and `simulate` check what `account_of` gathers
+/// by `check_all`.
+pub fn check_record<S: SeqObject>(alloc: Global, recorded: &Record<S>) -> Result<(), Refusal>
     ensures accepted { (kinds : List Kind) (quota : ℕ)
-        → IsSoundRecord kinds quota (journals_in S.op_in S.reply_in account.now)
-        (logs_in S.op_in S.reply_in account.now)
+        → IsSoundRecord kinds quota (journals_in S.op_in S.reply_in recorded.now)
+        (logs_in S.op_in S.reply_in recorded.now)
         → IfErr result (λ e. e ≡ Refusal.NoMemory) }
     ensures checked { IfErr result (λ e. e ≢ Refusal.NoMemory →
-        IsRecordRefused (journals_in S.op_in S.reply_in account.now)
-        (logs_in S.op_in S.reply_in account.now) e) }
+        IsRecordRefused (journals_in S.op_in S.reply_in recorded.now)
+        (logs_in S.op_in S.reply_in recorded.now) e) }
     ensures valid { OnOk result
-        (IsAccepted (journals_in S.op_in S.reply_in account.now)
-        (logs_in S.op_in S.reply_in account.now)) }
+        (IsAccepted (journals_in S.op_in S.reply_in recorded.now)
+        (logs_in S.op_in S.reply_in recorded.now)) }
 {
-    let Ok(history) = history(alloc, account) else {
+    let Ok(history) = history(alloc, recorded) else {
         return Err(Refusal::NoMemory);
     };
-    let Ok(certificates) = certificates(alloc, account) else {
+    let Ok(certificates) = certificates(alloc, recorded) else {
         return Err(Refusal::NoMemory);
     };
     check_all(alloc, &history, &certificates)

@@ -117,14 +117,14 @@ fn push_journal<S: SeqObject>(
 }
 
 /// The lines of all journals, client by client.
-fn gather<S: SeqObject>(alloc: Global, account: &Record<S>) -> Result<Vec<Line>, AllocError>
+fn gather<S: SeqObject>(alloc: Global, recorded: &Record<S>) -> Result<Vec<Line>, AllocError>
     ensures lines { IfOk result (λ v.
-        v.items ≡ spec.lines_in 0 (map (map (event_in S.op_in S.reply_in)) account.now.journals)) }
-    ensures few { length account.now.journals < 2 ^ 63 }
-    ensures kept { IsRecordOf S.op_in S.reply_in account.now }
+        v.items ≡ spec.lines_in 0 (map (map (event_in S.op_in S.reply_in)) recorded.now.journals)) }
+    ensures few { length recorded.now.journals < 2 ^ 63 }
+    ensures kept { IsRecordOf S.op_in S.reply_in recorded.now }
 {
     let mut lines = Vec::new(alloc);
-    for (client, journal) in account.journals().iter().enumerate() {
+    for (client, journal) in recorded.journals().iter().enumerate() {
         push_journal::<S>(client, journal.as_slice(), &mut lines)?;
     }
     Ok(lines)
@@ -133,17 +133,17 @@ fn gather<S: SeqObject>(alloc: Global, account: &Record<S>) -> Result<Vec<Line>,
 /// The lines of the record, in order of tickets.
 pub(crate) fn lines_of<S: SeqObject>(
     alloc: Global,
-    account: &Record<S>,
+    recorded: &Record<S>,
 ) -> Result<Vec<Line>, AllocError>
     ensures lines { IfOk result (λ v. AreLinesOf
-        (journals_in S.op_in S.reply_in account.now) v.items) }
+        (journals_in S.op_in S.reply_in recorded.now) v.items) }
     ensures events { IfOk result (λ v.
-        AreEventsOf (journals_in S.op_in S.reply_in account.now) (events_in v.items)) }
+        AreEventsOf (journals_in S.op_in S.reply_in recorded.now) (events_in v.items)) }
     ensures proper { IfOk result (λ v. IsProper (events_in v.items)) }
     ensures low { IfOk result (λ v. All (λ l. l.event.process < 2 ^ 63) v.items) }
-    ensures kept { IsRecordOf S.op_in S.reply_in account.now }
+    ensures kept { IsRecordOf S.op_in S.reply_in recorded.now }
 {
-    let mut lines = gather(alloc, account)?;
+    let mut lines = gather(alloc, recorded)?;
     lines.sort_unstable_by_key(|line| line.event.number);
     Ok(lines)
 }

@@ -189,22 +189,22 @@ pub(crate) fn history_text(alloc: Global, lines: &[Line]) -> Result<Vec<u8>, All
 /// sent.
 pub fn write_history<S: SeqObject, K: Sink>(
     alloc: Global,
-    account: &Record<S>,
+    recorded: &Record<S>,
     sink: &mut K,
 ) -> Result<(), WriteFault>
     requires { K.broken sink.old ≡ false }
     ensures ok { OnOk result
-        (AppendsHistory (journals_in S.op_in S.reply_in account.now) (K.sent sink.old)
+        (AppendsHistory (journals_in S.op_in S.reply_in recorded.now) (K.sent sink.old)
         (K.sent sink.new)) }
     ensures usable { OnOk result (K.broken sink.new ≡ false) }
 
     ensures front { IfErr result (λ e. e ≡ WriteFault.Device →
-        SendsFrontOfHistory (journals_in S.op_in S.reply_in account.now) (K.sent sink.old)
+        SendsFrontOfHistory (journals_in S.op_in S.reply_in recorded.now) (K.sent sink.old)
         (K.sent sink.new)) }
     ensures failed { IfErr result (λ e. e ≡ WriteFault.Device → K.broken sink.new ≡ true) }
     ensures memory { IfErr result (λ e. e ≡ WriteFault.NoMemory → sink.new ≡ sink.old) }
 {
-    let Ok(lines) = lines_of(alloc, account) else {
+    let Ok(lines) = lines_of(alloc, recorded) else {
         return Err(WriteFault::NoMemory);
     };
     let Ok(text) = history_text(alloc, &lines) else {

@@ -62,13 +62,13 @@ takes what op r = false
 
 -- whether a count on an object of this kind may begin at any number: a content can be there only
 -- once at a time
-abbrev pub may_count_from_any : Kind → Bool
-may_count_from_any Queue = false
-may_count_from_any Stack = false
-may_count_from_any Heap = false
-may_count_from_any Register = true
-may_count_from_any Map = true
-may_count_from_any Mutex = true
-may_count_from_any Set = false
-may_count_from_any Counter = false
-may_count_from_any Lock = false
+abbrev pub may_count_from : Kind → Bool
+may_count_from Queue = false
+may_count_from Stack = false
+may_count_from Heap = false
+may_count_from Register = true
+may_count_from Map = true
+may_count_from Mutex = true
+may_count_from Set = false
+may_count_from Counter = false
+may_count_from Lock = false

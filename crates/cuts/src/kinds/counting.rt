@@ -97,8 +97,8 @@ pub(crate) fn takes(counted: Counted, op: AnyOp, reply: AnyReply) -> bool
 
 /// Whether a count on an object of this kind may begin at any number: a content can be there only
 /// once at a time.
-pub(crate) fn may_count_from_any(kind: Kind) -> bool
-    ensures { result ≡ spec.may_count_from_any kind }
+pub(crate) fn may_count_from(kind: Kind) -> bool
+    ensures { result ≡ spec.may_count_from kind }
 {
     match kind {
         Kind::Register | Kind::Map | Kind::Mutex => true,

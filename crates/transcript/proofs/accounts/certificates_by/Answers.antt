@@ -16,7 +16,7 @@ pub log-requires-after_bounds : goal.log-requires-after_bounds
 log-requires-after_bounds g c κs within =
     let op_in = g.S.SeqObject.op_in in
     let reply_in = g.S.SeqObject.reply_in in
-    let r = c.args.account.now in
+    let r = c.args.recorded.now in
     let vs = c.deref-named-items.result.now in
     let v = c.named-item.result in
     let x = c.object-object.result in
@@ -30,14 +30,14 @@ log-requires-after_bounds g c κs within =
 
 pub order_of-requires-after_bounds : goal.order_of-requires-after_bounds
 order_of-requires-after_bounds g c κs within =
-    log_low g.S.SeqObject.op_in g.S.SeqObject.reply_in c.args.account.now c.requires.kept c.object-object.result
+    log_low g.S.SeqObject.op_in g.S.SeqObject.reply_in c.args.recorded.now c.requires.kept c.object-object.result
     c.log.result.now c.log.ensures
 
 pub loop-named-preserved : goal.loop-named-preserved
 loop-named-preserved g c =
     let op_in = g.S.SeqObject.op_in in
     let reply_in = g.S.SeqObject.reply_in in
-    let r = c.args.account.now in
+    let r = c.args.recorded.now in
     let one : Certificate = record { object = c.object-object.result; order = c.in_ok-order.order } in
     let more : c.push.new.self.items ≡ c.loop-named.certificates.items ++ one ∷ [] = c.in_ok-push.ensures.items in
     record {
@@ -57,7 +57,7 @@ pub returns : goal.returns
 returns g c =
     let op_in = g.S.SeqObject.op_in in
     let reply_in = g.S.SeqObject.reply_in in
-    let r = c.args.account.now in
+    let r = c.args.recorded.now in
     let os = c.in_ok-objects.objects.items in
     let all : map (λ (d : Certificate). d.object) c.loop-named.certificates.items
     ≡ map (λ (o : ObjectCalls). o.object) os =

@@ -7,6 +7,6 @@ use Rattle.transcript.proofs.accounts.certificates_by.Given as goal
 abbrev pub invariant-loop-named : goal.invariant-loop-named
 invariant-loop-named g l = record {
   objects : map (λ c. c.object) l.certificates.items ≡ map (λ o. o.object) (take l.named-index l.named-items);
-  orders : All (λ c. c.order.items ≡ order_of (logs_in g.S.SeqObject.op_in g.S.SeqObject.reply_in l.account c.object))
+  orders : All (λ c. c.order.items ≡ order_of (logs_in g.S.SeqObject.op_in g.S.SeqObject.reply_in l.recorded c.object))
       l.certificates.items;
 }

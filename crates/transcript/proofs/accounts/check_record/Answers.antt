@@ -22,16 +22,16 @@ refused journals logs es cs are h (Err e) i =
 
 pub returns-clause-accepted : goal.returns-clause-accepted
 returns-clause-accepted g c kinds quota s =
-    let journals = journals_in g.S.SeqObject.op_in g.S.SeqObject.reply_in c.args.account.now in
-    let logs = logs_in g.S.SeqObject.op_in g.S.SeqObject.reply_in c.args.account.now in
+    let journals = journals_in g.S.SeqObject.op_in g.S.SeqObject.reply_in c.args.recorded.now in
+    let logs = logs_in g.S.SeqObject.op_in g.S.SeqObject.reply_in c.args.recorded.now in
     c.check_all.ensures.exact
     (are_valid kinds quota journals logs s _ c.in-Ok.ensures.history _
     (subst (AreCertificatesOf journals logs) (sym c.deref.ensures.value) c.in-Ok-certificates.ensures))
 
 pub returns-clause-checked : goal.returns-clause-checked
 returns-clause-checked g c =
-    let journals = journals_in g.S.SeqObject.op_in g.S.SeqObject.reply_in c.args.account.now in
-    let logs = logs_in g.S.SeqObject.op_in g.S.SeqObject.reply_in c.args.account.now in
+    let journals = journals_in g.S.SeqObject.op_in g.S.SeqObject.reply_in c.args.recorded.now in
+    let logs = logs_in g.S.SeqObject.op_in g.S.SeqObject.reply_in c.args.recorded.now in
     refused journals logs _ _ c.in-Ok.ensures.history
     (subst (AreCertificatesOf journals logs) (sym c.deref.ensures.value) c.in-Ok-certificates.ensures)
     c.check_all.result c.check_all.ensures.refused

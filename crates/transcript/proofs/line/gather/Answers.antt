@@ -9,7 +9,7 @@ use Rattle.transcript.proofs.line.gather.Goals as goal
 
 pub push_journal-requires-after_bounds : goal.push_journal-requires-after_bounds
 push_journal-requires-after_bounds g c κs within =
-    low_in g.S.SeqObject.op_in g.S.SeqObject.reply_in c.args.account.now c.journals-journal-items.ensures.kept
+    low_in g.S.SeqObject.op_in g.S.SeqObject.reply_in c.args.recorded.now c.journals-journal-items.ensures.kept
     c.journals-journal-items.result.now c.journals-journal-items.ensures.journals
     c.loop-client.client c.journal-item.result c.loop-client-test.true c.journal-item.is c.as_slice.result.now
     c.as_slice.ensures.value
@@ -27,6 +27,6 @@ loop-client-preserved g c =
 
 pub returns-clause-lines : goal.returns-clause-lines
 returns-clause-lines g c =
-    all_lines g.S.SeqObject.op_in g.S.SeqObject.reply_in c.journals-journal-items.result.now c.args.account.now.journals
-    c.journals-journal-items.ensures.journals c.loop-client.client c.loop-client.lines.items c.loop-client-test.false
+    all_lines g.S.SeqObject.op_in g.S.SeqObject.reply_in c.journals-journal-items.result.now
+    c.args.recorded.now.journals c.journals-journal-items.ensures.journals c.loop-client.client c.loop-client.lines.items c.loop-client-test.false
     c.loop-client.invariant

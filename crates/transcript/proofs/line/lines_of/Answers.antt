@@ -14,7 +14,7 @@ lines_are : goal.returns-clause-lines
 lines_are g c =
     let op_in = g.S.SeqObject.op_in in
     let reply_in = g.S.SeqObject.reply_in in
-    let r = c.args.account.now in
+    let r = c.args.recorded.now in
     let kept = c.gather.ensures.kept in
     let ls = c.sort_unstable_by_key.new.self.items in
     gathered.are_lines (journals_in op_in reply_in r) kept.events kept.are_events kept.proper
@@ -29,16 +29,16 @@ returns-clause-lines g c = lines_are g c
 pub returns-clause-events : goal.returns-clause-events
 returns-clause-events g c =
     let kept = c.gather.ensures.kept in
-    gathered.are_events (journals_in g.S.SeqObject.op_in g.S.SeqObject.reply_in c.args.account.now) kept.events
+    gathered.are_events (journals_in g.S.SeqObject.op_in g.S.SeqObject.reply_in c.args.recorded.now) kept.events
     kept.are_events kept.proper c.sort_unstable_by_key.new.self.items (lines_are g c)
 
 pub returns-clause-proper : goal.returns-clause-proper
 returns-clause-proper g c =
     let kept = c.gather.ensures.kept in
-    gathered.is_proper (journals_in g.S.SeqObject.op_in g.S.SeqObject.reply_in c.args.account.now) kept.events
+    gathered.is_proper (journals_in g.S.SeqObject.op_in g.S.SeqObject.reply_in c.args.recorded.now) kept.events
     kept.are_events kept.proper c.sort_unstable_by_key.new.self.items (lines_are g c)
 
 pub returns-clause-low : goal.returns-clause-low
 returns-clause-low g c =
-    clients_low g.S.SeqObject.op_in g.S.SeqObject.reply_in c.args.account.now
+    clients_low g.S.SeqObject.op_in g.S.SeqObject.reply_in c.args.recorded.now
     (2 ^ 63) c.in_ok-lines.ensures.few c.sort_unstable_by_key.new.self.items (lines_are g c)
