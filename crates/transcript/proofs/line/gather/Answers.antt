@@ -28,5 +28,5 @@ loop-client-preserved g c =
 pub returns-clause-lines : goal.returns-clause-lines
 returns-clause-lines g c =
     all_lines g.S.SeqObject.op_in g.S.SeqObject.reply_in c.journals-journal-items.result.now
-    c.args.recorded.now.journals c.journals-journal-items.ensures.journals c.loop-client.client c.loop-client.lines.items c.loop-client-test.false
-    c.loop-client.invariant
+    c.args.recorded.now.journals c.journals-journal-items.ensures.journals c.loop-client.client
+    c.loop-client.lines.items c.loop-client-test.false c.loop-client.invariant
