@@ -14,7 +14,7 @@ ghost use Rattle.publication.specs.Closing.{HaveEnded, HasLearntEnds};
 ghost use Rattle.desk_model.specs.Limits.{max_objects, max_clients};
 
 use crate::client::{Client, Place};
-use crate::desk::{Desk, ENDS};
+use crate::desk::{Desk, FIRST_END};
 use crate::new_desk::SLOTS;
 use crate::plays::{Ends, SeesEnd, SendsEnd, TakesNotice};
 use desk_invariant::{Journal, Slot};
@@ -66,7 +66,7 @@ impl<S: SeqObject> Desk<S> {
         } = client;
         let journal = member.into_journal();
         let shared = &self.table.shared;
-        let slot = ENDS + number as usize;
+        let slot = FIRST_END + number as usize;
         seat.turn();
         let _ = shared.exchange(&mut seat, slot, Slot::Journal(journal));
         shared.store::<Ends>(&mut seat, slot, 1);
@@ -122,7 +122,7 @@ fn sees_end<S: SeqObject>(desk: &Desk<S>, last: &mut Client<S>, client: u32) -> 
     ensures untold { result ≡ false → All (λ l. l.client ≢ client) last.old.knows.left }
 {
     let shared = &desk.table.shared;
-    shared.load::<SeesEnd>(&mut last.seat, ENDS + client as usize) == 1
+    shared.load::<SeesEnd>(&mut last.seat, FIRST_END + client as usize) == 1
 }
 
 /// The least other client that has not ended.
@@ -197,7 +197,7 @@ fn take_journal<S: SeqObject>(
         × (values_of left.new ≡ values_of left.old) }
     ensures journal { IsJournalOf (values_of left.old) client result.items }
 {
-    match left.take(ENDS + client as usize) {
+    match left.take(FIRST_END + client as usize) {
         Slot::Journal(Journal { events }) => events,
         _ => unreachable!(),
     }
@@ -245,7 +245,7 @@ fn take_all_journals<S: SeqObject>(
         IsJournalOf (values_of left.old) c (slice_index_or (items_of_each journals.new.items) c
         []) }
 {
-    let own_slot = ENDS + number as usize;
+    let own_slot = FIRST_END + number as usize;
     take_journals(left, 0, number, journals);
     drop_slots(left, own_slot, own_slot + 1);
     journals.push_reserved(own);
@@ -276,9 +276,9 @@ fn gather<S: SeqObject>(desk: Desk<S>, last: Client<S>) -> Record<S>
     let objects = kinds.len();
     let mut left = table.close_with(seat);
     take_logs(&mut left, objects, &mut logs);
-    drop_slots(&mut left, objects, ENDS);
+    drop_slots(&mut left, objects, FIRST_END);
     take_all_journals(&mut left, clients, number, journal.events, &mut journals);
-    drop_slots(&mut left, ENDS + clients as usize, SLOTS);
+    drop_slots(&mut left, FIRST_END + clients as usize, SLOTS);
     left.free();
     Record::new(journals, logs)
 }

@@ -26,19 +26,19 @@ pub(crate) type DeskTable<S, O, R> = Table<Slot<S, O, R>, DeskView, Plan, DeskRu
 
 /// Word x is the lock of object x, and slot x its core. This is the row of client 0, and the slot
 /// of its call.
-pub(crate) const ROWS: usize = 16;
+pub(crate) const FIRST_ROW: usize = 16;
 
 /// The end word of client 0, and the slot of its journal.
-pub(crate) const ENDS: usize = 48;
+pub(crate) const FIRST_END: usize = 48;
 
 /// The word of the clock.
 pub(crate) const CLOCK: usize = 80;
 
 /// A row whose request for object 0 was posted. An empty row is 0.
-pub(crate) const POSTED: u64 = 1;
+pub(crate) const FIRST_POSTED: u64 = 1;
 
 /// A row whose request for object 0 was picked up.
-pub(crate) const PICKED: u64 = 17;
+pub(crate) const FIRST_PICKED: u64 = 17;
 
 /// A row that has an answer.
 pub(crate) const ANSWERED: u64 = 33;
@@ -185,7 +185,7 @@ impl<S: SeqObject> Desk<S> {
         if let Err(fault) = self.check_post(client, object, &op) {
             return Err(fault);
         }
-        let slot = ROWS + client.number as usize;
+        let slot = FIRST_ROW + client.number as usize;
         let shared = &self.table.shared;
         let seat = &mut client.seat;
         let asked = Request {
@@ -196,7 +196,7 @@ impl<S: SeqObject> Desk<S> {
         let _ = shared.exchange(seat, slot, Slot::Request(asked));
         let ticket = shared.fetch_add::<Draws>(seat, CLOCK, 1);
         set_ticket(seat.slot_mut(shared, slot), ticket);
-        shared.store::<Posts>(seat, slot, POSTED + object as u64);
+        shared.store::<Posts>(seat, slot, FIRST_POSTED + object as u64);
         client.member.note_invoked(Request { object, ticket, op });
         Ok(())
     }
@@ -216,7 +216,7 @@ impl<S: SeqObject> Desk<S> {
         if !client.member.is_outstanding() {
             return None;
         }
-        let slot = ROWS + client.number as usize;
+        let slot = FIRST_ROW + client.number as usize;
         let shared = &self.table.shared;
         let seat = &mut client.seat;
         let found = look_and_exchange::<_, _, _, _, LooksForAnswer, Takes>(

@@ -10,7 +10,7 @@ ghost use Rattle.publication.specs.Making.{IsSmall, AreDealt, rosters_of, AreWal
 ghost use Rattle.desk_model.specs.Limits.{max_objects, max_clients, max_calls};
 
 use crate::client::{BoxedMember, Client, Member, Place, Places};
-use crate::desk::{Desk, DeskTable, ROWS};
+use crate::desk::{Desk, DeskTable, FIRST_ROW};
 use crate::plays::{Begins, Makes};
 use atomic_table::Table;
 use desk_invariant::{BoxedCore, Core, Journal, Plan, Slot};
@@ -214,7 +214,7 @@ fn new_client<S: SeqObject>(
 {
     let shared = &table.shared;
     let mut seat = shared.split_seat::<Makes>(maker);
-    shared.load::<Begins>(&mut seat, ROWS + number as usize);
+    shared.load::<Begins>(&mut seat, FIRST_ROW + number as usize);
     Client {
         seat,
         number,

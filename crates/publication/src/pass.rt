@@ -12,7 +12,7 @@ ghost use Rattle.publication.specs.Calls.{IsAnsweredCall, IsPutBack, desk_after_
 ghost use Rattle.publication.specs.Calls.{state_after_pick, IfGot, IfNot};
 
 use crate::client::{Client, Hand, Pass};
-use crate::desk::{ANSWERED, CLOCK, Desk, PICKED, POSTED, Picked, ROWS};
+use crate::desk::{ANSWERED, CLOCK, Desk, FIRST_PICKED, FIRST_POSTED, FIRST_ROW, Picked};
 use crate::one_try::look_and_exchange;
 use crate::plays::{Answers, LooksAtRow, Picks, PutsBack, Releases};
 use desk_invariant::{BoxedCore, Core, Slot};
@@ -51,9 +51,9 @@ impl<S: SeqObject> Pass<S> {
             core,
         } = self;
         let shared = &desk.table.shared;
-        let slot = ROWS + row as usize;
-        let posted = POSTED + object as u64;
-        let picked = PICKED + object as u64;
+        let slot = FIRST_ROW + row as usize;
+        let posted = FIRST_POSTED + object as u64;
+        let picked = FIRST_PICKED + object as u64;
         let found = look_and_exchange::<_, _, _, _, LooksAtRow, Picks>(
             shared, &mut seat, slot, posted, picked,
         );
@@ -161,7 +161,7 @@ impl<S: SeqObject> Hand<S> {
         } = self;
         let answer = serve(&mut core, row, &request);
         let shared = &desk.table.shared;
-        let slot = ROWS + row as usize;
+        let slot = FIRST_ROW + row as usize;
         let _ = shared.exchange(&mut seat, slot, Slot::Answer(answer));
         shared.store::<Answers>(&mut seat, slot, ANSWERED);
         (
@@ -194,9 +194,9 @@ impl<S: SeqObject> Hand<S> {
             request,
         } = self;
         let shared = &desk.table.shared;
-        let slot = ROWS + row as usize;
+        let slot = FIRST_ROW + row as usize;
         let _ = shared.exchange(&mut seat, slot, Slot::Request(request));
-        shared.store::<PutsBack>(&mut seat, slot, POSTED + object as u64);
+        shared.store::<PutsBack>(&mut seat, slot, FIRST_POSTED + object as u64);
         Pass {
             seat,
             number,
