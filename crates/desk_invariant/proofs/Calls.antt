@@ -313,7 +313,8 @@ module _ {S O R : Type 0} (content : S → Content) (op_in : O → AnyOp) (reply
   -- what the client is told of the answer that came out of its row, and of the log of its call's object
   record IsTaken (me after : Me (Slot S O R) DeskView) (client : ℕ) (request : AnyRequest) (given : Answer R)
       (log : List AnyEntry) : Type 0 where
-    hand : after ≡ (after_take request (answer_in reply_in given) log me.0, (call_slot client, slot.Answer given) ∷ me.1)
+    hand : after
+        ≡ (after_take request (answer_in reply_in given) log me.0, (call_slot client, slot.Answer given) ∷ me.1)
     legal : IsLegalLog (kind_at me.0.kinds request.object) log
     begins : StartsWith log (seen_of me.0 request.object)
     calls : entries_of_client me.0.number log
@@ -428,11 +429,34 @@ module _ {S O R : Type 0} (content : S → Content) (op_in : O → AnyOp) (reply
                 (logged_here request.object client_known request (answer_in reply_in given) refl);
           }
 
-    -- the word says that there is an answer: the client takes it
+      -- A hit tells what the step promises, by whichever names the call and the row have, and is no miss.
+      hit_told : found_there ≡ answered_word
+          → play.takes_answer content op_in reply_in try_to_take me found_there
+          (view_taken, (call_slot client_known, slot.Answer given) ∷ me.1)
+      hit_told hit d q own_row here waiting =
+          let same : request ≡ q = ap (request_known request) (sym is ∙ waiting) in
+          let t = subst (λ (z : ℕ × AnyRequest). IsTaken me (
+            view_taken,
+            (call_slot client_known, slot.Answer given)
+                ∷ me.1,
+          ) z.0 z.1 given log_there) (λ i. (own_row i, same i)) taken_told in
+          ((λ _. (given, log_there, t.hand, t.legal, t.begins, t.calls)), λ miss. absurd (miss hit))
+
+      -- The table allows the try if the answer is in its slot.
+      may_take : get_elem? state.homes (call_slot client_known) ≡ some (some (slot.Answer given))
+          → found_there ≡ answered_word → request.object < max_objects → MayTake
+      may_take at_home hit low = (
+        view_taken,
+        takes (call_slot client_known) (slot.Answer given),
+        at_home,
+        rw (eq-eqb found_there answered_word hit) (kept_after rule id view_taken at is_client alike (after_taking low)),
+        hit_told hit,
+      )
+
+    -- At the word of an answer the client takes it.
     take_hits : request.object < max_objects → found_there ≡ answered_word → MayTake
     take_hits low hit =
         let client : ℕ = client_known in
-        let log : List AnyEntry = rule.world.log request.object in
         let ok = mine rule id is_client at in
         let (answer, was) =
         is_answered me.0.own (rule.world.stage client) request is low ok.own (sym word_there ∙ hit) in
@@ -440,28 +464,9 @@ module _ {S O R : Type 0} (content : S → Content) (op_in : O → AnyOp) (reply
         was (rule.tied.calls client ok.small) in
         let was_given : rule.world.stage client ≡ answered request (answer_in reply_in given) =
         was ∙ ap (answered request) (sym image) in
-        let me' : Me (Slot S O R) DeskView =
-        (view_taken given was_given, (call_slot client, slot.Answer given) ∷ me.1) in
-        -- whichever names the call and the row have
-        let told_any : (d : ℕ) (q : AnyRequest) → client ≡ d → request ≡ q → IsTaken me me' d q given log =
-        λ d q row same. subst (λ (z : ℕ × AnyRequest). IsTaken me me' z.0 z.1 given log)
-        (λ i. (row i, same i)) (taken_told given was_given) in
-        let told : play.takes_answer content op_in reply_in try_to_take me found_there me' =
-        λ d q own_row here waiting. (
-          (λ _.
-              let t = told_any d q own_row (ap (request_known request) (sym is ∙ waiting)) in
-              (given, log, t.hand, t.legal, t.begins, t.calls)),
-          λ miss. absurd (miss hit),
-        ) in (
-          view_taken given was_given,
-          takes (call_slot client) (slot.Answer given),
-          at_home,
-          rw (eq-eqb found_there answered_word hit)
-              (kept_after rule id (view_taken given was_given) at is_client alike (after_taking given was_given low)),
-          told,
-        )
+        may_take given was_given at_home hit low
 
-    -- another word: the client notes a miss
+    -- At another word the client notes a miss.
     take_misses : found_there ≢ answered_word → MayTake
     take_misses miss =
         let client : ℕ = client_known in
