@@ -447,6 +447,81 @@ module _ {S O R : Type 0} (content : S → Content) (op_in : O → AnyOp) (reply
       let holds = hand.holds in
       grind (arith, sound.in_hand y row f)
 
+  -- a client that has the request of a row in hand puts it back
+  module _ {state : State (Slot S O R) DeskView} (rule : DeskRule state) (id object row : ℕ)
+      (me : Me (Slot S O R) DeskView) (log : List AnyEntry) (request : AnyRequest) (is_client : me.0.role ≡ role.Client)
+      (at : get_elem? state.views id ≡ some me.0) (holding : me.0.held ≡ held.Hand object log row request)
+      (on : request.object ≡ object) where
+    -- what the client's view tells of the request in hand
+    hand_before : IsHand kinds rule.world me.0.number object log row request
+    hand_before = hand_of (mine rule id is_client at) holding
+
+    -- the client's view after the request was put back
+    abbrev view_put_back : DeskView
+    view_put_back = after_put_back object log row request me.0
+
+    -- the row goes on with its call
+    putting_back_goes_on : GoesOn rule.world row request (posted request) rule.world.log
+    putting_back_goes_on =
+        let was : rule.world.stage row ≡ picked request = hand_before.picked_up in
+        record {
+          from = inr (inl was);
+          to = inl refl;
+          unanswered = λ q a e. absurd cc;
+          grow = λ y. starts_same (rule.world.log y);
+        }
+
+    -- The request was not in its row, and is there once the client has put it back.
+    not_there : NotPosted (rule.world.stage row)
+    not_there p e = let was = hand_before.picked_up in absurd cc
+
+    -- The client agrees with the world once its hand is empty and the request is in its row.
+    putter_agrees : SeatAgrees kinds (handed rule.world object None row (posted request)) me.0.number view_put_back
+    putter_agrees =
+        let world : World = rule.world in
+        let client : ℕ = me.0.number in
+        let stage : Stage = posted request in
+        let ok = mine rule id is_client at in
+        let hand = hand_before in
+        let hands : ℕ → Option ℕ = changed world.hand object None in
+        let empty : hands object ≡ None = changed_here world.hand object None in
+        let now : HeldAgrees (length kinds) (handed world object None row stage) client (held.Pass object log) =
+        (hand.inside, hand.holds, empty, hand.logged, hand.only) in
+        let put : PutBack = record { row = row; request = request } in
+        let in_row : InRow (changed world.stage row stage) world.holder client put =
+        (changed_here world.stage row stage, ap world.holder on ∙ hand.holds) in
+        let in_rows = All-push (InRow (changed world.stage row stage) world.holder client) me.0.back put
+        (rows_stay world client row stage me.0.back not_there ok.back) in_row in
+        seat_row world row request stage world.log putting_back_goes_on kinds hands client me.0 (held.Pass object log)
+        view_put_back.back in_rows ok now
+
+    -- the world after the request was put back
+    after_putting_back : (sent : Request O) → request_in op_in sent ≡ request
+        → After rule me.0 view_put_back (set state.words (row_place row) (1 + object))
+        (set state.homes (call_slot row) (some (slot.Request sent)))
+    after_putting_back sent is =
+        let world : World = rule.world in
+        let client : ℕ = me.0.number in
+        let stage : Stage = posted request in
+        let hand = hand_before in
+        let was : world.stage row ≡ picked request = hand.picked_up in
+        record {
+          world = handed world object None row stage;
+          holders = rule.holders;
+          come = come_after clients world row stage (rule.come row (λ e. absurd cc)) rule.come;
+          sound = sound_put_back kinds quota world object row client request was on hand.holds hand.in_hand rule.sound;
+          -- the words and the slots agree with the new world
+          tied = tied_row row (1 + object) stage (changed world.hand object None) world.log (some (slot.Request sent))
+              hand.few (λ y _. refl) (λ e. absurd (cc)) (ap request_of (sym was)) (ap (λ z. 1 + z) (sym on))
+              (sent, refl, is) rule.tied;
+          leave = row_leaves world row stage (ap request_of was);
+          -- the other clients keep what they know
+          others = λ another other. later_row world row request stage world.log putting_back_goes_on object client
+              another None (λ y _. refl) (apart another hand on other rule.sound) (λ p _. not_there p) hand.holds
+              other;
+          own = putter_agrees;
+        }
+
   -- putting the request in hand back keeps the rule, with the word of its object
   pub put_back_keeps_rule : (slots id object row word : ℕ) (me : Me (Slot S O R) DeskView) (log : List AnyEntry)
       (request : AnyRequest) (sent : Request O) (more : List (ℕ × Slot S O R))
@@ -457,49 +532,10 @@ module _ {S O R : Type 0} (content : S → Content) (op_in : O → AnyOp) (reply
       (λ _. play.puts_back content op_in reply_in (step slots (row_place row) word 0 maybe.none) me word)
   put_back_keeps_rule slots id object row word me log request sent more is_client holding carried is on is_word state
       rule deep at small =
-      let world : World = rule.world in
-      let client : ℕ = me.0.number in
-      let ok = mine rule id is_client at in
-      let hand = hand_of ok holding in
-      let was : world.stage row ≡ picked request = hand.picked_up in
-      -- the row goes on with its call
-      let stage : Stage = posted request in
-      let hands : ℕ → Option ℕ = changed world.hand object None in
-      let world' : World = handed world object None row stage in
       let view' : DeskView = after_put_back object log row request me.0 in
-      let goes : GoesOn world row request stage world.log = record {
-        from = inr (inl was);
-        to = inl refl;
-        unanswered = λ q a e. absurd cc;
-        grow = λ y. starts_same (world.log y);
-      } in
-      let unposted : NotPosted (world.stage row) = λ p e. absurd cc in
-      -- the client holds the object, with nothing in hand, and the request is in its row
-      let empty : hands object ≡ None = changed_here world.hand object None in
-      let now : HeldAgrees (length kinds) world' client (held.Pass object log) =
-      (hand.inside, hand.holds, empty, hand.logged, hand.only) in
-      let in_row : InRow (changed world.stage row stage) world.holder client (record { row = row; request = request }) =
-      (changed_here world.stage row stage, ap world.holder on ∙ hand.holds) in
-      let in_rows = All-push (InRow (changed world.stage row stage) world.holder client) me.0.back
-      (record { row = row; request = request }) (rows_stay world client row stage me.0.back unposted ok.back) in_row in
       let after : After rule me.0 view' (set state.words (row_place row) word)
-      (set state.homes (16 + row) (some (slot.Request sent))) =
-      record {
-        world = world';
-        holders = rule.holders;
-        come = come_after clients world row stage (rule.come row (λ e. absurd cc)) rule.come;
-        sound = sound_put_back kinds quota world object row client request was on hand.holds hand.in_hand rule.sound;
-        -- the words and the slots agree with the new world
-        tied = tied_row row word stage hands world.log (some (slot.Request sent)) hand.few (λ y _. refl)
-            (λ e. absurd (cc)) (ap request_of (sym was)) (is_word ∙ ap (λ z. 1 + z) (sym on)) (sent, refl, is)
-            rule.tied;
-        leave = row_leaves world row stage (ap request_of was);
-        -- the other clients keep what they know
-        others = λ another other. later_row world row request stage world.log goes object client another None
-            (λ y _. refl) (apart another hand on other rule.sound) (λ p _. unposted p) hand.holds other;
-        own = seat_row world row request stage world.log goes kinds hands client me.0 (held.Pass object log) view'.back
-            in_rows ok now;
-      } in
+      (set state.homes (call_slot row) (some (slot.Request sent))) =
+      rw is_word (after_putting_back rule id object row me log request is_client at holding on sent is) in
       let told : play.puts_back content op_in reply_in (step slots (row_place row) word 0 maybe.none) me word
       (view', rest me.1) =
       λ object' row' log' request' holding'.
