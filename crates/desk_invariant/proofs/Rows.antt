@@ -37,7 +37,7 @@ use Rattle.desk_model.proofs.Changed.{changed_here, changed_else, changed_all}
 use Rattle.desk_model.proofs.Entries.{starts_same, starts_longer}
 use Rattle.desk_model.proofs.Effects.{sound_picked, sound_put_back, sound_served}
 use Rattle.desk_invariant.specs.Views.{row_place, seen_of, waits_on, after_row_miss, after_pick, after_put_back}
-use Rattle.desk_invariant.specs.Views.{after_answer, call_slot, first_picked}
+use Rattle.desk_invariant.specs.Views.{after_answer, call_slot, first_picked, answered_word}
 use Rattle.desk_model.specs.Limits.{max_objects, max_clients}
 use Rattle.desk_invariant.specs.Rule.{row_word, OwnCallAgrees, HeldAgrees, SeatAgrees, CallAt}
 use Rattle.desk_invariant.specs.Plays as play
@@ -594,6 +594,76 @@ module _ {S O R : Type 0} (content : S → Content) (op_in : O → AnyOp) (reply
   answer_carried d (y ∷ ys) = answer_or d y.1
   answer_carried d [] = d
 
+  -- a client that has the request of a row in hand answers it, and the log is legal with the answer
+  module _ {state : State (Slot S O R) DeskView} (rule : DeskRule state) (id object row : ℕ)
+      (me : Me (Slot S O R) DeskView) (log : List AnyEntry) (request : AnyRequest) (given : Answer R)
+      (is_client : me.0.role ≡ role.Client) (at : get_elem? state.views id ≡ some me.0)
+      (holding : me.0.held ≡ held.Hand object log row request) (on : request.object ≡ object)
+      (legal : IsLegalLog (kind_at me.0.kinds object) (log ++ logged row request (answer_in reply_in given))) where
+    -- the entries by which the log of the object grows
+    abbrev entries_answered : List AnyEntry
+    entries_answered = logged row request (answer_in reply_in given)
+
+    -- the logs after the answer
+    abbrev logs_answered : ℕ → List AnyEntry
+    logs_answered = changed rule.world.log object (rule.world.log object ++ entries_answered)
+
+    -- the world after the answer
+    abbrev world_answered : World
+    world_answered = served_by rule.world object row request (answer_in reply_in given)
+
+    -- The client holds the object with the longer log, and has nothing in hand.
+    answerer_holds : HeldAgrees (length kinds) world_answered me.0.number (held.Pass object (log ++ entries_answered))
+    answerer_holds =
+        let world : World = rule.world in
+        let hand = hand_of (mine rule id is_client at) holding in
+        let empty : changed world.hand object None object ≡ None = changed_here world.hand object None in
+        let long : logs_answered object ≡ log ++ entries_answered =
+        changed_here world.log object (world.log object ++ entries_answered)
+        ∙ ap (λ z. z ++ entries_answered) hand.logged in
+        (hand.inside, hand.holds, empty, long, hand.only)
+
+    -- the longer log is legal in the world
+    legal_there : IsLegalLog (kind_at kinds object) (rule.world.log object ++ entries_answered)
+    legal_there =
+        let ok = mine rule id is_client at in
+        let hand = hand_of ok holding in
+        subst (λ (z : List Kind × List AnyEntry). IsLegalLog (kind_at z.0 object) (z.1 ++ entries_answered))
+        (λ i. (ok.kinds_are i, sym hand.logged i)) legal
+
+    -- what the rule asks of the world after the answer
+    after_answering : After rule me.0 (after_answer row object (log ++ entries_answered) me.0)
+        (set state.words (row_place row) answered_word)
+        (set state.homes (call_slot row) (some (slot.Answer given)))
+    after_answering =
+        let world : World = rule.world in
+        let client : ℕ = me.0.number in
+        let answer : AnyAnswer = answer_in reply_in given in
+        let stage : Stage = answered request answer in
+        let ok = mine rule id is_client at in
+        let hand = hand_of ok holding in
+        let was : world.stage row ≡ picked request = hand.picked_up in
+        let goes : GoesOn world row request stage logs_answered = answered_on world object row request answer was in
+        let keep : (y : ℕ) → y ≢ object → logs_answered y ≡ world.log y =
+        changed_else world.log object (world.log object ++ entries_answered) in
+        record {
+          world = world_answered;
+          holders = rule.holders;
+          come = come_after clients world row stage (rule.come row (λ e. absurd cc)) rule.come;
+          sound = sound_served kinds quota world object row client request answer was on hand.holds hand.in_hand
+              legal_there rule.sound;
+          -- the words and the slots agree with the new world
+          tied = tied_row row answered_word stage (changed world.hand object None) logs_answered
+              (some (slot.Answer given)) hand.few (λ y e. keep y (λ same. absurd cc)) (λ e. absurd (cc))
+              (ap request_of (sym was)) refl (given, refl, refl) rule.tied;
+          leave = row_leaves world row stage (ap request_of was);
+          -- the other clients keep what they know
+          others = λ another other. later_row world row request stage logs_answered goes object client another None keep
+              (apart another hand on other rule.sound) (λ p _ e. absurd cc) hand.holds other;
+          own = seat_answered world client object row request answer me.0 (held.Pass object (log ++ entries_answered))
+              was ok answerer_holds;
+        }
+
   -- answering the request in hand keeps the rule, if the log is legal with the answer
   pub answer_keeps_rule : (slots id object row : ℕ) (me : Me (Slot S O R) DeskView) (log : List AnyEntry)
       (request : AnyRequest) (given : Answer R) (more : List (ℕ × Slot S O R))
@@ -604,49 +674,8 @@ module _ {S O R : Type 0} (content : S → Content) (op_in : O → AnyOp) (reply
       (λ _. play.answers content op_in reply_in (step slots (row_place row) 33 0 maybe.none) me 33)
   answer_keeps_rule slots id object row me log request given more is_client holding carried on legal state rule deep at
       small =
-      let world : World = rule.world in
-      let client : ℕ = me.0.number in
-      let ok = mine rule id is_client at in
-      let hand = hand_of ok holding in
-      let was : world.stage row ≡ picked request = hand.picked_up in
-      -- the row goes on with its call, and the log grows by what the answer says
-      let answer : AnyAnswer = answer_in reply_in given in
-      let stage : Stage = answered request answer in
-      let entries : List AnyEntry = logged row request answer in
-      let logs : ℕ → List AnyEntry = changed world.log object (world.log object ++ entries) in
-      let hands : ℕ → Option ℕ = changed world.hand object None in
-      let world' : World = served_by world object row request answer in
-      let view' : DeskView = after_answer row object (log ++ entries) me.0 in
-      let goes : GoesOn world row request stage logs = answered_on world object row request answer was in
-      let keep : (y : ℕ) → y ≢ object → logs y ≡ world.log y =
-      changed_else world.log object (world.log object ++ entries) in
-      let legal' : IsLegalLog (kind_at kinds object) (world.log object ++ entries) =
-      subst (λ (z : List Kind × List AnyEntry). IsLegalLog (kind_at z.0 object) (z.1 ++ entries))
-      (λ i. (ok.kinds_are i, sym hand.logged i)) legal in
-      -- the client holds the object, with nothing in hand
-      let empty : hands object ≡ None = changed_here world.hand object None in
-      let long : logs object ≡ log ++ entries =
-      changed_here world.log object (world.log object ++ entries) ∙ ap (λ z. z ++ entries) hand.logged in
-      let now : HeldAgrees (length kinds) world' client (held.Pass object (log ++ entries)) =
-      (hand.inside, hand.holds, empty, long, hand.only) in
-      let after : After rule me.0 view' (set state.words (row_place row) 33)
-      (set state.homes (16 + row) (some (slot.Answer given))) =
-      record {
-        world = world';
-        holders = rule.holders;
-        come = come_after clients world row stage (rule.come row (λ e. absurd cc)) rule.come;
-        sound = sound_served kinds quota world object row client request answer was on hand.holds hand.in_hand legal'
-            rule.sound;
-        -- the words and the slots agree with the new world
-        tied = tied_row row 33 stage hands logs (some (slot.Answer given)) hand.few
-            (λ y e. keep y (λ same. absurd cc)) (λ e. absurd (cc)) (ap request_of (sym was)) refl (given, refl, refl)
-            rule.tied;
-        leave = row_leaves world row stage (ap request_of was);
-        -- the other clients keep what they know
-        others = λ another other. later_row world row request stage logs goes object client another None keep
-            (apart another hand on other rule.sound) (λ p _ e. absurd cc) hand.holds other;
-        own = seat_answered world client object row request answer me.0 (held.Pass object (log ++ entries)) was ok now;
-      } in
+      let view' : DeskView = after_answer row object (log ++ logged row request (answer_in reply_in given)) me.0 in
+      let after = after_answering rule id object row me log request given is_client at holding on legal in
       -- the view and the slots in hand after the step
       let told : play.answers content op_in reply_in (step slots (row_place row) 33 0 maybe.none) me 33
       (view', rest me.1) =
