@@ -134,40 +134,103 @@ module _ {S O R : Type 0} (content : S → Content) (op_in : O → AnyOp) (reply
 
   -- ---- making a client
 
+  -- the maker of clients makes one more
+  module _ {state : State (Slot S O R) DeskView} (rule : DeskRule state) (id : ℕ) (view : DeskView)
+      (is : view.role ≡ role.Maker) (low : view.made < clients) (at : get_elem? state.views id ≡ some view) where
+    -- the maker's view then
+    abbrev maker_then : DeskView
+    maker_then = after_making view
+
+    -- the view of the client that is made
+    abbrev client_made : DeskView
+    client_made = new_client view.kinds view.lists view.made
+
+    -- the seat of the client that is made
+    abbrev seat_made : ℕ
+    seat_made = length (set state.views id maker_then)
+
+    -- the seat of each client then
+    abbrev seats_then : ℕ → ℕ
+    seats_then = changed rule.seat_of view.made seat_made
+
+    -- The client that is made has seen nothing, with which each log begins.
+    nothing_seen : (x : ℕ) → StartsWith (rule.world.log x) (seen_of client_made x)
+    nothing_seen x =
+        (rule.world.log x, ap (λ z. z ++ rule.world.log x) (sym (unseen view.kinds view.lists view.made x)))
+
+    -- The client that is made, which knows nothing yet, agrees with the world.
+    made_agrees : SeatAgrees kinds rule.world view.made client_made
+    made_agrees =
+        let world : World = rule.world in
+        let old = rule.seats id view at in
+        let (is_absent, none_done, going, none_held) = old.unmade is view.made (omega arith) in
+        let few = rule.few_clients in
+        record {
+          number = refl;
+          small = omega arith;
+          kinds_are = old.maker_kinds is;
+          done = sym none_done;
+          own = is_absent;
+          ready = λ f. absurd (cc);
+          wide_seen = refl;
+          seen = nothing_seen;
+          covers = λ x. ([], ap (entries_of_client view.made) (unseen view.kinds view.lists view.made x));
+          held = none_held;
+          ended = going;
+          retired = All-nil (λ d. world.ended d ≡ true);
+          back = All-nil (λ (b : PutBack). (world.stage b.row ≡ posted b.request)
+              × (world.holder b.request.object ≡ Some view.made));
+        }
+
+    -- the view of the client that is made is true
+    made_seat : ViewAgrees kinds rule.lists rule.world seats_then seat_made client_made
+    made_seat =
+        let old = rule.seats id view at in
+        record {
+          seen = nothing_seen;
+          received = λ x. (rule.world.log x, refl);
+          left = All-nil (HasLeft rule.world);
+          client = λ _. (changed_here rule.seat_of view.made seat_made, made_agrees);
+          unmade = λ f. absurd (cc);
+          maker_kinds = λ f. absurd (cc);
+          lists_are = λ _. old.maker_lists is;
+          maker_lists = λ f. absurd (cc);
+        }
+
+    -- the view of each client that was made before is true still
+    earlier_seat : (j : ℕ) (u : DeskView) → get_elem? state.views j ≡ some u
+        → ViewAgrees kinds rule.lists rule.world seats_then j u
+    earlier_seat j u h =
+        let b = rule.seats j u h in
+        let not_new : u.role ≡ role.Client → u.number ≢ view.made =
+        λ f same. let made = (rule.makers.made id view at is j u h).0 f in omega arith in
+        let seat : u.role ≡ role.Client → (seats_then u.number ≡ j) × SeatAgrees kinds rule.world u.number u =
+        λ f. let (sits, knows) = b.client f in
+        (changed_else rule.seat_of view.made seat_made u.number (not_new f) ∙ sits, knows) in
+        assumption seat
+
+    -- the views of the maker, of the earlier clients and of the one that is made are true
+    seats_made : (j : ℕ) (u : DeskView) → get_elem? (set state.views id maker_then ++ client_made ∷ []) j ≡ some u
+        → ViewAgrees kinds rule.lists rule.world seats_then j u
+    seats_made j u e = elim (at_end (set state.views id maker_then) client_made u j e) [
+      | inl t ↦ elim (at_set state.views id j maker_then u t) [
+        | inl h ↦ subst (λ z. ViewAgrees kinds rule.lists rule.world seats_then j z) h.1
+            (one_made kinds rule.lists rule.world rule.seat_of seats_then id j view is (rule.seats id view at))
+        | inr h ↦ earlier_seat j u h.1
+      ]
+      | inr t ↦ subst (λ (z : ℕ × DeskView). ViewAgrees kinds rule.lists rule.world seats_then z.0 z.1)
+          (λ i. (sym t.0 i, t.1 i)) made_seat
+    ]
+
+  -- The maker keeps the rule when it makes a client.
   pub making_keeps_rule : (id : ℕ) (view : DeskView) → view.role ≡ role.Maker → view.made < clients
       → Splits DeskRule id view (after_making view) (new_client view.kinds view.lists view.made)
   making_keeps_rule id view is low state rule at =
-      let world : World = rule.world in
-      let client : ℕ = view.made in
       let maker : DeskView = after_making view in
-      let new : DeskView = new_client view.kinds view.lists client in
-      let here : ℕ = length (set state.views id maker) in
-      let seat_of' : ℕ → ℕ = changed rule.seat_of client here in
-      let old = rule.seats id view at in
-      let (is_absent, none_done, going, none_held) = old.unmade is client (omega arith) in
-      let few = rule.few_clients in
-      let nothing_seen : (x : ℕ) → StartsWith (world.log x) (seen_of new x) =
-      λ x. (world.log x, ap (λ z. z ++ world.log x) (sym (unseen view.kinds view.lists client x))) in
-      -- the new client, which knows nothing yet
-      let knows : SeatAgrees kinds world client new = record {
-        number = refl;
-        small = omega arith;
-        kinds_are = old.maker_kinds is;
-        done = sym none_done;
-        own = is_absent;
-        ready = λ f. absurd (cc);
-        wide_seen = refl;
-        seen = nothing_seen;
-        covers = λ x. ([], ap (entries_of_client client) (unseen view.kinds view.lists client x));
-        held = none_held;
-        ended = going;
-        retired = All-nil (λ d. world.ended d ≡ true);
-        back = All-nil (λ (b : PutBack). (world.stage b.row ≡ posted b.request)
-            × (world.holder b.request.object ≡ Some client));
-      } in
+      let new : DeskView = new_client view.kinds view.lists view.made in
       record {
-        world = world;
-        seat_of = seat_of';
+        world = rule.world;
+        seat_of = seats_then rule id view is low at;
         lists = rule.lists;
         few_calls = rule.few_calls;
         few_clients = rule.few_clients;
@@ -175,31 +238,7 @@ module _ {S O R : Type 0} (content : S → Content) (op_in : O → AnyOp) (reply
         come = rule.come;
         sound = rule.sound;
         tied = rule.tied;
-        -- the views of the maker, of the other clients, and of the new one
-        seats = λ j u e. elim (at_end (set state.views id maker) new u j e) [
-          | inl t ↦ elim (at_set state.views id j maker u t) [
-            | inl h ↦ subst (λ z. ViewAgrees kinds rule.lists world seat_of' j z) h.1
-                (one_made kinds rule.lists world rule.seat_of seat_of' id j view is old)
-            | inr h ↦
-                let b = rule.seats j u h.1 in
-                let not_new : u.role ≡ role.Client → u.number ≢ client =
-                λ f same. let made = (rule.makers.made id view at is j u h.1).0 f in omega arith in
-                let seat : u.role ≡ role.Client → (seat_of' u.number ≡ j) × SeatAgrees kinds world u.number u =
-                λ f. let (sits, knows) = b.client f in
-                (changed_else rule.seat_of client here u.number (not_new f) ∙ sits, knows) in
-                assumption seat
-          ]
-          | inr t ↦ subst (λ z. ViewAgrees kinds rule.lists world seat_of' j z) t.1 record {
-            seen = nothing_seen;
-            received = λ x. (world.log x, refl);
-            left = All-nil (HasLeft world);
-            client = λ _. (changed_here rule.seat_of client here ∙ sym t.0, knows);
-            unmade = λ f. absurd (cc);
-            maker_kinds = λ f. absurd (cc);
-            lists_are = λ _. old.maker_lists is;
-            maker_lists = λ f. absurd (cc);
-          }
-        ];
+        seats = seats_made rule id view is low at;
         -- the numbers of the clients
         makers = makers_made clients state.views (set state.views id maker ++ new ∷ []) id view maker new is at refl
             refl refl refl low

@@ -29,6 +29,7 @@ use Rattle.desk_model.specs.World.{AnyEntry, AnyRequest, AnyAnswer, AnyDone, Sta
 use Rattle.desk_model.specs.World.{answered, taken, World, kind_at, logged, logged_on, entries_of_client, served}
 use Rattle.desk_model.specs.World.{served_now, request_of, calls_made, journal_of, IsLegalLog, StartsWith}
 use Rattle.desk_model.specs.Transitions.{changed, staged, ticked}
+use Rattle.desk_model.specs.Sound.{Sound}
 use Rattle.desk_model.specs.Images.{request_in, answer_in}
 use Rattle.desk_model.proofs.Changed.{changed_here, changed_else}
 use Rattle.desk_model.proofs.Entries.{starts_same, logged_here, logged_else, served_more}
@@ -123,6 +124,26 @@ covers_own kinds world client view call is ok object =
     subst
     (λ o. StartsWith (entries_of_client client (seen_of view object))
     (served object client view.done ++ owed object client o)) is (ok.covers object)
+
+-- What the client has seen of each object has its calls that are over still after its answered call has returned.
+covers_returned : (kinds : List Kind) (world : World) (client returned : ℕ) (view : DeskView) (request : AnyRequest)
+    (answer : AnyAnswer) → view.own ≡ own.Taken request answer → SeatAgrees kinds world client view
+    → Covers client view (view.done ++ record { request = request; answer = answer; returned = returned } ∷ []) own.Idle
+covers_returned kinds world client returned view request answer is ok object =
+    let calls : List AnyDone =
+    view.done ++ record { request = request; answer = answer; returned = returned } ∷ [] in
+    let whole = append-nil (served object client calls) ∙ served_more object client returned view.done request answer in
+    subst (StartsWith (entries_of_client client (seen_of view object))) (sym whole)
+    (covers_own kinds world client view (own.Taken request answer) is ok object)
+
+-- All entries that a client has seen of an object have earlier tickets than the clock.
+seen_early : (kinds : List Kind) (quota client object : ℕ) (world : World) (view : DeskView)
+    → Sound kinds quota world → SeatAgrees kinds world client view
+    → All (λ (y : AnyEntry). y.ticket < world.clock) (seen_of view object)
+seen_early kinds quota client object world view sound ok =
+    let (more, begins) = ok.seen object in
+    all_before (λ (y : AnyEntry). y.ticket < world.clock) (seen_of view object) more
+    (subst (All (λ (y : AnyEntry). y.ticket < world.clock)) begins (sound.early object))
 
 module _ {S O R : Type 0} (content : S → Content) (op_in : O → AnyOp) (reply_in : R → AnyReply) (kinds : List Kind)
     (clients quota : ℕ) where
@@ -509,7 +530,6 @@ module _ {S O R : Type 0} (content : S → Content) (op_in : O → AnyOp) (reply
   return_keeps_rule slots id me request answer is_client is free going state rule deep at small =
       let world : World = rule.world in
       let client : ℕ = me.0.number in
-      let object : ℕ = request.object in
       let found : ℕ = get_or state.words clock_place 0 in
       let ok = mine rule id is_client at in
       let was : world.stage client ≡ taken request answer =
@@ -525,11 +545,7 @@ module _ {S O R : Type 0} (content : S → Content) (op_in : O → AnyOp) (reply
       let unpicked : NotPicked (world.stage client) = λ q e. absurd cc in
       let unposted : NotPosted (world.stage client) = λ q e. absurd cc in
       let unanswered : NotAnswered (world.stage client) = λ q a e. absurd cc in
-      let covers : Covers client me.0 (me.0.done ++ last ∷ []) own.Idle =
-      λ y. subst (StartsWith (entries_of_client client (seen_of me.0 y)))
-      (sym (append-nil (served y client (me.0.done ++ last ∷ []))
-      ∙ served_more y client found me.0.done request answer))
-      (covers_own kinds world client me.0 (own.Taken request answer) is ok y) in
+      let covers = covers_returned kinds world client found me.0 request answer is ok in
       let after : After rule me.0 view' (set state.words clock_place ((found + 1) % 2 ^ 64)) state.homes = record {
         world = ticked world client idle calls;
         holders = rule.holders;
@@ -546,19 +562,14 @@ module _ {S O R : Type 0} (content : S → Content) (op_in : O → AnyOp) (reply
         own = seat_unanswered world (world.clock + 1) client idle dones kinds me.0 own.Idle (me.0.done ++ last ∷ [])
             unpicked unposted unanswered refl over covers ok;
       } in
-      -- all entries that were seen of the object have earlier tickets
-      let logged_early : All (λ (y : AnyEntry). y.ticket < found) (world.log object) =
-      subst (λ n. All (λ (y : AnyEntry). y.ticket < n) (world.log object)) (sym rule.tied.clock)
-      (rule.sound.early object) in
-      let (more, begins) = ok.seen object in
-      let seen_early : All (λ (y : AnyEntry). y.ticket < found) (seen_of me.0 object) =
-      all_before (λ (y : AnyEntry). y.ticket < found) (seen_of me.0 object) more
-      (subst (All (λ (y : AnyEntry). y.ticket < found)) begins logged_early) in
+      let early : All (λ (y : AnyEntry). y.ticket < found) (seen_of me.0 request.object) =
+      subst (λ n. All (λ (y : AnyEntry). y.ticket < n) (seen_of me.0 request.object)) (sym rule.tied.clock)
+      (seen_early kinds quota client request.object world me.0 rule.sound ok) in
       let told : play.returns content op_in reply_in (step slots clock_place 1 0 maybe.none) me found (view', me.1) =
       λ q a is'.
       let e = sym is ∙ is' in (
         (λ i. (after_return (ap (request_known request) e i) (ap (answer_known answer) e i) found me.0, me.1)),
         subst (λ z. All (λ (y : AnyEntry). y.ticket < found) (seen_of me.0 z.object)) (ap (request_known request) e)
-            seen_early,
+            early,
       ) in
       (view', keeps, tt, kept_after rule id view' at is_client alike after, told)
