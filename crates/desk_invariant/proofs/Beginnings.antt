@@ -27,7 +27,8 @@ use Rattle.desk_model.specs.Transitions.{changed, staged}
 use Rattle.desk_model.proofs.Changed.{changed_here, changed_else}
 use Rattle.desk_model.proofs.Initial.{sound_initial, sound_coming}
 use Rattle.desk_invariant.specs.Views.{row_place, end_place, clock_place, new_client, first_maker, after_making}
-use Rattle.desk_invariant.specs.Views.{seen_of, received_of, with_own}
+use Rattle.desk_invariant.specs.Views.{seen_of, received_of, with_own, call_slot, journal_slot, table_slots}
+use Rattle.desk_invariant.specs.Views.{table_words}
 use Rattle.desk_invariant.specs.Rule.{row_word, OwnCallAgrees, SeatAgrees, HasLeft, ViewAgrees, HasOneMaker, CoreFits}
 use Rattle.desk_invariant.specs.Rule.{CallAt}
 use Rattle.desk_invariant.specs.Plays as play
@@ -35,6 +36,7 @@ use Rattle.desk_invariant.proofs.Seats.{row_leaves, alike, After, kept_after, co
 use Rattle.desk_invariant.proofs.Ties.{tied_coming}
 use Rattle.desk_invariant.proofs.Calls.{later_gone, seat_unanswered, covers_own}
 use Rattle.publication_list.proofs.RosterMaking.{at_end}
+use Rattle.desk_model.specs.Limits.{max_calls, max_clients, max_objects}
 
 -- each place of a list of copies has the copy, also past the end
 pub get_or-replicate_same : {A : Type 0} (a : A) (n i : ℕ) → get_or (replicate n a) i a ≡ a
@@ -44,7 +46,7 @@ get_or-replicate_same a (suc n) (suc i) = get_or-replicate_same a n i
 
 unseen : (kinds : List Kind) (lists : List TableId) (client object : ℕ)
     → seen_of (new_client kinds lists client) object ≡ []
-unseen kinds lists client object = get_or-replicate_same [] 16 object
+unseen kinds lists client object = get_or-replicate_same [] max_objects object
 
 only : {A : Type 0} (a b : A) (j : ℕ) → get_elem? (a ∷ []) j ≡ some b → (j ≡ 0) × (a ≡ b)
 only a b zero e = (refl, some-injective a b e)
@@ -82,13 +84,13 @@ module _ {S O R : Type 0} (content : S → Content) (op_in : O → AnyOp) (reply
   -- ---- the first state
 
   -- the rule holds of a table with words 0, the cores of all objects in their slots, and the view of the maker alone
-  pub opening_keeps_rule : (lists : List TableId) (words : List ℕ) (slots : List (Slot S O R)) → length kinds < 17
-      → clients < 33 → quota < 10001
-      → length words ≡ 81 → ((i : ℕ) → get_or words i 0 ≡ 0) → length slots ≡ 80
+  pub opening_keeps_rule : (lists : List TableId) (words : List ℕ) (slots : List (Slot S O R))
+      → length kinds < 1 + max_objects → clients < 1 + max_clients → quota < 1 + max_calls
+      → length words ≡ table_words → ((i : ℕ) → get_or words i 0 ≡ 0) → length slots ≡ table_slots
       → ((x : ℕ) → x < length kinds
       → (k : Core S O R) × (get_elem? slots x ≡ some (slot.Core k))
       × CoreFits content op_in reply_in (kind_at kinds x) (get_elem? lists x) k [])
-      → ((i : ℕ) → 16 ≤ i → i < 80 → get_elem? slots i ≡ some slot.Nothing)
+      → ((i : ℕ) → max_objects ≤ i → i < table_slots → get_elem? slots i ≡ some slot.Nothing)
       → DeskRule (opening words slots (first_maker kinds lists))
   opening_keeps_rule lists words slots few people small wide zeros deep cores others = record {
     world = initial_world;
@@ -109,9 +111,10 @@ module _ {S O R : Type 0} (content : S → Content) (op_in : O → AnyOp) (reply
       ends = λ c l. zeros (end_place c);
       clock = zeros clock_place;
       cores = λ x l e. let (core, home, fits) = cores x l in (core, at_map some slots x (slot.Core core) home, fits);
-      calls = λ r l. at_map some slots (16 + r) slot.Nothing (others (16 + r) (omega arith) (omega arith));
+      calls = λ r l. at_map some slots (call_slot r) slot.Nothing (others (call_slot r) (omega arith) (omega arith));
       journals = λ c l. record {
-        at_first = λ e. at_map some slots (48 + c) slot.Nothing (others (48 + c) (omega arith) (omega arith));
+        at_first = λ e. at_map some slots (journal_slot c) slot.Nothing
+            (others (journal_slot c) (omega arith) (omega arith));
         at_last = λ e. absurd (cc);
       };
     };
@@ -119,7 +122,7 @@ module _ {S O R : Type 0} (content : S → Content) (op_in : O → AnyOp) (reply
     seats = λ j v e.
         let a = only (first_maker kinds lists) v j e in
         let seen : (x : ℕ) → StartsWith [] (seen_of (first_maker kinds lists) x) =
-        λ x. ([], ap (λ z. z ++ []) (sym (get_or-replicate_same [] 16 x))) in
+        λ x. ([], ap (λ z. z ++ []) (sym (get_or-replicate_same [] max_objects x))) in
         let received : (x : ℕ) → StartsWith [] (received_of (first_maker kinds lists) x) = λ x. ([], refl) in
         let left = All-nil (HasLeft initial_world) in
         subst (λ z. ViewAgrees kinds lists initial_world (λ _. 0) j z) a.1 (grind arith);
@@ -253,7 +256,7 @@ module _ {S O R : Type 0} (content : S → Content) (op_in : O → AnyOp) (reply
   -- the first step of a client keeps the rule: it takes its two slots out
   pub begin_keeps_rule : (slots id client : ℕ) (me : Me (Slot S O R) DeskView) → me.0.role ≡ role.Client
       → me.0.number ≡ client
-      → client < 32 → me.0.own ≡ own.Absent → me.0.held ≡ held.Free → me.0.ended ≡ false
+      → client < max_clients → me.0.own ≡ own.Absent → me.0.held ≡ held.Free → me.0.ended ≡ false
       → Allows DeskRule slots id me (row_place client) (λ f. f)
       (play.begins content op_in reply_in (step slots (row_place client) 0 0 maybe.none) me)
   begin_keeps_rule slots id client me is_client number low is free going state rule deep at small =
@@ -266,15 +269,16 @@ module _ {S O R : Type 0} (content : S → Content) (op_in : O → AnyOp) (reply
       let world' : World = staged world client idle in
       let view' : DeskView = with_own own.Idle me.0 in
       -- the client's two slots are at home
-      let homes : List (maybe.Option (Slot S O R)) = set state.homes (48 + client) maybe.none in
-      let journal : get_elem? state.homes (48 + client) ≡ some (some slot.Nothing) =
+      let homes : List (maybe.Option (Slot S O R)) = set state.homes (journal_slot client) maybe.none in
+      let journal : get_elem? state.homes (journal_slot client) ≡ some (some slot.Nothing) =
       (rule.tied.journals client low).at_first was in
-      let call : get_elem? state.homes (16 + client) ≡ some (some slot.Nothing) =
-      subst (CallAt content op_in reply_in (get_elem? state.homes (16 + client))) was (rule.tied.calls client low) in
-      let call' : get_elem? homes (16 + client) ≡ some (some slot.Nothing) =
-      set_else state.homes (48 + client) (16 + client) maybe.none (λ e. omega arith) ∙ call in
+      let call : get_elem? state.homes (call_slot client) ≡ some (some slot.Nothing) =
+      subst (CallAt content op_in reply_in (get_elem? state.homes (call_slot client))) was
+      (rule.tied.calls client low) in
+      let call' : get_elem? homes (call_slot client) ≡ some (some slot.Nothing) =
+      set_else state.homes (journal_slot client) (call_slot client) maybe.none (λ e. omega arith) ∙ call in
       let after : After rule me.0 view' (set state.words (row_place client) found)
-      (set homes (16 + client) maybe.none) =
+      (set homes (call_slot client) maybe.none) =
       record {
         world = world';
         holders = rule.holders;
@@ -294,12 +298,12 @@ module _ {S O R : Type 0} (content : S → Content) (op_in : O → AnyOp) (reply
             ok);
       } in
       let told : play.begins content op_in reply_in (step slots (row_place client) 0 0 maybe.none) me found
-      (view', (16 + client, slot.Nothing) ∷ (48 + client, slot.Nothing) ∷ me.1) =
+      (view', (call_slot client, slot.Nothing) ∷ (journal_slot client, slot.Nothing) ∷ me.1) =
       λ client' place.
       let same : client ≡ client' = omega arith in
-      ap (λ (z : ℕ). (view', (16 + z, slot.Nothing) ∷ (48 + z, slot.Nothing) ∷ me.1)) same in (
+      ap (λ (z : ℕ). (view', (call_slot z, slot.Nothing) ∷ (journal_slot z, slot.Nothing) ∷ me.1)) same in (
         view',
-        chain (takes (48 + client) slot.Nothing) (takes (16 + client) slot.Nothing),
+        chain (takes (journal_slot client) slot.Nothing) (takes (call_slot client) slot.Nothing),
         (journal, call'),
         kept_after rule id view' at is_client alike after,
         told,

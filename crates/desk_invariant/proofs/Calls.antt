@@ -36,7 +36,7 @@ use Rattle.desk_model.proofs.Entries.{starts_same, logged_here, logged_else, ser
 use Rattle.desk_model.proofs.Effects.{NotPicked, sound_staged, sound_called, sound_returned, clock_low}
 use Rattle.desk_invariant.specs.Views.{row_place, clock_place, seen_of, owed, after_miss, with_own, after_take}
 use Rattle.desk_invariant.specs.Views.{after_return, after_meet, call_slot, answered_word}
-use Rattle.desk_model.specs.Limits.{max_objects}
+use Rattle.desk_model.specs.Limits.{max_objects, max_clients}
 use Rattle.desk_invariant.specs.Rule.{row_word, OwnCallAgrees, HeldAgrees, SeatAgrees, CallAt}
 use Rattle.desk_invariant.specs.Plays as play
 use Rattle.desk_invariant.proofs.Seats.{NotPosted, NotAnswered, IsAnswered, rows_stay, Later, KeepsEnded, row_leaves}
@@ -238,7 +238,8 @@ module _ {S O R : Type 0} (content : S → Content) (op_in : O → AnyOp) (reply
   pub post_keeps_rule : (slots id client word : ℕ) (me : Me (Slot S O R) DeskView) (request : AnyRequest)
       (sent : Request O) (more : List (ℕ × Slot S O R))
       → me.0.role ≡ role.Client → me.0.number ≡ client → me.0.own ≡ own.Drawn request → me.0.held ≡ held.Free
-      → request_in op_in sent ≡ request → word ≡ 1 + request.object → me.1 ≡ (16 + client, slot.Request sent) ∷ more
+      → request_in op_in sent ≡ request → word ≡ 1 + request.object
+      → me.1 ≡ (call_slot client, slot.Request sent) ∷ more
       → Allows DeskRule slots id me (row_place client) (λ _. word)
       (λ _. play.posts content op_in reply_in (step slots (row_place client) word 0 maybe.none) me word)
   post_keeps_rule slots id client word me request sent more is_client number is free same is_word carried state rule
@@ -253,7 +254,7 @@ module _ {S O R : Type 0} (content : S → Content) (op_in : O → AnyOp) (reply
       let unposted : NotPosted (world.stage client) = λ q e. absurd cc in
       let unanswered : NotAnswered (world.stage client) = λ q a e. absurd cc in
       let after : After rule me.0 view' (set state.words (row_place client) word)
-      (set state.homes (16 + client) (some (slot.Request sent))) =
+      (set state.homes (call_slot client) (some (slot.Request sent))) =
       record {
         world = staged world client stage;
         holders = rule.holders;
@@ -281,13 +282,14 @@ module _ {S O R : Type 0} (content : S → Content) (op_in : O → AnyOp) (reply
 
   -- ---- looking for the answer, and taking it
 
-  is_answered : (call : Own) (stage : Stage) (request : AnyRequest) → call ≡ own.Waiting request → request.object < 16
-      → OwnCallAgrees call stage → row_word stage ≡ 33 → (answer : AnyAnswer) × (stage ≡ answered request answer)
+  is_answered : (call : Own) (stage : Stage) (request : AnyRequest) → call ≡ own.Waiting request
+      → request.object < max_objects → OwnCallAgrees call stage → row_word stage ≡ answered_word
+      → (answer : AnyAnswer) × (stage ≡ answered request answer)
   is_answered call stage request is low ok word = grind arith
 
   -- a client does not know that its row is answered, if its word is another one
   not_ready : (world : World) (client : ℕ) (view : DeskView) → SeatAgrees kinds world client view
-      → row_word (world.stage client) ≢ 33 → view.ready ≡ false
+      → row_word (world.stage client) ≢ answered_word → view.ready ≡ false
   not_ready world client view ok miss =
       false_from_ne_true view.ready (λ e. let (q, a, at) = ok.ready e in miss (ap row_word at))
 
@@ -310,7 +312,7 @@ module _ {S O R : Type 0} (content : S → Content) (op_in : O → AnyOp) (reply
 
   -- a look at the own row keeps the rule, whether there is an answer or not
   pub look_for_answer_keeps_rule : (slots id client : ℕ) (me : Me (Slot S O R) DeskView) → me.0.role ≡ role.Client
-      → me.0.number ≡ client → client < 32
+      → me.0.number ≡ client → client < max_clients
       → Allows DeskRule slots id me (row_place client) (λ f. f)
       (play.looks_for_answer content op_in reply_in (step slots (row_place client) 0 0 maybe.none) me)
   look_for_answer_keeps_rule slots id client me is_client number few state rule deep at small =
@@ -319,7 +321,7 @@ module _ {S O R : Type 0} (content : S → Content) (op_in : O → AnyOp) (reply
       let ok = subst (λ z. SeatAgrees kinds world z me.0) number (mine rule id is_client at) in
       let word : found ≡ row_word (world.stage client) = rule.tied.rows client few in
       let look : Step (Slot S O R) = step slots (row_place client) 0 0 maybe.none in
-      dite (ℕ_discrete found 33)
+      dite (ℕ_discrete found answered_word)
       (λ hit.
       let told : play.looks_for_answer content op_in reply_in look me found me =
       λ d q own_row here waiting. ((λ _. refl), λ miss. absurd (miss hit)) in
@@ -506,14 +508,14 @@ module _ {S O R : Type 0} (content : S → Content) (op_in : O → AnyOp) (reply
   -- a try to take the answer keeps the rule, while the client holds nothing
   pub take_keeps_rule : (slots id client : ℕ) (me : Me (Slot S O R) DeskView) (request : AnyRequest)
       → me.0.role ≡ role.Client → me.0.number ≡ client
-      → me.0.own ≡ own.Waiting request → me.0.held ≡ held.Free → request.object < 16 → client < 32
-      → Allows DeskRule slots id me (row_place client) (λ f. either (eqb f 33) 0 f)
-      (play.takes_answer content op_in reply_in (step slots (row_place client) 33 0 maybe.none) me)
+      → me.0.own ≡ own.Waiting request → me.0.held ≡ held.Free → request.object < max_objects → client < max_clients
+      → Allows DeskRule slots id me (row_place client) (λ f. either (eqb f answered_word) 0 f)
+      (play.takes_answer content op_in reply_in (step slots (row_place client) answered_word 0 maybe.none) me)
   take_keeps_rule slots id client me request is_client number is free low few =
       subst
-      (λ z. Allows DeskRule slots id me (row_place z) (λ f. either (eqb f 33) 0 f)
-      (play.takes_answer content op_in reply_in (step slots (row_place z) 33 0 maybe.none) me)) number
-      (λ state rule deep at small. dite (ℕ_discrete (get_or state.words (row_place me.0.number) 0) 33)
+      (λ z. Allows DeskRule slots id me (row_place z) (λ f. either (eqb f answered_word) 0 f)
+      (play.takes_answer content op_in reply_in (step slots (row_place z) answered_word 0 maybe.none) me)) number
+      (λ state rule deep at small. dite (ℕ_discrete (get_or state.words (row_place me.0.number) 0) answered_word)
       (take_hits rule slots id me request is_client at is low) (take_misses rule slots id me request is_client at is))
 
   -- ---- drawing the ticket of the return

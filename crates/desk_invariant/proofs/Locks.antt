@@ -36,6 +36,7 @@ use Rattle.desk_invariant.proofs.Seats.{InRow, Later, alike, pass_of, After, All
 use Rattle.desk_invariant.proofs.Seats.{misses, Rule}
 use Rattle.desk_invariant.proofs.Seeing.{all_covered, saw, accounts}
 use Rattle.desk_invariant.proofs.Ties.{tied_lock}
+use Rattle.desk_model.specs.Limits.{max_objects}
 
 free_lock : (holder : Option ℕ) → lock_word holder ≡ 0 → holder ≡ None
 free_lock None e = refl
@@ -257,7 +258,7 @@ module _ {S O R : Type 0} (content : S → Content) (op_in : O → AnyOp) (reply
       let pass = pass_of ok holding in
       let inside = pass.inside in
       let few = rule.tied.objects in
-      let low : object < 16 = omega arith in
+      let low : object < max_objects = omega arith in
       let world' : World = held_by world object None in
       let view' : DeskView = after_release object log me.0 in
       -- the core fits the log of the world

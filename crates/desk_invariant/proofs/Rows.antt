@@ -48,7 +48,7 @@ use Rattle.desk_invariant.proofs.Ties.{tied_row}
 use Rattle.desk_invariant.proofs.Locks.{held_log, held_object, one_object, one_log}
 
 -- a row that has the word of a request for the object has such a request
-is_posted : (stage : Stage) (object : ℕ) → object < 16 → row_word stage ≡ 1 + object
+is_posted : (stage : Stage) (object : ℕ) → object < max_objects → row_word stage ≡ 1 + object
     → (request : AnyRequest) × (stage ≡ posted request) × (request.object ≡ object)
 is_posted stage object low word = grind arith
 
@@ -211,7 +211,7 @@ module _ {S O R : Type 0} (content : S → Content) (op_in : O → AnyOp) (reply
 
   -- a look at a row keeps the rule, with an object held and nothing in hand
   pub look_at_row_keeps_rule : (slots id object row : ℕ) (me : Me (Slot S O R) DeskView) (log : List AnyEntry)
-      → me.0.role ≡ role.Client → row < 32 → me.0.held ≡ held.Pass object log
+      → me.0.role ≡ role.Client → row < max_clients → me.0.held ≡ held.Pass object log
       → Allows DeskRule slots id me (row_place row) (λ f. f)
       (play.looks_at_row content op_in reply_in (step slots (row_place row) 0 0 maybe.none) me)
   look_at_row_keeps_rule slots id object row me log is_client few holding state rule deep at small =
@@ -427,9 +427,10 @@ module _ {S O R : Type 0} (content : S → Content) (op_in : O → AnyOp) (reply
 
   -- a try to pick up a row's request keeps the rule, with its object held and nothing in hand
   pub pick_keeps_rule : (slots id object row : ℕ) (me : Me (Slot S O R) DeskView) (log : List AnyEntry)
-      → me.0.role ≡ role.Client → row < 32 → me.0.held ≡ held.Pass object log
-      → Allows DeskRule slots id me (row_place row) (λ f. either (eqb f (1 + object)) (17 + object) f)
-      (play.picks content op_in reply_in (step slots (row_place row) (1 + object) (17 + object) maybe.none) me)
+      → me.0.role ≡ role.Client → row < max_clients → me.0.held ≡ held.Pass object log
+      → Allows DeskRule slots id me (row_place row) (λ f. either (eqb f (1 + object)) (first_picked + object) f)
+      (play.picks content op_in reply_in (step slots (row_place row) (1 + object) (first_picked + object) maybe.none)
+      me)
   pick_keeps_rule slots id object row me log is_client few holding state rule deep at small =
       dite (ℕ_discrete (get_or state.words (row_place row) 0) (1 + object))
       (pick_hits rule slots id object row me log is_client at few holding)
@@ -526,7 +527,7 @@ module _ {S O R : Type 0} (content : S → Content) (op_in : O → AnyOp) (reply
   pub put_back_keeps_rule : (slots id object row word : ℕ) (me : Me (Slot S O R) DeskView) (log : List AnyEntry)
       (request : AnyRequest) (sent : Request O) (more : List (ℕ × Slot S O R))
       → me.0.role ≡ role.Client → me.0.held ≡ held.Hand object log row request
-      → me.1 ≡ (16 + row, slot.Request sent) ∷ more → request_in op_in sent ≡ request → request.object ≡ object
+      → me.1 ≡ (call_slot row, slot.Request sent) ∷ more → request_in op_in sent ≡ request → request.object ≡ object
       → word ≡ 1 + object
       → Allows DeskRule slots id me (row_place row) (λ _. word)
       (λ _. play.puts_back content op_in reply_in (step slots (row_place row) word 0 maybe.none) me word)
@@ -668,17 +669,18 @@ module _ {S O R : Type 0} (content : S → Content) (op_in : O → AnyOp) (reply
   pub answer_keeps_rule : (slots id object row : ℕ) (me : Me (Slot S O R) DeskView) (log : List AnyEntry)
       (request : AnyRequest) (given : Answer R) (more : List (ℕ × Slot S O R))
       → me.0.role ≡ role.Client → me.0.held ≡ held.Hand object log row request
-      → me.1 ≡ (16 + row, slot.Answer given) ∷ more → request.object ≡ object
+      → me.1 ≡ (call_slot row, slot.Answer given) ∷ more → request.object ≡ object
       → IsLegalLog (kind_at me.0.kinds object) (log ++ logged row request (answer_in reply_in given))
-      → Allows DeskRule slots id me (row_place row) (λ _. 33)
-      (λ _. play.answers content op_in reply_in (step slots (row_place row) 33 0 maybe.none) me 33)
+      → Allows DeskRule slots id me (row_place row) (λ _. answered_word)
+      (λ _. play.answers content op_in reply_in (step slots (row_place row) answered_word 0 maybe.none) me
+      answered_word)
   answer_keeps_rule slots id object row me log request given more is_client holding carried on legal state rule deep at
       small =
       let view' : DeskView = after_answer row object (log ++ logged row request (answer_in reply_in given)) me.0 in
       let after = after_answering rule id object row me log request given is_client at holding on legal in
       -- the view and the slots in hand after the step
-      let told : play.answers content op_in reply_in (step slots (row_place row) 33 0 maybe.none) me 33
-      (view', rest me.1) =
+      let told : play.answers content op_in reply_in (step slots (row_place row) answered_word 0 maybe.none) me
+      answered_word (view', rest me.1) =
       λ object' row' i log' request' given' more' holding' carried'.
       let same = sym holding ∙ holding' in
       let same_given = ap (answer_carried given) (sym carried ∙ carried') in

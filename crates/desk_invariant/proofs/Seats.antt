@@ -32,6 +32,7 @@ use Rattle.desk_model.proofs.Entries.{starts_longer, starts_same}
 use Rattle.desk_invariant.specs.Views.{seen_of, received_of, after_miss}
 use Rattle.desk_invariant.specs.Rule.{OwnCallAgrees, HoldsOnly, HeldAgrees, SeatAgrees, HasLeft, ViewAgrees}
 use Rattle.desk_invariant.specs.Rule.{HasOneMaker, Tied, Kept}
+use Rattle.desk_model.specs.Limits.{max_clients}
 
 -- ---- what a step leaves to the other clients
 
@@ -201,7 +202,7 @@ pub record IsHand (kinds : List Kind) (world : World) (client object : ℕ) (log
   pub in_hand : world.hand object ≡ Some row
   pub logged : world.log object ≡ log
   pub only : HoldsOnly world client object
-  pub few : row < 32
+  pub few : row < max_clients
   pub picked_up : world.stage row ≡ picked request
 
 -- what the view of such a client tells
