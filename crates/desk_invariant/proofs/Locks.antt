@@ -243,6 +243,68 @@ module _ {S O R : Type 0} (content : S → Content) (op_in : O → AnyOp) (reply
 
   -- ---- releasing the object
 
+  -- a client that holds an object with a free hand releases it, with a core that fits its log
+  module _ {state : State (Slot S O R) DeskView} (rule : DeskRule state) (id object : ℕ)
+      (me : Me (Slot S O R) DeskView) (log : List AnyEntry) (core : Core S O R) (is_client : me.0.role ≡ role.Client)
+      (at : get_elem? state.views id ≡ some me.0) (holding : me.0.held ≡ held.Pass object log)
+      (fits : CoreFits content op_in reply_in (kind_at me.0.kinds object) (get_elem? me.0.lists object) core log) where
+    -- the world after the release
+    abbrev world_released : World
+    world_released = held_by rule.world object None
+
+    -- The client agrees with the world once it holds nothing and has seen the log.
+    releaser_agrees : SeatAgrees kinds world_released me.0.number (after_release object log me.0)
+    releaser_agrees =
+        let world : World = rule.world in
+        let client : ℕ = me.0.number in
+        let ok = mine rule id is_client at in
+        let pass = pass_of ok holding in
+        let inside = pass.inside in
+        let few = rule.tied.objects in
+        let low : object < max_objects = omega arith in
+        let whole : List AnyEntry = world.log object in
+        let covers = all_covered kinds quota world client object me.0.done me.0.own ok.done ok.own rule.sound in
+        let seat = saw kinds world client object me.0 whole low (starts_same whole) covers ok in
+        let nothing : (y : ℕ) → world_released.holder y ≢ Some client =
+        changed_all (λ y h. h ≢ Some client) world.holder object None (λ e. absurd (cc))
+        (λ y other e. other (pass.only y e)) in
+        let no_rows = All-nil (InRow world.stage world_released.holder client) in
+        subst (λ z. SeatAgrees kinds world_released client (after_release object z me.0)) pass.logged
+        (seat_held kinds world client object None (after_meet object whole me.0) held.Free [] me.0.won no_rows seat
+        nothing)
+
+    -- The core fits the log of the world.
+    core_fits : CoreFits content op_in reply_in (kind_at kinds object) (get_elem? rule.lists object) core
+        (rule.world.log object)
+    core_fits =
+        let ok = mine rule id is_client at in
+        let pass = pass_of ok holding in
+        let lists_are = (rule.seats id me.0 at).lists_are is_client in
+        subst (λ (z : List Kind × List TableId × List AnyEntry). CoreFits content op_in reply_in (kind_at z.0 object)
+        (get_elem? z.1 object) core z.2) (λ i. (ok.kinds_are i, lists_are i, sym pass.logged i)) fits
+
+    -- what the rule asks of the world after the release
+    after_releasing : After rule me.0 (after_release object log me.0) (set state.words object 0)
+        (set state.homes object (some (slot.Core core)))
+    after_releasing =
+        let world : World = rule.world in
+        let pass = pass_of (mine rule id is_client at) holding in
+        record {
+          world = world_released;
+          holders = λ y d. changed_all (λ y h. h ≡ Some d → (d < clients) × (world.ended d ≡ false)) world.holder object
+              None (λ e. absurd (cc)) (λ y _. rule.holders y d) y;
+          come = rule.come;
+          sound = sound_held kinds quota world object None (λ _. pass.free) rule.sound;
+          -- the words and the slots agree with the new world
+          tied = tied_lock object 0 None (some (slot.Core core)) pass.inside refl
+              (λ _. (core, refl, core_fits)) rule.tied;
+          leave = λ d e. (e, refl);
+          -- the other clients keep what they know
+          others = λ another other. later_held world object another None
+              (λ e. other (sym (same_Some me.0.number another (sym pass.holds ∙ e)))) (λ e. absurd (cc));
+          own = releaser_agrees;
+        }
+
   -- a release keeps the rule, if the core in the client's hands fits the log that the client knows
   pub release_keeps_rule : (slots id object : ℕ) (me : Me (Slot S O R) DeskView) (log : List AnyEntry)
       (core : Core S O R) (more : List (ℕ × Slot S O R)) → me.0.role ≡ role.Client → me.0.held ≡ held.Pass object log
@@ -253,44 +315,11 @@ module _ {S O R : Type 0} (content : S → Content) (op_in : O → AnyOp) (reply
       (λ _. play.releases content op_in reply_in (step slots object 0 0 maybe.none) me 0)
   release_keeps_rule slots id object me log core more is_client holding carried fits calm state rule deep at small =
       let world : World = rule.world in
-      let client : ℕ = me.0.number in
       let ok = mine rule id is_client at in
       let pass = pass_of ok holding in
-      let inside = pass.inside in
-      let few = rule.tied.objects in
-      let low : object < max_objects = omega arith in
-      let world' : World = held_by world object None in
       let view' : DeskView = after_release object log me.0 in
-      -- the core fits the log of the world
-      let lists_are = (rule.seats id me.0 at).lists_are is_client in
-      let fits' : CoreFits content op_in reply_in (kind_at kinds object) (get_elem? rule.lists object) core
-      (world.log object) =
-      subst (λ (z : List Kind × List TableId × List AnyEntry). CoreFits content op_in reply_in (kind_at z.0 object)
-      (get_elem? z.1 object) core z.2) (λ i. (ok.kinds_are i, lists_are i, sym pass.logged i)) fits in
-      -- the client holds nothing, and has seen the log
-      let covers = all_covered kinds quota world client object me.0.done me.0.own ok.done ok.own rule.sound in
-      let seat = saw kinds world client object me.0 (world.log object) low (starts_same (world.log object)) covers ok in
-      let nothing : (y : ℕ) → world'.holder y ≢ Some client =
-      changed_all (λ y h. h ≢ Some client) world.holder object None (λ e. absurd (cc))
-      (λ y other e. other (pass.only y e)) in
-      let no_rows = All-nil (InRow world.stage world'.holder client) in
-      let after : After rule me.0 view' (set state.words object 0) (set state.homes object (some (slot.Core core))) =
-      record {
-        world = world';
-        holders = λ y d. changed_all (λ y h. h ≡ Some d → (d < clients) × (world.ended d ≡ false)) world.holder object
-            None (λ e. absurd (cc)) (λ y _. rule.holders y d) y;
-        come = rule.come;
-        sound = sound_held kinds quota world object None (λ _. pass.free) rule.sound;
-        -- the words and the slots agree with the new world
-        tied = tied_lock object 0 None (some (slot.Core core)) inside refl (λ _. (core, refl, fits')) rule.tied;
-        leave = λ d e. (e, refl);
-        -- the other clients keep what they know
-        others = λ another other. later_held world object another None
-            (λ e. other (sym (same_Some client another (sym pass.holds ∙ e)))) (λ e. absurd (cc));
-        own = subst (λ z. SeatAgrees kinds world' client (after_release object z me.0)) pass.logged
-            (seat_held kinds world client object None (after_meet object (world.log object) me.0) held.Free [] me.0.won
-            no_rows seat nothing);
-      } in
+      let after = after_releasing rule id object me log core is_client at holding fits in
+      let covers = all_covered kinds quota world me.0.number object me.0.done me.0.own ok.done ok.own rule.sound in
       let account : IsAccount object me.0 (world.log object) =
       accounts kinds quota world object me.0 (world.log object) calm ok.done ok.own rule.sound
       (starts_same (world.log object)) covers in

@@ -200,8 +200,8 @@ module _ {S O R : Type 0} {content : S → Content} {op_in : O → AnyOp} {reply
 
   -- the client comes, and takes its two slots out
   pub tied_coming : (client word : ℕ) (stage : Stage) → client < max_clients → stage ≢ absent
-      → world.ended client ≡ false → word ≡ row_word stage → ((home : Home S O R)
-      → CallAt content op_in reply_in home stage)
+      → world.ended client ≡ false → word ≡ row_word stage
+      → ((home : Home S O R) → CallAt content op_in reply_in home stage)
       → Tied content op_in reply_in kinds lists world words homes
       → Tied content op_in reply_in kinds lists (staged world client stage) (set words (row_place client) word)
       (set (set homes (journal_slot client) maybe.none) (call_slot client) maybe.none)
