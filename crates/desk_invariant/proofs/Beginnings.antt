@@ -27,7 +27,8 @@ use Rattle.desk_model.specs.Transitions.{changed, staged}
 use Rattle.desk_model.proofs.Changed.{changed_here, changed_else}
 use Rattle.desk_model.proofs.Initial.{sound_initial, sound_coming}
 use Rattle.desk_invariant.specs.Views.{row_place, end_place, clock_place, new_client, first_maker, after_making}
-use Rattle.desk_invariant.specs.Views.{seen_of, received_of, with_own}
+use Rattle.desk_invariant.specs.Views.{seen_of, received_of, with_own, call_slot, journal_slot, table_slots}
+use Rattle.desk_invariant.specs.Views.{table_words}
 use Rattle.desk_invariant.specs.Rule.{row_word, OwnCallAgrees, SeatAgrees, HasLeft, ViewAgrees, HasOneMaker, CoreFits}
 use Rattle.desk_invariant.specs.Rule.{CallAt}
 use Rattle.desk_invariant.specs.Plays as play
@@ -35,6 +36,7 @@ use Rattle.desk_invariant.proofs.Seats.{row_leaves, alike, After, kept_after, co
 use Rattle.desk_invariant.proofs.Ties.{tied_coming}
 use Rattle.desk_invariant.proofs.Calls.{later_gone, seat_unanswered, covers_own}
 use Rattle.publication_list.proofs.RosterMaking.{at_end}
+use Rattle.desk_model.specs.Limits.{max_calls, max_clients, max_objects}
 
 -- each place of a list of copies has the copy, also past the end
 pub get_or-replicate_same : {A : Type 0} (a : A) (n i : ℕ) → get_or (replicate n a) i a ≡ a
@@ -44,7 +46,7 @@ get_or-replicate_same a (suc n) (suc i) = get_or-replicate_same a n i
 
 unseen : (kinds : List Kind) (lists : List TableId) (client object : ℕ)
     → seen_of (new_client kinds lists client) object ≡ []
-unseen kinds lists client object = get_or-replicate_same [] 16 object
+unseen kinds lists client object = get_or-replicate_same [] max_objects object
 
 only : {A : Type 0} (a b : A) (j : ℕ) → get_elem? (a ∷ []) j ≡ some b → (j ≡ 0) × (a ≡ b)
 only a b zero e = (refl, some-injective a b e)
@@ -82,13 +84,13 @@ module _ {S O R : Type 0} (content : S → Content) (op_in : O → AnyOp) (reply
   -- ---- the first state
 
   -- the rule holds of a table with words 0, the cores of all objects in their slots, and the view of the maker alone
-  pub opening_keeps_rule : (lists : List TableId) (words : List ℕ) (slots : List (Slot S O R)) → length kinds < 17
-      → clients < 33 → quota < 10001
-      → length words ≡ 81 → ((i : ℕ) → get_or words i 0 ≡ 0) → length slots ≡ 80
+  pub opening_keeps_rule : (lists : List TableId) (words : List ℕ) (slots : List (Slot S O R))
+      → length kinds < 1 + max_objects → clients < 1 + max_clients → quota < 1 + max_calls
+      → length words ≡ table_words → ((i : ℕ) → get_or words i 0 ≡ 0) → length slots ≡ table_slots
       → ((x : ℕ) → x < length kinds
       → (k : Core S O R) × (get_elem? slots x ≡ some (slot.Core k))
       × CoreFits content op_in reply_in (kind_at kinds x) (get_elem? lists x) k [])
-      → ((i : ℕ) → 16 ≤ i → i < 80 → get_elem? slots i ≡ some slot.Nothing)
+      → ((i : ℕ) → max_objects ≤ i → i < table_slots → get_elem? slots i ≡ some slot.Nothing)
       → DeskRule (opening words slots (first_maker kinds lists))
   opening_keeps_rule lists words slots few people small wide zeros deep cores others = record {
     world = initial_world;
@@ -109,9 +111,10 @@ module _ {S O R : Type 0} (content : S → Content) (op_in : O → AnyOp) (reply
       ends = λ c l. zeros (end_place c);
       clock = zeros clock_place;
       cores = λ x l e. let (core, home, fits) = cores x l in (core, at_map some slots x (slot.Core core) home, fits);
-      calls = λ r l. at_map some slots (16 + r) slot.Nothing (others (16 + r) (omega arith) (omega arith));
+      calls = λ r l. at_map some slots (call_slot r) slot.Nothing (others (call_slot r) (omega arith) (omega arith));
       journals = λ c l. record {
-        at_first = λ e. at_map some slots (48 + c) slot.Nothing (others (48 + c) (omega arith) (omega arith));
+        at_first = λ e. at_map some slots (journal_slot c) slot.Nothing
+            (others (journal_slot c) (omega arith) (omega arith));
         at_last = λ e. absurd (cc);
       };
     };
@@ -119,7 +122,7 @@ module _ {S O R : Type 0} (content : S → Content) (op_in : O → AnyOp) (reply
     seats = λ j v e.
         let a = only (first_maker kinds lists) v j e in
         let seen : (x : ℕ) → StartsWith [] (seen_of (first_maker kinds lists) x) =
-        λ x. ([], ap (λ z. z ++ []) (sym (get_or-replicate_same [] 16 x))) in
+        λ x. ([], ap (λ z. z ++ []) (sym (get_or-replicate_same [] max_objects x))) in
         let received : (x : ℕ) → StartsWith [] (received_of (first_maker kinds lists) x) = λ x. ([], refl) in
         let left = All-nil (HasLeft initial_world) in
         subst (λ z. ViewAgrees kinds lists initial_world (λ _. 0) j z) a.1 (grind arith);
@@ -134,40 +137,103 @@ module _ {S O R : Type 0} (content : S → Content) (op_in : O → AnyOp) (reply
 
   -- ---- making a client
 
+  -- the maker of clients makes one more
+  module _ {state : State (Slot S O R) DeskView} (rule : DeskRule state) (id : ℕ) (view : DeskView)
+      (is : view.role ≡ role.Maker) (low : view.made < clients) (at : get_elem? state.views id ≡ some view) where
+    -- the maker's view then
+    abbrev maker_then : DeskView
+    maker_then = after_making view
+
+    -- the view of the client that is made
+    abbrev client_made : DeskView
+    client_made = new_client view.kinds view.lists view.made
+
+    -- the seat of the client that is made
+    abbrev seat_made : ℕ
+    seat_made = length (set state.views id maker_then)
+
+    -- the seat of each client then
+    abbrev seats_then : ℕ → ℕ
+    seats_then = changed rule.seat_of view.made seat_made
+
+    -- The client that is made has seen nothing, with which each log begins.
+    nothing_seen : (x : ℕ) → StartsWith (rule.world.log x) (seen_of client_made x)
+    nothing_seen x =
+        (rule.world.log x, ap (λ z. z ++ rule.world.log x) (sym (unseen view.kinds view.lists view.made x)))
+
+    -- The client that is made, which knows nothing yet, agrees with the world.
+    made_agrees : SeatAgrees kinds rule.world view.made client_made
+    made_agrees =
+        let world : World = rule.world in
+        let old = rule.seats id view at in
+        let (is_absent, none_done, going, none_held) = old.unmade is view.made (omega arith) in
+        let few = rule.few_clients in
+        record {
+          number = refl;
+          small = omega arith;
+          kinds_are = old.maker_kinds is;
+          done = sym none_done;
+          own = is_absent;
+          ready = λ f. absurd (cc);
+          wide_seen = refl;
+          seen = nothing_seen;
+          covers = λ x. ([], ap (entries_of_client view.made) (unseen view.kinds view.lists view.made x));
+          held = none_held;
+          ended = going;
+          retired = All-nil (λ d. world.ended d ≡ true);
+          back = All-nil (λ (b : PutBack). (world.stage b.row ≡ posted b.request)
+              × (world.holder b.request.object ≡ Some view.made));
+        }
+
+    -- the view of the client that is made is true
+    made_seat : ViewAgrees kinds rule.lists rule.world seats_then seat_made client_made
+    made_seat =
+        let old = rule.seats id view at in
+        record {
+          seen = nothing_seen;
+          received = λ x. (rule.world.log x, refl);
+          left = All-nil (HasLeft rule.world);
+          client = λ _. (changed_here rule.seat_of view.made seat_made, made_agrees);
+          unmade = λ f. absurd (cc);
+          maker_kinds = λ f. absurd (cc);
+          lists_are = λ _. old.maker_lists is;
+          maker_lists = λ f. absurd (cc);
+        }
+
+    -- the view of each client that was made before is true still
+    earlier_seat : (j : ℕ) (u : DeskView) → get_elem? state.views j ≡ some u
+        → ViewAgrees kinds rule.lists rule.world seats_then j u
+    earlier_seat j u h =
+        let b = rule.seats j u h in
+        let not_new : u.role ≡ role.Client → u.number ≢ view.made =
+        λ f same. let made = (rule.makers.made id view at is j u h).0 f in omega arith in
+        let seat : u.role ≡ role.Client → (seats_then u.number ≡ j) × SeatAgrees kinds rule.world u.number u =
+        λ f. let (sits, knows) = b.client f in
+        (changed_else rule.seat_of view.made seat_made u.number (not_new f) ∙ sits, knows) in
+        assumption seat
+
+    -- the views of the maker, of the earlier clients and of the one that is made are true
+    seats_made : (j : ℕ) (u : DeskView) → get_elem? (set state.views id maker_then ++ client_made ∷ []) j ≡ some u
+        → ViewAgrees kinds rule.lists rule.world seats_then j u
+    seats_made j u e = elim (at_end (set state.views id maker_then) client_made u j e) [
+      | inl t ↦ elim (at_set state.views id j maker_then u t) [
+        | inl h ↦ subst (λ z. ViewAgrees kinds rule.lists rule.world seats_then j z) h.1
+            (one_made kinds rule.lists rule.world rule.seat_of seats_then id j view is (rule.seats id view at))
+        | inr h ↦ earlier_seat j u h.1
+      ]
+      | inr t ↦ subst (λ (z : ℕ × DeskView). ViewAgrees kinds rule.lists rule.world seats_then z.0 z.1)
+          (λ i. (sym t.0 i, t.1 i)) made_seat
+    ]
+
+  -- The maker keeps the rule when it makes a client.
   pub making_keeps_rule : (id : ℕ) (view : DeskView) → view.role ≡ role.Maker → view.made < clients
       → Splits DeskRule id view (after_making view) (new_client view.kinds view.lists view.made)
   making_keeps_rule id view is low state rule at =
-      let world : World = rule.world in
-      let client : ℕ = view.made in
       let maker : DeskView = after_making view in
-      let new : DeskView = new_client view.kinds view.lists client in
-      let here : ℕ = length (set state.views id maker) in
-      let seat_of' : ℕ → ℕ = changed rule.seat_of client here in
-      let old = rule.seats id view at in
-      let (is_absent, none_done, going, none_held) = old.unmade is client (omega arith) in
-      let few = rule.few_clients in
-      let nothing_seen : (x : ℕ) → StartsWith (world.log x) (seen_of new x) =
-      λ x. (world.log x, ap (λ z. z ++ world.log x) (sym (unseen view.kinds view.lists client x))) in
-      -- the new client, which knows nothing yet
-      let knows : SeatAgrees kinds world client new = record {
-        number = refl;
-        small = omega arith;
-        kinds_are = old.maker_kinds is;
-        done = sym none_done;
-        own = is_absent;
-        ready = λ f. absurd (cc);
-        wide_seen = refl;
-        seen = nothing_seen;
-        covers = λ x. ([], ap (entries_of_client client) (unseen view.kinds view.lists client x));
-        held = none_held;
-        ended = going;
-        retired = All-nil (λ d. world.ended d ≡ true);
-        back = All-nil (λ (b : PutBack). (world.stage b.row ≡ posted b.request)
-            × (world.holder b.request.object ≡ Some client));
-      } in
+      let new : DeskView = new_client view.kinds view.lists view.made in
       record {
-        world = world;
-        seat_of = seat_of';
+        world = rule.world;
+        seat_of = seats_then rule id view is low at;
         lists = rule.lists;
         few_calls = rule.few_calls;
         few_clients = rule.few_clients;
@@ -175,31 +241,7 @@ module _ {S O R : Type 0} (content : S → Content) (op_in : O → AnyOp) (reply
         come = rule.come;
         sound = rule.sound;
         tied = rule.tied;
-        -- the views of the maker, of the other clients, and of the new one
-        seats = λ j u e. elim (at_end (set state.views id maker) new u j e) [
-          | inl t ↦ elim (at_set state.views id j maker u t) [
-            | inl h ↦ subst (λ z. ViewAgrees kinds rule.lists world seat_of' j z) h.1
-                (one_made kinds rule.lists world rule.seat_of seat_of' id j view is old)
-            | inr h ↦
-                let b = rule.seats j u h.1 in
-                let not_new : u.role ≡ role.Client → u.number ≢ client =
-                λ f same. let made = (rule.makers.made id view at is j u h.1).0 f in omega arith in
-                let seat : u.role ≡ role.Client → (seat_of' u.number ≡ j) × SeatAgrees kinds world u.number u =
-                λ f. let (sits, knows) = b.client f in
-                (changed_else rule.seat_of client here u.number (not_new f) ∙ sits, knows) in
-                assumption seat
-          ]
-          | inr t ↦ subst (λ z. ViewAgrees kinds rule.lists world seat_of' j z) t.1 record {
-            seen = nothing_seen;
-            received = λ x. (world.log x, refl);
-            left = All-nil (HasLeft world);
-            client = λ _. (changed_here rule.seat_of client here ∙ sym t.0, knows);
-            unmade = λ f. absurd (cc);
-            maker_kinds = λ f. absurd (cc);
-            lists_are = λ _. old.maker_lists is;
-            maker_lists = λ f. absurd (cc);
-          }
-        ];
+        seats = seats_made rule id view is low at;
         -- the numbers of the clients
         makers = makers_made clients state.views (set state.views id maker ++ new ∷ []) id view maker new is at refl
             refl refl refl low
@@ -214,7 +256,7 @@ module _ {S O R : Type 0} (content : S → Content) (op_in : O → AnyOp) (reply
   -- the first step of a client keeps the rule: it takes its two slots out
   pub begin_keeps_rule : (slots id client : ℕ) (me : Me (Slot S O R) DeskView) → me.0.role ≡ role.Client
       → me.0.number ≡ client
-      → client < 32 → me.0.own ≡ own.Absent → me.0.held ≡ held.Free → me.0.ended ≡ false
+      → client < max_clients → me.0.own ≡ own.Absent → me.0.held ≡ held.Free → me.0.ended ≡ false
       → Allows DeskRule slots id me (row_place client) (λ f. f)
       (play.begins content op_in reply_in (step slots (row_place client) 0 0 maybe.none) me)
   begin_keeps_rule slots id client me is_client number low is free going state rule deep at small =
@@ -227,15 +269,16 @@ module _ {S O R : Type 0} (content : S → Content) (op_in : O → AnyOp) (reply
       let world' : World = staged world client idle in
       let view' : DeskView = with_own own.Idle me.0 in
       -- the client's two slots are at home
-      let homes : List (maybe.Option (Slot S O R)) = set state.homes (48 + client) maybe.none in
-      let journal : get_elem? state.homes (48 + client) ≡ some (some slot.Nothing) =
+      let homes : List (maybe.Option (Slot S O R)) = set state.homes (journal_slot client) maybe.none in
+      let journal : get_elem? state.homes (journal_slot client) ≡ some (some slot.Nothing) =
       (rule.tied.journals client low).at_first was in
-      let call : get_elem? state.homes (16 + client) ≡ some (some slot.Nothing) =
-      subst (CallAt content op_in reply_in (get_elem? state.homes (16 + client))) was (rule.tied.calls client low) in
-      let call' : get_elem? homes (16 + client) ≡ some (some slot.Nothing) =
-      set_else state.homes (48 + client) (16 + client) maybe.none (λ e. omega arith) ∙ call in
+      let call : get_elem? state.homes (call_slot client) ≡ some (some slot.Nothing) =
+      subst (CallAt content op_in reply_in (get_elem? state.homes (call_slot client))) was
+      (rule.tied.calls client low) in
+      let call' : get_elem? homes (call_slot client) ≡ some (some slot.Nothing) =
+      set_else state.homes (journal_slot client) (call_slot client) maybe.none (λ e. omega arith) ∙ call in
       let after : After rule me.0 view' (set state.words (row_place client) found)
-      (set homes (16 + client) maybe.none) =
+      (set homes (call_slot client) maybe.none) =
       record {
         world = world';
         holders = rule.holders;
@@ -255,12 +298,12 @@ module _ {S O R : Type 0} (content : S → Content) (op_in : O → AnyOp) (reply
             ok);
       } in
       let told : play.begins content op_in reply_in (step slots (row_place client) 0 0 maybe.none) me found
-      (view', (16 + client, slot.Nothing) ∷ (48 + client, slot.Nothing) ∷ me.1) =
+      (view', (call_slot client, slot.Nothing) ∷ (journal_slot client, slot.Nothing) ∷ me.1) =
       λ client' place.
       let same : client ≡ client' = omega arith in
-      ap (λ (z : ℕ). (view', (16 + z, slot.Nothing) ∷ (48 + z, slot.Nothing) ∷ me.1)) same in (
+      ap (λ (z : ℕ). (view', (call_slot z, slot.Nothing) ∷ (journal_slot z, slot.Nothing) ∷ me.1)) same in (
         view',
-        chain (takes (48 + client) slot.Nothing) (takes (16 + client) slot.Nothing),
+        chain (takes (journal_slot client) slot.Nothing) (takes (call_slot client) slot.Nothing),
         (journal, call'),
         kept_after rule id view' at is_client alike after,
         told,

@@ -29,16 +29,18 @@ use Rattle.desk_model.specs.World.{AnyEntry, AnyRequest, AnyAnswer, AnyDone, Sta
 use Rattle.desk_model.specs.World.{answered, taken, World, kind_at, logged, logged_on, entries_of_client, served}
 use Rattle.desk_model.specs.World.{served_now, request_of, calls_made, journal_of, IsLegalLog, StartsWith}
 use Rattle.desk_model.specs.Transitions.{changed, staged, ticked}
+use Rattle.desk_model.specs.Sound.{Sound}
 use Rattle.desk_model.specs.Images.{request_in, answer_in}
 use Rattle.desk_model.proofs.Changed.{changed_here, changed_else}
 use Rattle.desk_model.proofs.Entries.{starts_same, logged_here, logged_else, served_more}
 use Rattle.desk_model.proofs.Effects.{NotPicked, sound_staged, sound_called, sound_returned, clock_low}
 use Rattle.desk_invariant.specs.Views.{row_place, clock_place, seen_of, owed, after_miss, with_own, after_take}
-use Rattle.desk_invariant.specs.Views.{after_return, after_meet}
+use Rattle.desk_invariant.specs.Views.{after_return, after_meet, call_slot, answered_word}
+use Rattle.desk_model.specs.Limits.{max_objects, max_clients}
 use Rattle.desk_invariant.specs.Rule.{row_word, OwnCallAgrees, HeldAgrees, SeatAgrees, CallAt}
 use Rattle.desk_invariant.specs.Plays as play
-use Rattle.desk_invariant.proofs.Seats.{NotPosted, NotAnswered, IsAnswered, rows_stay, Later, Leaves, row_leaves}
-use Rattle.desk_invariant.proofs.Seats.{alike, After, kept_after, come_after, looks, mine, misses, Rule}
+use Rattle.desk_invariant.proofs.Seats.{NotPosted, NotAnswered, IsAnswered, rows_stay, Later, KeepsEnded, row_leaves}
+use Rattle.desk_invariant.proofs.Seats.{alike, After, AllowsIn, kept_after, come_after, looks, mine, misses, Rule}
 use Rattle.desk_invariant.proofs.Seeing.{all_covered, saw, seen_all}
 use Rattle.desk_invariant.proofs.Ties.{tied_row, tied_clock}
 use Rattle.desk_model.proofs.Tickets.{all_before}
@@ -75,7 +77,8 @@ module _ (world : World) (clock client : ℕ) (stage : Stage) (dones : ℕ → L
       )
 
   -- who has ended stays so, if the client has not
-  pub gone_leaves : world.ended client ≡ false → ((d : ℕ) → d ≢ client → dones d ≡ world.done d) → Leaves world gone
+  pub gone_leaves : world.ended client ≡ false → ((d : ℕ) → d ≢ client → dones d ≡ world.done d)
+      → KeepsEnded world gone
   gone_leaves going same d e =
       let other : d ≢ client = λ f. absurd cc in
       (e, λ i. journal_of (same d other i) (request_of (changed_else world.stage client stage d other i)))
@@ -121,6 +124,26 @@ covers_own kinds world client view call is ok object =
     subst
     (λ o. StartsWith (entries_of_client client (seen_of view object))
     (served object client view.done ++ owed object client o)) is (ok.covers object)
+
+-- What the client has seen of each object has its calls that are over still after its answered call has returned.
+covers_returned : (kinds : List Kind) (world : World) (client returned : ℕ) (view : DeskView) (request : AnyRequest)
+    (answer : AnyAnswer) → view.own ≡ own.Taken request answer → SeatAgrees kinds world client view
+    → Covers client view (view.done ++ record { request = request; answer = answer; returned = returned } ∷ []) own.Idle
+covers_returned kinds world client returned view request answer is ok object =
+    let calls : List AnyDone =
+    view.done ++ record { request = request; answer = answer; returned = returned } ∷ [] in
+    let whole = append-nil (served object client calls) ∙ served_more object client returned view.done request answer in
+    subst (StartsWith (entries_of_client client (seen_of view object))) (sym whole)
+    (covers_own kinds world client view (own.Taken request answer) is ok object)
+
+-- All entries that a client has seen of an object have earlier tickets than the clock.
+seen_early : (kinds : List Kind) (quota client object : ℕ) (world : World) (view : DeskView)
+    → Sound kinds quota world → SeatAgrees kinds world client view
+    → All (λ (y : AnyEntry). y.ticket < world.clock) (seen_of view object)
+seen_early kinds quota client object world view sound ok =
+    let (more, begins) = ok.seen object in
+    all_before (λ (y : AnyEntry). y.ticket < world.clock) (seen_of view object) more
+    (subst (All (λ (y : AnyEntry). y.ticket < world.clock)) begins (sound.early object))
 
 module _ {S O R : Type 0} (content : S → Content) (op_in : O → AnyOp) (reply_in : R → AnyReply) (kinds : List Kind)
     (clients quota : ℕ) where
@@ -215,7 +238,8 @@ module _ {S O R : Type 0} (content : S → Content) (op_in : O → AnyOp) (reply
   pub post_keeps_rule : (slots id client word : ℕ) (me : Me (Slot S O R) DeskView) (request : AnyRequest)
       (sent : Request O) (more : List (ℕ × Slot S O R))
       → me.0.role ≡ role.Client → me.0.number ≡ client → me.0.own ≡ own.Drawn request → me.0.held ≡ held.Free
-      → request_in op_in sent ≡ request → word ≡ 1 + request.object → me.1 ≡ (16 + client, slot.Request sent) ∷ more
+      → request_in op_in sent ≡ request → word ≡ 1 + request.object
+      → me.1 ≡ (call_slot client, slot.Request sent) ∷ more
       → Allows DeskRule slots id me (row_place client) (λ _. word)
       (λ _. play.posts content op_in reply_in (step slots (row_place client) word 0 maybe.none) me word)
   post_keeps_rule slots id client word me request sent more is_client number is free same is_word carried state rule
@@ -230,7 +254,7 @@ module _ {S O R : Type 0} (content : S → Content) (op_in : O → AnyOp) (reply
       let unposted : NotPosted (world.stage client) = λ q e. absurd cc in
       let unanswered : NotAnswered (world.stage client) = λ q a e. absurd cc in
       let after : After rule me.0 view' (set state.words (row_place client) word)
-      (set state.homes (16 + client) (some (slot.Request sent))) =
+      (set state.homes (call_slot client) (some (slot.Request sent))) =
       record {
         world = staged world client stage;
         holders = rule.holders;
@@ -258,13 +282,14 @@ module _ {S O R : Type 0} (content : S → Content) (op_in : O → AnyOp) (reply
 
   -- ---- looking for the answer, and taking it
 
-  is_answered : (call : Own) (stage : Stage) (request : AnyRequest) → call ≡ own.Waiting request → request.object < 16
-      → OwnCallAgrees call stage → row_word stage ≡ 33 → (answer : AnyAnswer) × (stage ≡ answered request answer)
+  is_answered : (call : Own) (stage : Stage) (request : AnyRequest) → call ≡ own.Waiting request
+      → request.object < max_objects → OwnCallAgrees call stage → row_word stage ≡ answered_word
+      → (answer : AnyAnswer) × (stage ≡ answered request answer)
   is_answered call stage request is low ok word = grind arith
 
   -- a client does not know that its row is answered, if its word is another one
   not_ready : (world : World) (client : ℕ) (view : DeskView) → SeatAgrees kinds world client view
-      → row_word (world.stage client) ≢ 33 → view.ready ≡ false
+      → row_word (world.stage client) ≢ answered_word → view.ready ≡ false
   not_ready world client view ok miss =
       false_from_ne_true view.ready (λ e. let (q, a, at) = ok.ready e in miss (ap row_word at))
 
@@ -287,7 +312,7 @@ module _ {S O R : Type 0} (content : S → Content) (op_in : O → AnyOp) (reply
 
   -- a look at the own row keeps the rule, whether there is an answer or not
   pub look_for_answer_keeps_rule : (slots id client : ℕ) (me : Me (Slot S O R) DeskView) → me.0.role ≡ role.Client
-      → me.0.number ≡ client → client < 32
+      → me.0.number ≡ client → client < max_clients
       → Allows DeskRule slots id me (row_place client) (λ f. f)
       (play.looks_for_answer content op_in reply_in (step slots (row_place client) 0 0 maybe.none) me)
   look_for_answer_keeps_rule slots id client me is_client number few state rule deep at small =
@@ -296,7 +321,7 @@ module _ {S O R : Type 0} (content : S → Content) (op_in : O → AnyOp) (reply
       let ok = subst (λ z. SeatAgrees kinds world z me.0) number (mine rule id is_client at) in
       let word : found ≡ row_word (world.stage client) = rule.tied.rows client few in
       let look : Step (Slot S O R) = step slots (row_place client) 0 0 maybe.none in
-      dite (ℕ_discrete found 33)
+      dite (ℕ_discrete found answered_word)
       (λ hit.
       let told : play.looks_for_answer content op_in reply_in look me found me =
       λ d q own_row here waiting. ((λ _. refl), λ miss. absurd (miss hit)) in
@@ -311,118 +336,187 @@ module _ {S O R : Type 0} (content : S → Content) (op_in : O → AnyOp) (reply
   -- what the client is told of the answer that came out of its row, and of the log of its call's object
   record IsTaken (me after : Me (Slot S O R) DeskView) (client : ℕ) (request : AnyRequest) (given : Answer R)
       (log : List AnyEntry) : Type 0 where
-    hand : after ≡ (after_take request (answer_in reply_in given) log me.0, (16 + client, slot.Answer given) ∷ me.1)
+    hand : after
+        ≡ (after_take request (answer_in reply_in given) log me.0, (call_slot client, slot.Answer given) ∷ me.1)
     legal : IsLegalLog (kind_at me.0.kinds request.object) log
     begins : StartsWith log (seen_of me.0 request.object)
     calls : entries_of_client me.0.number log
         ≡ served request.object me.0.number me.0.done ++ logged me.0.number request (answer_in reply_in given)
 
+  -- a client that waits for the answer to its request tries to take it
+  module _ {state : State (Slot S O R) DeskView} (rule : DeskRule state) (slots id : ℕ)
+      (me : Me (Slot S O R) DeskView) (request : AnyRequest) (is_client : me.0.role ≡ role.Client)
+      (at : get_elem? state.views id ≡ some me.0) (is : me.0.own ≡ own.Waiting request) where
+    -- the number of the client
+    abbrev client_known : ℕ
+    client_known = me.0.number
+
+    -- the word of the client's row
+    abbrev found_there : ℕ
+    found_there = get_or state.words (row_place client_known) 0
+
+    -- the step of the try
+    abbrev try_to_take : Step (Slot S O R)
+    try_to_take = step slots (row_place client_known) answered_word 0 maybe.none
+
+    -- the table allows the try in this state
+    abbrev MayTake : Type 0
+    MayTake = AllowsIn content op_in reply_in kinds clients quota state id me (row_place client_known)
+        (λ f. either (eqb f answered_word) 0 f) (play.takes_answer content op_in reply_in try_to_take me)
+
+    -- the word of the row is that of the call's stage
+    word_there : found_there ≡ row_word (rule.world.stage client_known)
+    word_there = let ok = mine rule id is_client at in rule.tied.rows client_known ok.small
+
+    -- the row has this answer
+    module _ (given : Answer R)
+        (was : rule.world.stage client_known ≡ answered request (answer_in reply_in given)) where
+      -- the log of the request's object
+      abbrev log_there : List AnyEntry
+      log_there = rule.world.log request.object
+
+      -- the stage of the client's call after the answer was taken
+      abbrev stage_taken : Stage
+      stage_taken = taken request (answer_in reply_in given)
+
+      -- the client's view after the answer was taken
+      abbrev view_taken : DeskView
+      view_taken = after_take request (answer_in reply_in given) log_there me.0
+
+      -- the client's own entries in the log are its calls that are over, and this one
+      calls_there : entries_of_client client_known log_there
+          ≡ served request.object client_known me.0.done
+          ++ logged_on request.object client_known request (answer_in reply_in given)
+      calls_there =
+          let ok = mine rule id is_client at in
+          rule.sound.counted client_known request.object
+          ∙ λ i. served request.object client_known (sym ok.done i) ++ served_now request.object client_known (was i)
+
+      -- The client agrees with the world once it has its answer and has seen the log.
+      taker_agrees : request.object < max_objects
+          → SeatAgrees kinds (staged rule.world client_known stage_taken) client_known view_taken
+      taker_agrees low =
+          let world : World = rule.world in
+          let client : ℕ = client_known in
+          let object : ℕ = request.object in
+          let ok = mine rule id is_client at in
+          let wide = ok.wide_seen in
+          let whole = all_covered kinds quota world client object me.0.done me.0.own ok.done ok.own rule.sound in
+          let seat : SeatAgrees kinds world client (after_meet object log_there me.0) =
+          saw kinds world client object me.0 log_there low (starts_same log_there) whole ok in
+          let covers =
+          covers_taken world client me.0 request (answer_in reply_in given) log_there is (omega arith) calls_there ok in
+          let unpicked : NotPicked (world.stage client) = λ q e. absurd cc in
+          let unposted : NotPosted (world.stage client) = λ q e. absurd cc in
+          seat_gone world world.clock client stage_taken world.done kinds (after_meet object log_there me.0)
+          (own.Taken request (answer_in reply_in given)) me.0.done unpicked unposted refl ok.done covers seat
+
+      -- the world after the answer was taken
+      after_taking : request.object < max_objects
+          → After rule me.0 view_taken (set state.words (row_place client_known) 0)
+          (set state.homes (call_slot client_known) maybe.none)
+      after_taking low =
+          let world : World = rule.world in
+          let client : ℕ = client_known in
+          let ok = mine rule id is_client at in
+          let unpicked : NotPicked (world.stage client) = λ q e. absurd cc in
+          let unposted : NotPosted (world.stage client) = λ q e. absurd cc in
+          record {
+            world = staged world client stage_taken;
+            holders = rule.holders;
+            come = come_after clients world client stage_taken (rule.makers.numbers id me.0 at is_client) rule.come;
+            sound = sound_staged kinds quota world client stage_taken unpicked (λ q e. absurd (cc))
+                (ap request_of (sym was)) (λ e. absurd (cc)) (λ y. ap (served_now y client) (sym was)) rule.sound;
+            -- the words and the slots agree with the new world
+            tied = tied_row client 0 stage_taken world.hand world.log maybe.none ok.small (λ y _. refl)
+                (λ e. absurd (cc)) (ap request_of (sym was)) refl tt rule.tied;
+            leave = row_leaves world client stage_taken (ap request_of was);
+            -- the other clients keep what they know
+            others = λ another other. later_gone world world.clock client stage_taken world.done another unpicked
+                unposted refl other;
+            -- the own call has its answer
+            own = taker_agrees low;
+          }
+
+      -- what the client is told of the answer and the log
+      taken_told : IsTaken me (view_taken, (call_slot client_known, slot.Answer given) ∷ me.1) client_known request
+          given log_there
+      taken_told =
+          let ok = mine rule id is_client at in
+          record {
+            hand = refl;
+            legal = subst (λ z. IsLegalLog (kind_at z request.object) log_there) (sym ok.kinds_are)
+                (rule.sound.legal request.object);
+            begins = ok.seen request.object;
+            calls = calls_there ∙ ap (λ z. served request.object client_known me.0.done ++ z)
+                (logged_here request.object client_known request (answer_in reply_in given) refl);
+          }
+
+      -- A hit tells what the step promises, by whichever names the call and the row have, and is no miss.
+      hit_told : found_there ≡ answered_word
+          → play.takes_answer content op_in reply_in try_to_take me found_there
+          (view_taken, (call_slot client_known, slot.Answer given) ∷ me.1)
+      hit_told hit d q own_row here waiting =
+          let same : request ≡ q = ap (request_known request) (sym is ∙ waiting) in
+          let t = subst (λ (z : ℕ × AnyRequest). IsTaken me (
+            view_taken,
+            (call_slot client_known, slot.Answer given)
+                ∷ me.1,
+          ) z.0 z.1 given log_there) (λ i. (own_row i, same i)) taken_told in
+          ((λ _. (given, log_there, t.hand, t.legal, t.begins, t.calls)), λ miss. absurd (miss hit))
+
+      -- The table allows the try if the answer is in its slot.
+      may_take : get_elem? state.homes (call_slot client_known) ≡ some (some (slot.Answer given))
+          → found_there ≡ answered_word → request.object < max_objects → MayTake
+      may_take at_home hit low = (
+        view_taken,
+        takes (call_slot client_known) (slot.Answer given),
+        at_home,
+        rw (eq-eqb found_there answered_word hit) (kept_after rule id view_taken at is_client alike (after_taking low)),
+        hit_told hit,
+      )
+
+    -- At the word of an answer the client takes it.
+    take_hits : request.object < max_objects → found_there ≡ answered_word → MayTake
+    take_hits low hit =
+        let client : ℕ = client_known in
+        let ok = mine rule id is_client at in
+        let (answer, was) =
+        is_answered me.0.own (rule.world.stage client) request is low ok.own (sym word_there ∙ hit) in
+        let (given, at_home, image) = subst (CallAt content op_in reply_in (get_elem? state.homes (call_slot client)))
+        was (rule.tied.calls client ok.small) in
+        let was_given : rule.world.stage client ≡ answered request (answer_in reply_in given) =
+        was ∙ ap (answered request) (sym image) in
+        may_take given was_given at_home hit low
+
+    -- At another word the client notes a miss.
+    take_misses : found_there ≢ answered_word → MayTake
+    take_misses miss =
+        let client : ℕ = client_known in
+        let view' : DeskView = after_miss (row_place client) me.0 in
+        let ok = mine rule id is_client at in
+        let not : me.0.ready ≡ false = not_ready rule.world client me.0 ok (λ e. miss (word_there ∙ e)) in
+        let told : play.takes_answer content op_in reply_in try_to_take me found_there (view', me.1) =
+        λ d q own_row here waiting. ((λ hit. absurd (miss hit)), λ _. (refl, not)) in (
+          view',
+          keeps,
+          tt,
+          rw (ne_eqb found_there answered_word miss) (misses rule (row_place client) id me.1 is_client at),
+          told,
+        )
+
   -- a try to take the answer keeps the rule, while the client holds nothing
   pub take_keeps_rule : (slots id client : ℕ) (me : Me (Slot S O R) DeskView) (request : AnyRequest)
       → me.0.role ≡ role.Client → me.0.number ≡ client
-      → me.0.own ≡ own.Waiting request → me.0.held ≡ held.Free → request.object < 16 → client < 32
-      → Allows DeskRule slots id me (row_place client) (λ f. either (eqb f 33) 0 f)
-      (play.takes_answer content op_in reply_in (step slots (row_place client) 33 0 maybe.none) me)
-  take_keeps_rule slots id client me request is_client number is free low few state rule deep at small =
-      let world : World = rule.world in
-      let found : ℕ = get_or state.words (row_place client) 0 in
-      let ok = subst (λ z. SeatAgrees kinds world z me.0) number (mine rule id is_client at) in
-      let word : found ≡ row_word (world.stage client) = rule.tied.rows client few in
-      let wide = ok.wide_seen in
-      let attempt : Step (Slot S O R) = step slots (row_place client) 33 0 maybe.none in
-      dite (ℕ_discrete found 33)
-      -- the word says that there is an answer: the client takes it
-      (λ hit.
-      let object : ℕ = request.object in
-      let log : List AnyEntry = world.log object in
-      let (answer, was) = is_answered me.0.own (world.stage client) request is low ok.own (sym word ∙ hit) in
-      let home = subst (CallAt content op_in reply_in (get_elem? state.homes (16 + client))) was
-      (rule.tied.calls client few) in
-      let (given, at_home, image) = home in
-      let numbered : client < clients = subst (λ z. z < clients) number (rule.makers.numbers id me.0 at is_client) in
-      let stage : Stage = taken request answer in
-      let view' : DeskView = after_take request (answer_in reply_in given) log me.0 in
-      let unpicked : NotPicked (world.stage client) = λ q e. absurd cc in
-      let unposted : NotPosted (world.stage client) = λ q e. absurd cc in
-      -- the client's own entries in the log: its calls that are over, and this one
-      let calls : entries_of_client client log
-      ≡ served object client me.0.done ++ logged_on object client request answer =
-      rule.sound.counted client object
-      ∙ λ i. served object client (sym ok.done i) ++ served_now object client (was i) in
-      -- the view with the whole log seen
-      let whole = all_covered kinds quota world client object me.0.done me.0.own ok.done ok.own rule.sound in
-      let seat : SeatAgrees kinds world client (after_meet object log me.0) =
-      saw kinds world client object me.0 log low (starts_same log) whole ok in
-      let covers = covers_taken world client me.0 request answer log is (omega arith) calls ok in
-      let after : After rule me.0 view' (set state.words (row_place client) 0)
-      (set state.homes (16 + client) maybe.none) =
-      record {
-        world = staged world client stage;
-        holders = rule.holders;
-        come = come_after clients world client stage numbered rule.come;
-        sound = sound_staged kinds quota world client stage unpicked (λ q e. absurd (cc)) (ap request_of (sym was))
-            (λ e. absurd (cc)) (λ y. ap (served_now y client) (sym was)) rule.sound;
-        -- the words and the slots agree with the new world
-        tied = tied_row client 0 stage world.hand world.log maybe.none few (λ y _. refl) (λ e. absurd (cc))
-            (ap request_of (sym was)) refl tt rule.tied;
-        leave = row_leaves world client stage (ap request_of was);
-        -- the other clients keep what they know
-        others = λ another other. later_gone world world.clock client stage world.done another unpicked unposted refl
-            (λ e. other (e ∙ sym number));
-        -- the own call has its answer
-        own = subst (λ z. SeatAgrees kinds (staged world client stage) z view') (sym number)
-            (subst (λ z. SeatAgrees kinds (staged world client stage) client (after_take request z log me.0))
-            (sym image)
-            (seat_gone world world.clock client stage world.done kinds (after_meet object log me.0)
-            (own.Taken request answer) me.0.done unpicked unposted refl ok.done covers seat));
-      } in
-      -- what a hit tells of the answer and the log, by whichever names the call and the row have; it is no miss
-      let legal : IsLegalLog (kind_at me.0.kinds object) log =
-      subst (λ z. IsLegalLog (kind_at z object) log) (sym ok.kinds_are) (rule.sound.legal object) in
-      let logs_calls : entries_of_client client log
-      ≡ served object client me.0.done ++ logged client request (answer_in reply_in given) =
-      calls ∙ ap (λ z. served object client me.0.done ++ z)
-      (logged_here object client request answer refl ∙ ap (logged client request) (sym image)) in
-      let own_calls : entries_of_client me.0.number log
-      ≡ served object me.0.number me.0.done ++ logged me.0.number request (answer_in reply_in given) =
+      → me.0.own ≡ own.Waiting request → me.0.held ≡ held.Free → request.object < max_objects → client < max_clients
+      → Allows DeskRule slots id me (row_place client) (λ f. either (eqb f answered_word) 0 f)
+      (play.takes_answer content op_in reply_in (step slots (row_place client) answered_word 0 maybe.none) me)
+  take_keeps_rule slots id client me request is_client number is free low few =
       subst
-      (λ z. entries_of_client z log ≡ served object z me.0.done ++ logged z request (answer_in reply_in given))
-      (sym number) logs_calls in
-      let me' : Me (Slot S O R) DeskView = (view', (16 + client, slot.Answer given) ∷ me.1) in
-      let told_one : IsTaken me me' client request given log = record {
-        hand = refl;
-        legal = legal;
-        begins = ok.seen object;
-        calls = own_calls;
-      } in
-      let told_any : (d : ℕ) (q : AnyRequest) → client ≡ d → request ≡ q → IsTaken me me' d q given log =
-      λ d q row same. subst (λ (z : ℕ × AnyRequest). IsTaken me me' z.0 z.1 given log)
-      (λ i. (row i, same i)) told_one in
-      let told : play.takes_answer content op_in reply_in attempt me found me' =
-      λ d q own_row here waiting. (
-        (λ _.
-            let t = told_any d q (omega arith) (ap (request_known request) (sym is ∙ waiting)) in
-            (given, log, t.hand, t.legal, t.begins, t.calls)),
-        λ miss. absurd (miss hit),
-      ) in (
-        view',
-        takes (16 + client) (slot.Answer given),
-        at_home,
-        rw (eq-eqb found 33 hit) (kept_after rule id view' at is_client alike after),
-        told,
-      ))
-      -- another word: the client notes a miss
-      (λ miss.
-      let view' : DeskView = after_miss (row_place client) me.0 in
-      let not : me.0.ready ≡ false = not_ready world client me.0 ok (λ e. miss (word ∙ e)) in
-      let told : play.takes_answer content op_in reply_in attempt me found (view', me.1) =
-      λ d q own_row here waiting. ((λ hit. absurd (miss hit)), λ _. (refl, not)) in (
-        view',
-        keeps,
-        tt,
-        rw (ne_eqb found 33 miss) (misses rule (row_place client) id me.1 is_client at),
-        told,
-      ))
+      (λ z. Allows DeskRule slots id me (row_place z) (λ f. either (eqb f answered_word) 0 f)
+      (play.takes_answer content op_in reply_in (step slots (row_place z) answered_word 0 maybe.none) me)) number
+      (λ state rule deep at small. dite (ℕ_discrete (get_or state.words (row_place me.0.number) 0) answered_word)
+      (take_hits rule slots id me request is_client at is low) (take_misses rule slots id me request is_client at is))
 
   -- ---- drawing the ticket of the return
 
@@ -438,7 +532,6 @@ module _ {S O R : Type 0} (content : S → Content) (op_in : O → AnyOp) (reply
   return_keeps_rule slots id me request answer is_client is free going state rule deep at small =
       let world : World = rule.world in
       let client : ℕ = me.0.number in
-      let object : ℕ = request.object in
       let found : ℕ = get_or state.words clock_place 0 in
       let ok = mine rule id is_client at in
       let was : world.stage client ≡ taken request answer =
@@ -454,11 +547,7 @@ module _ {S O R : Type 0} (content : S → Content) (op_in : O → AnyOp) (reply
       let unpicked : NotPicked (world.stage client) = λ q e. absurd cc in
       let unposted : NotPosted (world.stage client) = λ q e. absurd cc in
       let unanswered : NotAnswered (world.stage client) = λ q a e. absurd cc in
-      let covers : Covers client me.0 (me.0.done ++ last ∷ []) own.Idle =
-      λ y. subst (StartsWith (entries_of_client client (seen_of me.0 y)))
-      (sym (append-nil (served y client (me.0.done ++ last ∷ []))
-      ∙ served_more y client found me.0.done request answer))
-      (covers_own kinds world client me.0 (own.Taken request answer) is ok y) in
+      let covers = covers_returned kinds world client found me.0 request answer is ok in
       let after : After rule me.0 view' (set state.words clock_place ((found + 1) % 2 ^ 64)) state.homes = record {
         world = ticked world client idle calls;
         holders = rule.holders;
@@ -475,19 +564,14 @@ module _ {S O R : Type 0} (content : S → Content) (op_in : O → AnyOp) (reply
         own = seat_unanswered world (world.clock + 1) client idle dones kinds me.0 own.Idle (me.0.done ++ last ∷ [])
             unpicked unposted unanswered refl over covers ok;
       } in
-      -- all entries that were seen of the object have earlier tickets
-      let logged_early : All (λ (y : AnyEntry). y.ticket < found) (world.log object) =
-      subst (λ n. All (λ (y : AnyEntry). y.ticket < n) (world.log object)) (sym rule.tied.clock)
-      (rule.sound.early object) in
-      let (more, begins) = ok.seen object in
-      let seen_early : All (λ (y : AnyEntry). y.ticket < found) (seen_of me.0 object) =
-      all_before (λ (y : AnyEntry). y.ticket < found) (seen_of me.0 object) more
-      (subst (All (λ (y : AnyEntry). y.ticket < found)) begins logged_early) in
+      let early : All (λ (y : AnyEntry). y.ticket < found) (seen_of me.0 request.object) =
+      subst (λ n. All (λ (y : AnyEntry). y.ticket < n) (seen_of me.0 request.object)) (sym rule.tied.clock)
+      (seen_early kinds quota client request.object world me.0 rule.sound ok) in
       let told : play.returns content op_in reply_in (step slots clock_place 1 0 maybe.none) me found (view', me.1) =
       λ q a is'.
       let e = sym is ∙ is' in (
         (λ i. (after_return (ap (request_known request) e i) (ap (answer_known answer) e i) found me.0, me.1)),
         subst (λ z. All (λ (y : AnyEntry). y.ticket < found) (seen_of me.0 z.object)) (ap (request_known request) e)
-            seen_early,
+            early,
       ) in
       (view', keeps, tt, kept_after rule id view' at is_client alike after, told)

@@ -1,5 +1,5 @@
 -- The end of a client, and the sight of another's, keep the rule: an end writes one word, and who has ended stays so.
-use Rattle.std.proofs.Common.{All, ◌≡◌, ◌≢◌, ℕ, ◌+◌, ◌<◌, Bool, true, false, List, ◌∷◌, map, length, get_or, set}
+use Rattle.std.proofs.Common.{All, ◌≡◌, ◌≢◌, ℕ, ◌<◌, Bool, true, false, List, ◌∷◌, map, length, get_or, set}
 use Rattle.std.proofs.Common.{Some, refl, sym, ap, ◌∙◌, subst, arith}
 use mathlib.Core.Logic.{dite}
 use mathlib.Core.Option as maybe
@@ -25,11 +25,12 @@ use Rattle.desk_model.proofs.Changed.{changed_here, changed_else, changed_all}
 use Rattle.desk_model.proofs.Entries.{starts_same}
 use Rattle.desk_model.proofs.Effects.{sound_ended}
 use Rattle.desk_invariant.specs.Views.{end_place, own_request, journal, IsAtRest, after_end, after_end_seen}
-use Rattle.desk_invariant.specs.Views.{after_end_unset}
+use Rattle.desk_invariant.specs.Views.{after_end_unset, journal_slot}
 use Rattle.desk_invariant.specs.Rule.{end_word, OwnCallAgrees, HeldAgrees, SeatAgrees, HasLeft}
 use Rattle.desk_invariant.specs.Plays as play
 use Rattle.desk_invariant.proofs.Seats.{Later, alike, After, kept_after, seat_knowing, mine, unmoved, Rule}
 use Rattle.desk_invariant.proofs.Ties.{tied_end}
+use Rattle.desk_model.specs.Limits.{max_clients}
 
 still_ended : (world : World) (client another : ℕ) → world.ended another ≡ true
     → changed world.ended client true another ≡ true
@@ -71,7 +72,8 @@ module _ {S O R : Type 0} (content : S → Content) (op_in : O → AnyOp) (reply
   pub end_keeps_rule : (slots id client : ℕ) (me : Me (Slot S O R) DeskView) (book : Journal O R)
       (more : List (ℕ × Slot S O R)) → me.0.role ≡ role.Client
       → me.0.number ≡ client → IsAtRest me.0.own → me.0.held ≡ held.Free
-      → map (event_in op_in reply_in) book.events.items ≡ journal me.0 → me.1 ≡ (48 + client, slot.Journal book) ∷ more
+      → map (event_in op_in reply_in) book.events.items ≡ journal me.0
+      → me.1 ≡ (journal_slot client, slot.Journal book) ∷ more
       → Allows DeskRule slots id me (end_place client) (λ _. 1)
       (λ _. play.ends content op_in reply_in (step slots (end_place client) 1 0 maybe.none) me 1)
   end_keeps_rule slots id client me book more is_client number calm free says carried state rule deep at small =
@@ -86,7 +88,7 @@ module _ {S O R : Type 0} (content : S → Content) (op_in : O → AnyOp) (reply
       let world' : World = ended_by world client in
       let view' : DeskView = after_end me.0 in
       let after : After rule me.0 view' (set state.words (end_place client) 1)
-      (set state.homes (48 + client) (some (slot.Journal book))) =
+      (set state.homes (journal_slot client) (some (slot.Journal book))) =
       record {
         world = world';
         holders = λ x d e.
@@ -103,7 +105,7 @@ module _ {S O R : Type 0} (content : S → Content) (op_in : O → AnyOp) (reply
 
   -- a look at the end of another client keeps the rule, and tells whether it has ended
   pub look_at_end_keeps_rule : (slots id another : ℕ) (me : Me (Slot S O R) DeskView) → me.0.role ≡ role.Client
-      → another < 32
+      → another < max_clients
       → Allows DeskRule slots id me (end_place another) (λ f. f)
       (play.sees_end content op_in reply_in (step slots (end_place another) 0 0 maybe.none) me)
   look_at_end_keeps_rule slots id another me is_client low state rule deep at small =

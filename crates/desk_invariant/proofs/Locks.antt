@@ -32,9 +32,11 @@ use Rattle.desk_model.proofs.Effects.{sound_held}
 use Rattle.desk_invariant.specs.Views.{after_miss, after_win, after_release, after_meet, IsAtRest, IsAccount}
 use Rattle.desk_invariant.specs.Rule.{lock_word, HoldsOnly, CoreFits, HeldAgrees, SeatAgrees}
 use Rattle.desk_invariant.specs.Plays as play
-use Rattle.desk_invariant.proofs.Seats.{InRow, Later, alike, pass_of, After, kept_after, looks, mine, misses, Rule}
+use Rattle.desk_invariant.proofs.Seats.{InRow, Later, alike, pass_of, After, AllowsIn, kept_after, looks, mine}
+use Rattle.desk_invariant.proofs.Seats.{misses, Rule}
 use Rattle.desk_invariant.proofs.Seeing.{all_covered, saw, accounts}
 use Rattle.desk_invariant.proofs.Ties.{tied_lock}
+use Rattle.desk_model.specs.Limits.{max_objects}
 
 free_lock : (holder : Option ℕ) → lock_word holder ≡ 0 → holder ≡ None
 free_lock None e = refl
@@ -109,80 +111,199 @@ module _ {S O R : Type 0} (content : S → Content) (op_in : O → AnyOp) (reply
       λ inside. ((λ hit. absurd (miss hit)), λ _. refl) in
       (view', keeps, tt, misses rule object id me.1 is_client at, told))
 
+  -- a client that has not ended and holds nothing tries to win an object
+  module _ {state : State (Slot S O R) DeskView} (rule : DeskRule state) (slots id object : ℕ)
+      (me : Me (Slot S O R) DeskView) (is_client : me.0.role ≡ role.Client)
+      (at : get_elem? state.views id ≡ some me.0) (inside : object < length kinds)
+      (free : me.0.held ≡ held.Free) (going : me.0.ended ≡ false) where
+    -- the word of the lock
+    abbrev found_there : ℕ
+    found_there = get_or state.words object 0
+
+    -- the step of the try
+    abbrev try_to_win : Step (Slot S O R)
+    try_to_win = step slots object 0 (1 + me.0.number) maybe.none
+
+    -- the table allows the try in this state
+    abbrev MayWin : Type 0
+    MayWin = AllowsIn content op_in reply_in kinds clients quota state id me object
+        (λ f. either (eqb f 0) (1 + me.0.number) f) (play.wins content op_in reply_in try_to_win me)
+
+    -- nobody holds the object, and this core is in its slot
+    module _ (core : Core S O R) (none_holds : rule.world.holder object ≡ None) where
+      -- the log of the object
+      abbrev log_there : List AnyEntry
+      log_there = rule.world.log object
+
+      -- the world after the object was won
+      abbrev world_won : World
+      world_won = held_by rule.world object (Some me.0.number)
+
+      -- the client's view after it has won the object
+      abbrev view_won : DeskView
+      view_won = after_win object log_there me.0
+
+      -- The client agrees with the world once it holds the object, with nothing in hand.
+      winner_agrees : SeatAgrees kinds world_won me.0.number view_won
+      winner_agrees =
+          let world : World = rule.world in
+          let client : ℕ = me.0.number in
+          let ok = mine rule id is_client at in
+          let nothing : (y : ℕ) → world.holder y ≢ Some client =
+          subst (HeldAgrees (length kinds) world client) free ok.held in
+          let holds : world_won.holder object ≡ Some client = changed_here world.holder object (Some client) in
+          let empty : world.hand object ≡ None = rule.sound.empty_hand object none_holds in
+          let only : HoldsOnly world_won client object =
+          changed_all (λ y h. h ≡ Some client → y ≡ object) world.holder object (Some client) (λ _. refl)
+          (λ y _ e. absurd (nothing y e)) in
+          let now : HeldAgrees (length kinds) world_won client (held.Pass object log_there) =
+          (inside, holds, empty, refl, only) in
+          let still : (y : ℕ) → world.holder y ≡ Some client → world_won.holder y ≡ Some client =
+          changed_all (λ y h. world.holder y ≡ Some client → h ≡ Some client) world.holder object (Some client)
+          (λ _. refl) (λ y _ e. e) in
+          let in_rows = All-weaker (InRow world.stage world.holder client) (InRow world.stage world_won.holder client)
+          (λ b at. (at.0, still b.request.object at.1)) me.0.back ok.back in
+          seat_held kinds world client object (Some client) me.0 (held.Pass object log_there) me.0.back (me.0.won + 1)
+          in_rows ok now
+
+      -- the holder of each object is a client that has not ended
+      winner_going : (y d : ℕ) → world_won.holder y ≡ Some d → (d < clients) × (rule.world.ended d ≡ false)
+      winner_going y d =
+          let ok = mine rule id is_client at in
+          changed_all (λ y h. h ≡ Some d → (d < clients) × (rule.world.ended d ≡ false)) rule.world.holder object
+          (Some me.0.number)
+          (λ e.
+          let same = same_Some me.0.number d e in
+          let low = rule.makers.numbers id me.0 at is_client in
+          (omega arith, ap rule.world.ended (sym same) ∙ (ok.ended ∙ going))) (λ y _. rule.holders y d) y
+
+      -- what the rule asks of the world after the object was won
+      after_winning : After rule me.0 view_won (set state.words object (1 + me.0.number))
+          (set state.homes object maybe.none)
+      after_winning = record {
+        world = world_won;
+        holders = winner_going;
+        come = rule.come;
+        sound = sound_held kinds quota rule.world object (Some me.0.number) (λ e. absurd (cc)) rule.sound;
+        -- the words and the slots agree with the new world
+        tied = tied_lock object (1 + me.0.number) (Some me.0.number) maybe.none inside
+            refl (λ e. absurd (cc)) rule.tied;
+        leave = λ d e. (e, refl);
+        -- the other clients keep what they know
+        others = λ another other. later_held rule.world object another (Some me.0.number) (λ e. absurd (cc))
+            (λ e. other (sym (same_Some me.0.number another e)));
+        own = winner_agrees;
+      }
+
+      -- The table allows the try if the core is in its slot and fits the log.
+      may_win : get_elem? state.homes object ≡ some (some (slot.Core core)) → found_there ≡ 0
+          → CoreFits content op_in reply_in (kind_at kinds object) (get_elem? rule.lists object) core log_there → MayWin
+      may_win at_home hit fits_world =
+          let ok = mine rule id is_client at in
+          let lists_are = (rule.seats id me.0 at).lists_are is_client in
+          let fits : CoreFits content op_in reply_in (kind_at me.0.kinds object) (get_elem? me.0.lists object) core
+          log_there =
+          subst (λ (z : List Kind × List TableId). CoreFits content op_in reply_in (kind_at z.0 object)
+          (get_elem? z.1 object) core log_there) (λ i. (sym ok.kinds_are i, sym lists_are i)) fits_world in
+          let told : play.wins content op_in reply_in try_to_win me found_there
+          (view_won, (object, slot.Core core) ∷ me.1) =
+          λ _. ((λ _. (core, log_there, refl, fits, ok.seen object)), λ miss. absurd (miss hit)) in (
+            view_won,
+            takes object (slot.Core core),
+            at_home,
+            rw (eq-eqb found_there 0 hit) (kept_after rule id view_won at is_client alike after_winning),
+            told,
+          )
+
+    -- At a free lock the client wins the object.
+    win_hits : found_there ≡ 0 → MayWin
+    win_hits hit =
+        let none_holds : rule.world.holder object ≡ None =
+        free_lock (rule.world.holder object) (sym (rule.tied.locks object inside) ∙ hit) in
+        let (core, at_home, fits) = rule.tied.cores object inside none_holds in
+        may_win core none_holds at_home hit fits
+
+    -- At a taken lock the client notes a miss.
+    win_misses : found_there ≢ 0 → MayWin
+    win_misses miss =
+        let view' : DeskView = after_miss object me.0 in
+        let told : play.wins content op_in reply_in try_to_win me found_there (view', me.1) =
+        λ _. ((λ hit. absurd (miss hit)), λ _. refl) in
+        (view', keeps, tt, rw (ne_eqb found_there 0 miss) (misses rule object id me.1 is_client at), told)
+
   -- a try to win an object keeps the rule, for a client that holds nothing and has not ended
   pub win_keeps_rule : (slots id object word : ℕ) (me : Me (Slot S O R) DeskView) → me.0.role ≡ role.Client
       → object < length kinds → word ≡ 1 + me.0.number → me.0.held ≡ held.Free → me.0.ended ≡ false
       → Allows DeskRule slots id me object (λ f. either (eqb f 0) word f)
       (play.wins content op_in reply_in (step slots object 0 word maybe.none) me)
   win_keeps_rule slots id object word me is_client inside is free going state rule deep at small =
-      let world : World = rule.world in
-      let client : ℕ = me.0.number in
-      let found : ℕ = get_or state.words object 0 in
-      let attempt : Step (Slot S O R) = step slots object 0 word maybe.none in
-      dite (ℕ_discrete found 0)
-      -- the lock is free: the client wins the object
-      (λ hit.
-      let ok = mine rule id is_client at in
-      let none_holds : world.holder object ≡ None =
-      free_lock (world.holder object) (sym (rule.tied.locks object inside) ∙ hit) in
-      let nothing : (y : ℕ) → world.holder y ≢ Some client =
-      subst (HeldAgrees (length kinds) world client) free ok.held in
-      let (core, at_home, fits_world) = rule.tied.cores object inside none_holds in
-      let log : List AnyEntry = world.log object in
-      let world' : World = held_by world object (Some client) in
-      let view' : DeskView = after_win object log me.0 in
-      -- the client holds the object, with nothing in hand
-      let holds : world'.holder object ≡ Some client = changed_here world.holder object (Some client) in
-      let empty : world.hand object ≡ None = rule.sound.empty_hand object none_holds in
-      let only : HoldsOnly world' client object =
-      changed_all (λ y h. h ≡ Some client → y ≡ object) world.holder object (Some client) (λ _. refl)
-      (λ y _ e. absurd (nothing y e)) in
-      let now : HeldAgrees (length kinds) world' client (held.Pass object log) = (inside, holds, empty, refl, only) in
-      let still : (y : ℕ) → world.holder y ≡ Some client → world'.holder y ≡ Some client =
-      changed_all (λ y h. world.holder y ≡ Some client → h ≡ Some client) world.holder object (Some client)
-      (λ _. refl) (λ y _ e. e) in
-      let in_rows = All-weaker (InRow world.stage world.holder client) (InRow world.stage world'.holder client)
-      (λ b at. (at.0, still b.request.object at.1)) me.0.back ok.back in
-      let after : After rule me.0 view' (set state.words object word) (set state.homes object maybe.none) = record {
-        world = world';
-        holders = λ y d. changed_all (λ y h. h ≡ Some d → (d < clients) × (world.ended d ≡ false)) world.holder object
-            (Some client)
-            (λ e.
-            let same = same_Some client d e in
-            let low = rule.makers.numbers id me.0 at is_client in
-            (omega arith, ap world.ended (sym same) ∙ (ok.ended ∙ going))) (λ y _. rule.holders y d) y;
-        come = rule.come;
-        sound = sound_held kinds quota world object (Some client) (λ e. absurd (cc)) rule.sound;
-        -- the words and the slots agree with the new world
-        tied = tied_lock object word (Some client) maybe.none inside is (λ e. absurd (cc)) rule.tied;
-        leave = λ d e. (e, refl);
-        -- the other clients keep what they know
-        others = λ another other. later_held world object another (Some client) (λ e. absurd (cc))
-            (λ e. other (sym (same_Some client another e)));
-        own = seat_held kinds world client object (Some client) me.0 (held.Pass object log) me.0.back (me.0.won + 1)
-            in_rows ok now;
-      } in
-      -- what a hit tells of the core and the log, and that it is no miss
-      let lists_are = (rule.seats id me.0 at).lists_are is_client in
-      let fits : CoreFits content op_in reply_in (kind_at me.0.kinds object) (get_elem? me.0.lists object) core log =
-      subst (λ (z : List Kind × List TableId). CoreFits content op_in reply_in (kind_at z.0 object)
-      (get_elem? z.1 object) core log) (λ i. (sym ok.kinds_are i, sym lists_are i)) fits_world in
-      let told : play.wins content op_in reply_in attempt me found (view', (object, slot.Core core) ∷ me.1) =
-      λ _. ((λ _. (core, log, refl, fits, ok.seen object)), λ miss. absurd (miss hit)) in (
-        view',
-        takes object (slot.Core core),
-        at_home,
-        rw (eq-eqb found 0 hit) (kept_after rule id view' at is_client alike after),
-        told,
-      ))
-      -- the lock is taken: the client notes a miss
-      (λ miss.
-      let view' : DeskView = after_miss object me.0 in
-      let told : play.wins content op_in reply_in attempt me found (view', me.1) =
-      λ _. ((λ hit. absurd (miss hit)), λ _. refl) in
-      (view', keeps, tt, rw (ne_eqb found 0 miss) (misses rule object id me.1 is_client at), told))
+      rw is (dite (ℕ_discrete (get_or state.words object 0) 0)
+      (win_hits rule slots id object me is_client at inside free going)
+      (win_misses rule slots id object me is_client at inside free going))
 
   -- ---- releasing the object
+
+  -- a client that holds an object with a free hand releases it, with a core that fits its log
+  module _ {state : State (Slot S O R) DeskView} (rule : DeskRule state) (id object : ℕ)
+      (me : Me (Slot S O R) DeskView) (log : List AnyEntry) (core : Core S O R) (is_client : me.0.role ≡ role.Client)
+      (at : get_elem? state.views id ≡ some me.0) (holding : me.0.held ≡ held.Pass object log)
+      (fits : CoreFits content op_in reply_in (kind_at me.0.kinds object) (get_elem? me.0.lists object) core log) where
+    -- the world after the release
+    abbrev world_released : World
+    world_released = held_by rule.world object None
+
+    -- The client agrees with the world once it holds nothing and has seen the log.
+    releaser_agrees : SeatAgrees kinds world_released me.0.number (after_release object log me.0)
+    releaser_agrees =
+        let world : World = rule.world in
+        let client : ℕ = me.0.number in
+        let ok = mine rule id is_client at in
+        let pass = pass_of ok holding in
+        let inside = pass.inside in
+        let few = rule.tied.objects in
+        let low : object < max_objects = omega arith in
+        let whole : List AnyEntry = world.log object in
+        let covers = all_covered kinds quota world client object me.0.done me.0.own ok.done ok.own rule.sound in
+        let seat = saw kinds world client object me.0 whole low (starts_same whole) covers ok in
+        let nothing : (y : ℕ) → world_released.holder y ≢ Some client =
+        changed_all (λ y h. h ≢ Some client) world.holder object None (λ e. absurd (cc))
+        (λ y other e. other (pass.only y e)) in
+        let no_rows = All-nil (InRow world.stage world_released.holder client) in
+        subst (λ z. SeatAgrees kinds world_released client (after_release object z me.0)) pass.logged
+        (seat_held kinds world client object None (after_meet object whole me.0) held.Free [] me.0.won no_rows seat
+        nothing)
+
+    -- The core fits the log of the world.
+    core_fits : CoreFits content op_in reply_in (kind_at kinds object) (get_elem? rule.lists object) core
+        (rule.world.log object)
+    core_fits =
+        let ok = mine rule id is_client at in
+        let pass = pass_of ok holding in
+        let lists_are = (rule.seats id me.0 at).lists_are is_client in
+        subst (λ (z : List Kind × List TableId × List AnyEntry). CoreFits content op_in reply_in (kind_at z.0 object)
+        (get_elem? z.1 object) core z.2) (λ i. (ok.kinds_are i, lists_are i, sym pass.logged i)) fits
+
+    -- what the rule asks of the world after the release
+    after_releasing : After rule me.0 (after_release object log me.0) (set state.words object 0)
+        (set state.homes object (some (slot.Core core)))
+    after_releasing =
+        let world : World = rule.world in
+        let pass = pass_of (mine rule id is_client at) holding in
+        record {
+          world = world_released;
+          holders = λ y d. changed_all (λ y h. h ≡ Some d → (d < clients) × (world.ended d ≡ false)) world.holder object
+              None (λ e. absurd (cc)) (λ y _. rule.holders y d) y;
+          come = rule.come;
+          sound = sound_held kinds quota world object None (λ _. pass.free) rule.sound;
+          -- the words and the slots agree with the new world
+          tied = tied_lock object 0 None (some (slot.Core core)) pass.inside refl
+              (λ _. (core, refl, core_fits)) rule.tied;
+          leave = λ d e. (e, refl);
+          -- the other clients keep what they know
+          others = λ another other. later_held world object another None
+              (λ e. other (sym (same_Some me.0.number another (sym pass.holds ∙ e)))) (λ e. absurd (cc));
+          own = releaser_agrees;
+        }
 
   -- a release keeps the rule, if the core in the client's hands fits the log that the client knows
   pub release_keeps_rule : (slots id object : ℕ) (me : Me (Slot S O R) DeskView) (log : List AnyEntry)
@@ -194,44 +315,11 @@ module _ {S O R : Type 0} (content : S → Content) (op_in : O → AnyOp) (reply
       (λ _. play.releases content op_in reply_in (step slots object 0 0 maybe.none) me 0)
   release_keeps_rule slots id object me log core more is_client holding carried fits calm state rule deep at small =
       let world : World = rule.world in
-      let client : ℕ = me.0.number in
       let ok = mine rule id is_client at in
       let pass = pass_of ok holding in
-      let inside = pass.inside in
-      let few = rule.tied.objects in
-      let low : object < 16 = omega arith in
-      let world' : World = held_by world object None in
       let view' : DeskView = after_release object log me.0 in
-      -- the core fits the log of the world
-      let lists_are = (rule.seats id me.0 at).lists_are is_client in
-      let fits' : CoreFits content op_in reply_in (kind_at kinds object) (get_elem? rule.lists object) core
-      (world.log object) =
-      subst (λ (z : List Kind × List TableId × List AnyEntry). CoreFits content op_in reply_in (kind_at z.0 object)
-      (get_elem? z.1 object) core z.2) (λ i. (ok.kinds_are i, lists_are i, sym pass.logged i)) fits in
-      -- the client holds nothing, and has seen the log
-      let covers = all_covered kinds quota world client object me.0.done me.0.own ok.done ok.own rule.sound in
-      let seat = saw kinds world client object me.0 (world.log object) low (starts_same (world.log object)) covers ok in
-      let nothing : (y : ℕ) → world'.holder y ≢ Some client =
-      changed_all (λ y h. h ≢ Some client) world.holder object None (λ e. absurd (cc))
-      (λ y other e. other (pass.only y e)) in
-      let no_rows = All-nil (InRow world.stage world'.holder client) in
-      let after : After rule me.0 view' (set state.words object 0) (set state.homes object (some (slot.Core core))) =
-      record {
-        world = world';
-        holders = λ y d. changed_all (λ y h. h ≡ Some d → (d < clients) × (world.ended d ≡ false)) world.holder object
-            None (λ e. absurd (cc)) (λ y _. rule.holders y d) y;
-        come = rule.come;
-        sound = sound_held kinds quota world object None (λ _. pass.free) rule.sound;
-        -- the words and the slots agree with the new world
-        tied = tied_lock object 0 None (some (slot.Core core)) inside refl (λ _. (core, refl, fits')) rule.tied;
-        leave = λ d e. (e, refl);
-        -- the other clients keep what they know
-        others = λ another other. later_held world object another None
-            (λ e. other (sym (same_Some client another (sym pass.holds ∙ e)))) (λ e. absurd (cc));
-        own = subst (λ z. SeatAgrees kinds world' client (after_release object z me.0)) pass.logged
-            (seat_held kinds world client object None (after_meet object (world.log object) me.0) held.Free [] me.0.won
-            no_rows seat nothing);
-      } in
+      let after = after_releasing rule id object me log core is_client at holding fits in
+      let covers = all_covered kinds quota world me.0.number object me.0.done me.0.own ok.done ok.own rule.sound in
       let account : IsAccount object me.0 (world.log object) =
       accounts kinds quota world object me.0 (world.log object) calm ok.done ok.own rule.sound
       (starts_same (world.log object)) covers in

@@ -20,6 +20,7 @@ use Rattle.desk_invariant.specs.Plays as play
 use Rattle.desk_invariant.proofs.Seats.{alike, seat_knowing, mine, unmoved, Rule}
 use Rattle.desk_invariant.proofs.Seeing.{all_covered, entries_start, saw, accounts}
 use Rattle.desk_invariant.proofs.Messages.{message_ok, sending_keeps_rule, receiving_keeps_rule}
+use Rattle.desk_model.specs.Limits.{max_objects}
 
 module _ {S O R : Type 0} (content : S → Content) (op_in : O → AnyOp) (reply_in : R → AnyReply) (kinds : List Kind)
     (clients quota : ℕ) where
@@ -45,8 +46,8 @@ module _ {S O R : Type 0} (content : S → Content) (op_in : O → AnyOp) (reply
       assumption (client, (rule.seats other message there).seen))
 
   -- a client at rest that sees the whole log of an object keeps the rule
-  pub learn_keeps_rule : (slots id object : ℕ) (me : Me (Slot S O R) DeskView) → me.0.role ≡ role.Client → object < 16
-      → IsAtRest me.0.own
+  pub learn_keeps_rule : (slots id object : ℕ) (me : Me (Slot S O R) DeskView) → me.0.role ≡ role.Client
+      → object < max_objects → IsAtRest me.0.own
       → Allows DeskRule slots id me object (λ f. f)
       (play.learns content op_in reply_in (step slots object 0 0 maybe.none) me)
   learn_keeps_rule slots id object me is_client low calm state rule deep at small =
@@ -65,7 +66,7 @@ module _ {S O R : Type 0} (content : S → Content) (op_in : O → AnyOp) (reply
       subst (λ z. IsLegalLog (kind_at z object) log) (sym ok.kinds_are) (rule.sound.legal object) in
       let seen : StartsWith log (seen_of me.0 object) = ok.seen object in
       let received : StartsWith log (received_of me.0 object) = (rule.seats id me.0 at).received object in
-      let wide : length me.0.seen ≡ 16 = ok.wide_seen in
+      let wide : length me.0.seen ≡ max_objects = ok.wide_seen in
       let account : IsAccount object me.0 log =
       accounts kinds quota world object me.0 log calm ok.done ok.own rule.sound (starts_same log) covers in
       let told : play.learns content op_in reply_in look me found (view', me.1) =
@@ -73,8 +74,8 @@ module _ {S O R : Type 0} (content : S → Content) (op_in : O → AnyOp) (reply
       (view', keeps, tt, unmoved rule object id view' me.1 at is_client alike knows, told)
 
   -- a client at rest that sees the log that it received keeps the rule, if this goes on from what it had seen
-  pub adopt_keeps_rule : (slots id object : ℕ) (me : Me (Slot S O R) DeskView) → me.0.role ≡ role.Client → object < 16
-      → StartsWith (received_of me.0 object) (seen_of me.0 object) → IsAtRest me.0.own
+  pub adopt_keeps_rule : (slots id object : ℕ) (me : Me (Slot S O R) DeskView) → me.0.role ≡ role.Client
+      → object < max_objects → StartsWith (received_of me.0 object) (seen_of me.0 object) → IsAtRest me.0.own
       → Allows DeskRule slots id me object (λ f. f)
       (play.adopts content op_in reply_in (step slots object 0 0 maybe.none) me)
   adopt_keeps_rule slots id object me is_client low later calm state rule deep at small =
@@ -101,9 +102,10 @@ module _ {S O R : Type 0} (content : S → Content) (op_in : O → AnyOp) (reply
 
 -- The client `one` gets a message of `other`, sees this log, and sends a message back: then the other has received the
 -- log. A prime is the view after one of these steps.
-pub told_back : (object : ℕ) (one other one' one'' other' : DeskView) (log : List AnyEntry) → object < 16
+pub told_back : (object : ℕ) (one other one' one'' other' : DeskView) (log : List AnyEntry) → object < max_objects
     → one' ≡ after_message one (seen_message other) → one'' ≡ after_meet object log one'
-    → length one'.seen ≡ 16 → other' ≡ after_message other (seen_message one'') → received_of other' object ≡ log
+    → length one'.seen ≡ max_objects → other' ≡ after_message other (seen_message one'')
+    → received_of other' object ≡ log
 told_back object one other one' one'' other' log low got met wide got_back =
     ap (λ (z : DeskView). received_of z object) got_back
     ∙ (ap (λ (z : DeskView). seen_of z object) met ∙ get_or-set_same one'.seen object log [] (omega arith))

@@ -20,6 +20,7 @@ use Rattle.desk_invariant.specs.Rule.{HasLeft, ViewAgrees, HasOneMaker}
 use Rattle.desk_invariant.proofs.Seats.{makers_stay, Rule}
 use Rattle.desk_invariant.proofs.Beginnings.{get_or-replicate_same}
 use Rattle.publication_list.proofs.RosterMaking.{at_end}
+use Rattle.desk_model.specs.Limits.{max_objects}
 
 -- a list whose views are those of another list, and one that is no client's and no maker's
 makers_with : (clients : ℕ) (views views' : List DeskView) (message : DeskView) → message.role ≡ role.Message
@@ -49,7 +50,7 @@ message_ok kinds lists world seat_of j view none seen received left = grind arit
 
 -- nothing was seen, which each log begins with
 pub nothing_seen : (world : World) (x : ℕ) → StartsWith (world.log x) (seen_of empty_message x)
-nothing_seen world x = (world.log x, ap (λ z. z ++ world.log x) (sym (get_or-replicate_same [] 16 x)))
+nothing_seen world x = (world.log x, ap (λ z. z ++ world.log x) (sym (get_or-replicate_same [] max_objects x)))
 
 empty_message_ok : (kinds : List Kind) (lists : List TableId) (world : World) (seat_of : ℕ → ℕ) (j : ℕ)
     → ViewAgrees kinds lists world seat_of j empty_message

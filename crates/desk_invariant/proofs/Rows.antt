@@ -37,17 +37,18 @@ use Rattle.desk_model.proofs.Changed.{changed_here, changed_else, changed_all}
 use Rattle.desk_model.proofs.Entries.{starts_same, starts_longer}
 use Rattle.desk_model.proofs.Effects.{sound_picked, sound_put_back, sound_served}
 use Rattle.desk_invariant.specs.Views.{row_place, seen_of, waits_on, after_row_miss, after_pick, after_put_back}
-use Rattle.desk_invariant.specs.Views.{after_answer}
+use Rattle.desk_invariant.specs.Views.{after_answer, call_slot, first_picked, answered_word}
+use Rattle.desk_model.specs.Limits.{max_objects, max_clients}
 use Rattle.desk_invariant.specs.Rule.{row_word, OwnCallAgrees, HeldAgrees, SeatAgrees, CallAt}
 use Rattle.desk_invariant.specs.Plays as play
 use Rattle.desk_invariant.proofs.Seats.{NotPosted, NotAnswered, IsAnswered, InRow, rows_stay, Later, row_leaves}
-use Rattle.desk_invariant.proofs.Seats.{alike, IsHand, pass_of, hand_of, After, kept_after, looks, come_after}
+use Rattle.desk_invariant.proofs.Seats.{alike, IsHand, pass_of, hand_of, After, AllowsIn, kept_after, looks, come_after}
 use Rattle.desk_invariant.proofs.Seats.{seat_knowing, mine, unmoved, Rule}
 use Rattle.desk_invariant.proofs.Ties.{tied_row}
 use Rattle.desk_invariant.proofs.Locks.{held_log, held_object, one_object, one_log}
 
 -- a row that has the word of a request for the object has such a request
-is_posted : (stage : Stage) (object : ℕ) → object < 16 → row_word stage ≡ 1 + object
+is_posted : (stage : Stage) (object : ℕ) → object < max_objects → row_word stage ≡ 1 + object
     → (request : AnyRequest) × (stage ≡ posted request) × (request.object ≡ object)
 is_posted stage object low word = grind arith
 
@@ -210,7 +211,7 @@ module _ {S O R : Type 0} (content : S → Content) (op_in : O → AnyOp) (reply
 
   -- a look at a row keeps the rule, with an object held and nothing in hand
   pub look_at_row_keeps_rule : (slots id object row : ℕ) (me : Me (Slot S O R) DeskView) (log : List AnyEntry)
-      → me.0.role ≡ role.Client → row < 32 → me.0.held ≡ held.Pass object log
+      → me.0.role ≡ role.Client → row < max_clients → me.0.held ≡ held.Pass object log
       → Allows DeskRule slots id me (row_place row) (λ f. f)
       (play.looks_at_row content op_in reply_in (step slots (row_place row) 0 0 maybe.none) me)
   look_at_row_keeps_rule slots id object row me log is_client few holding state rule deep at small =
@@ -226,7 +227,7 @@ module _ {S O R : Type 0} (content : S → Content) (op_in : O → AnyOp) (reply
       λ object' row' log' holding' place.
       ((λ _. refl), λ miss. absurd (miss (hit ∙ ap (λ z. 1 + z) (one_object holding holding')))) in
       (me.0, keeps, tt, looks rule (row_place row) id me.1 is_client at, told))
-      -- another word: the client notes a miss
+      -- At another word the client notes a miss.
       (λ miss.
       let view' : DeskView = after_row_miss (row_place row) object me.0 in
       let knows : SeatAgrees kinds world me.0.number view' =
@@ -243,119 +244,197 @@ module _ {S O R : Type 0} (content : S → Content) (op_in : O → AnyOp) (reply
       (sent : Request O) : Type 0 where
     for_object : sent.object ≡ object
     of_kind : kind_of (op_in sent.op) ≡ kind_at me.0.kinds object
-    hand : after ≡ (after_pick object log row (request_in op_in sent) me.0, (16 + row, slot.Request sent) ∷ me.1)
+    hand : after
+        ≡ (after_pick object log row (request_in op_in sent) me.0, (call_slot row, slot.Request sent) ∷ me.1)
     put_back_here : All (λ b. b.row ≡ row → b.request ≡ request_in op_in sent) me.0.back
     own_one : (q : AnyRequest) → row ≡ me.0.number → me.0.own ≡ own.Waiting q → request_in op_in sent ≡ q
 
-  -- a try to pick up a row's request keeps the rule, with its object held and nothing in hand
-  pub pick_keeps_rule : (slots id object row : ℕ) (me : Me (Slot S O R) DeskView) (log : List AnyEntry)
-      → me.0.role ≡ role.Client → row < 32 → me.0.held ≡ held.Pass object log
-      → Allows DeskRule slots id me (row_place row) (λ f. either (eqb f (1 + object)) (17 + object) f)
-      (play.picks content op_in reply_in (step slots (row_place row) (1 + object) (17 + object) maybe.none) me)
-  pick_keeps_rule slots id object row me log is_client few holding state rule deep at small =
-      let world : World = rule.world in
-      let client : ℕ = me.0.number in
-      let found : ℕ = get_or state.words (row_place row) 0 in
-      let ok = mine rule id is_client at in
-      let word : found ≡ row_word (world.stage row) = rule.tied.rows row few in
-      let attempt : Step (Slot S O R) = step slots (row_place row) (1 + object) (17 + object) maybe.none in
-      dite (ℕ_discrete found (1 + object))
-      -- the word is that of a request for the object: the client picks it up
-      (λ hit.
-      let pass = pass_of ok holding in
-      let inside = pass.inside in
-      let few_objects = rule.tied.objects in
-      let low : object < 16 = omega arith in
-      let (request, was, on) = is_posted (world.stage row) object low (sym word ∙ hit) in
-      let home = subst (CallAt content op_in reply_in (get_elem? state.homes (16 + row))) was
-      (rule.tied.calls row few) in
-      let (sent, at_home, image) = home in
-      let fits = rule.sound.fitting row request (ap request_of was) in
+  -- a client that holds an object with a free hand tries to pick up the request of a row
+  module _ {state : State (Slot S O R) DeskView} (rule : DeskRule state) (slots id object row : ℕ)
+      (me : Me (Slot S O R) DeskView) (log : List AnyEntry) (is_client : me.0.role ≡ role.Client)
+      (at : get_elem? state.views id ≡ some me.0) (few : row < max_clients)
+      (holding : me.0.held ≡ held.Pass object log) where
+    -- the word of the row
+    abbrev found_there : ℕ
+    found_there = get_or state.words (row_place row) 0
+
+    -- the word of a row whose request for the object was picked up
+    abbrev picked_word : ℕ
+    picked_word = first_picked + object
+
+    -- the step of the try
+    abbrev try_to_pick : Step (Slot S O R)
+    try_to_pick = step slots (row_place row) (1 + object) picked_word maybe.none
+
+    -- the table allows the try in this state
+    abbrev MayPick : Type 0
+    MayPick = AllowsIn content op_in reply_in kinds clients quota state id me (row_place row)
+        (λ f. either (eqb f (1 + object)) picked_word f) (play.picks content op_in reply_in try_to_pick me)
+
+    -- the row has this request for the object
+    module _ (sent : Request O) (was : rule.world.stage row ≡ posted (request_in op_in sent))
+        (on : sent.object ≡ object) where
+      -- the stage of the row's call after its request was picked up
+      abbrev stage_picked : Stage
+      stage_picked = picked (request_in op_in sent)
+
+      -- the client's view after it has picked the request up
+      abbrev view_picked : DeskView
+      view_picked = after_pick object log row (request_in op_in sent) me.0
+
       -- the row goes on with its call
-      let stage : Stage = picked request in
-      let hands : ℕ → Option ℕ = changed world.hand object (Some row) in
-      let world' : World = handed world object (Some row) row stage in
-      let view' : DeskView = after_pick object log row request me.0 in
-      let goes : GoesOn world row request stage world.log = record {
+      picking_goes_on : GoesOn rule.world row (request_in op_in sent) stage_picked rule.world.log
+      picking_goes_on = record {
         from = inl was;
         to = inr (inl refl);
         unanswered = λ q a e. absurd cc;
-        grow = λ y. starts_same (world.log y);
-      } in
+        grow = λ y. starts_same (rule.world.log y);
+      }
+
       -- another client does not hold the object of the request
-      let unposted : (another : ℕ) → another ≢ client → (p : AnyRequest) → world.holder p.object ≡ Some another
-      → world.stage row ≢ posted p =
-      λ another other p e f. other (sym (same_Some client another (sym pass.holds
-      ∙ (ap world.holder (sym on ∙ ap (λ z. z.object) (same_posted request p (sym was ∙ f))) ∙ e)))) in
-      -- the client has the request in hand
-      let in_hand : hands object ≡ Some row = changed_here world.hand object (Some row) in
-      let is_picked : changed world.stage row stage row ≡ picked request = changed_here world.stage row stage in
-      let now : HeldAgrees (length kinds) world' client (held.Hand object log row request) =
-      (pass.inside, pass.holds, in_hand, pass.logged, pass.only, few, is_picked) in
-      let after : After rule me.0 view' (set state.words (row_place row) (17 + object))
-      (set state.homes (16 + row) maybe.none) =
-      record {
-        world = world';
-        holders = rule.holders;
-        come = come_after clients world row stage (rule.come row (λ e. absurd cc)) rule.come;
-        sound = sound_picked kinds quota world object row client request was on pass.holds pass.free rule.sound;
-        -- the words and the slots agree with the new world
-        tied = tied_row row (17 + object) stage hands world.log maybe.none few (λ y _. refl) (λ e. absurd (cc))
-            (ap request_of (sym was)) (ap (λ z. 17 + z) (sym on)) tt rule.tied;
-        leave = row_leaves world row stage (ap request_of was);
-        -- the other clients keep what they know
-        others = λ another other. later_row world row request stage world.log goes object client another (Some row)
-            (λ y _. refl) (λ y p _ _ e. absurd cc) (unposted another other) pass.holds other;
-        own = seat_row world row request stage world.log goes kinds hands client me.0
-            (held.Hand object log row request) view'.back (other_rows world client row stage me.0.back ok.back) ok now;
-      } in
-      -- what a hit tells of the request, by whichever names the pass and the row have; it is no miss
-      let me' : Me (Slot S O R) DeskView = (view', (16 + row, slot.Request sent) ∷ me.1) in
-      let told_one : IsPickedUp me me' object row log sent = record {
-        for_object = ap (λ z. z.object) image ∙ on;
-        of_kind = ap (λ z. kind_of z.op) image ∙ (fits.0 ∙ (λ i. kind_at (sym ok.kinds_are i) (on i)));
-        hand = λ i. (after_pick object log row (sym image i) me.0, (16 + row, slot.Request sent) ∷ me.1);
-        put_back_here =
-            All-weaker (InRow world.stage world.holder client) (λ b. b.row ≡ row → b.request ≡ request_in op_in sent)
-            (λ b at there. same_posted b.request request (sym at.0 ∙ (ap world.stage there ∙ was)) ∙ sym image)
-            me.0.back ok.back;
-        own_one = λ q here waiting. image ∙ own_posted q request me.0.own (world.stage client) ok.own waiting
-            (ap world.stage (sym here) ∙ was);
-      } in
-      let told_any : (object' row' : ℕ) (log' : List AnyEntry) → me.0.held ≡ held.Pass object' log' → row ≡ row'
-      → IsPickedUp me me' object' row' log' sent =
-      λ object' row' log' holding' same_row.
-      subst (λ (z : ℕ × ℕ × List AnyEntry). IsPickedUp me me' z.0 z.1 z.2 sent)
-      (λ i. (one_object holding holding' i, same_row i, one_log holding holding' i)) told_one in
-      let told : play.picks content op_in reply_in attempt me found me' =
-      λ object' row' log' holding' place. (
-        (λ _.
-            let up = told_any object' row' log' holding' (omega arith) in
-            (sent, up.for_object, up.of_kind, up.hand, up.put_back_here, up.own_one)),
-        λ miss. absurd (miss (hit ∙ ap (λ z. 1 + z) (one_object holding holding'))),
-      ) in (
-        view',
-        takes (16 + row) (slot.Request sent),
+      not_of_another : (another : ℕ) → another ≢ me.0.number → (p : AnyRequest)
+          → rule.world.holder p.object ≡ Some another → rule.world.stage row ≢ posted p
+      not_of_another another other p e f =
+          let pass = pass_of (mine rule id is_client at) holding in
+          let same : request_in op_in sent ≡ p = same_posted (request_in op_in sent) p (sym was ∙ f) in
+          let holds : rule.world.holder object ≡ Some another =
+          ap rule.world.holder (sym on ∙ ap (λ z. z.object) same) ∙ e in
+          other (sym (same_Some me.0.number another (sym pass.holds ∙ holds)))
+
+      -- The client agrees with the world once it has the request in hand.
+      picker_agrees : SeatAgrees kinds (handed rule.world object (Some row) row stage_picked) me.0.number view_picked
+      picker_agrees =
+          let world : World = rule.world in
+          let ok = mine rule id is_client at in
+          let pass = pass_of ok holding in
+          let hands : ℕ → Option ℕ = changed world.hand object (Some row) in
+          let in_hand : hands object ≡ Some row = changed_here world.hand object (Some row) in
+          let is_picked : changed world.stage row stage_picked row ≡ stage_picked =
+          changed_here world.stage row stage_picked in
+          let now : HeldAgrees (length kinds) (handed world object (Some row) row stage_picked) me.0.number
+          (held.Hand object log row (request_in op_in sent)) =
+          (pass.inside, pass.holds, in_hand, pass.logged, pass.only, few, is_picked) in
+          seat_row world row (request_in op_in sent) stage_picked world.log picking_goes_on kinds hands me.0.number me.0
+          (held.Hand object log row (request_in op_in sent)) view_picked.back
+          (other_rows world me.0.number row stage_picked me.0.back ok.back) ok now
+
+      -- the world after the request was picked up
+      after_picking : After rule me.0 view_picked (set state.words (row_place row) picked_word)
+          (set state.homes (call_slot row) maybe.none)
+      after_picking =
+          let world : World = rule.world in
+          let client : ℕ = me.0.number in
+          let request : AnyRequest = request_in op_in sent in
+          let pass = pass_of (mine rule id is_client at) holding in
+          record {
+            world = handed world object (Some row) row stage_picked;
+            holders = rule.holders;
+            come = come_after clients world row stage_picked (rule.come row (λ e. absurd cc)) rule.come;
+            sound = sound_picked kinds quota world object row client request was on pass.holds pass.free rule.sound;
+            -- the words and the slots agree with the new world
+            tied = tied_row row picked_word stage_picked (changed world.hand object (Some row)) world.log maybe.none few
+                (λ y _. refl) (λ e. absurd (cc)) (ap request_of (sym was)) (ap (λ z. first_picked + z) (sym on)) tt
+                rule.tied;
+            leave = row_leaves world row stage_picked (ap request_of was);
+            -- the other clients keep what they know
+            others = λ another other. later_row world row request stage_picked world.log picking_goes_on object client
+                another (Some row) (λ y _. refl) (λ y p _ _ e. absurd cc) (not_of_another another other) pass.holds
+                other;
+            own = picker_agrees;
+          }
+
+      -- what the client is told of the request
+      picked_told : IsPickedUp me (view_picked, (call_slot row, slot.Request sent) ∷ me.1) object row log sent
+      picked_told =
+          let world : World = rule.world in
+          let client : ℕ = me.0.number in
+          let request : AnyRequest = request_in op_in sent in
+          let ok = mine rule id is_client at in
+          let fits = rule.sound.fitting row request (ap request_of was) in
+          record {
+            for_object = on;
+            of_kind = fits.0 ∙ (λ i. kind_at (sym ok.kinds_are i) (on i));
+            hand = refl;
+            put_back_here =
+                All-weaker (InRow world.stage world.holder client) (λ b. b.row ≡ row → b.request ≡ request)
+                (λ b at there. same_posted b.request request (sym at.0 ∙ (ap world.stage there ∙ was))) me.0.back
+                ok.back;
+            own_one = λ q here waiting. own_posted q request me.0.own (world.stage client) ok.own waiting
+                (ap world.stage (sym here) ∙ was);
+          }
+
+      -- A hit tells what the step promises, by whichever names the pass and the row have, and is no miss.
+      hit_told : found_there ≡ 1 + object
+          → play.picks content op_in reply_in try_to_pick me found_there
+          (view_picked, (call_slot row, slot.Request sent) ∷ me.1)
+      hit_told hit object' row' log' holding' place =
+          let same_object : object ≡ object' = one_object holding holding' in
+          let same_row : row ≡ row' = omega arith in
+          let t = subst (λ (z : ℕ × ℕ × List AnyEntry). IsPickedUp me (
+            view_picked,
+            (call_slot row, slot.Request sent)
+                ∷ me.1,
+          ) z.0 z.1 z.2 sent) (λ i. (same_object i, same_row i, one_log holding holding' i)) picked_told in (
+            (λ _. (sent, t.for_object, t.of_kind, t.hand, t.put_back_here, t.own_one)),
+            λ miss. absurd (miss (hit ∙ ap (λ z. 1 + z) same_object)),
+          )
+
+      -- The table allows the try if the request is in its slot.
+      may_pick : get_elem? state.homes (call_slot row) ≡ some (some (slot.Request sent)) → found_there ≡ 1 + object
+          → MayPick
+      may_pick at_home hit = (
+        view_picked,
+        takes (call_slot row) (slot.Request sent),
         at_home,
-        rw (eq-eqb found (1 + object) hit) (kept_after rule id view' at is_client alike after),
-        told,
-      ))
-      -- another word: the client notes a miss
-      (λ miss.
-      let view' : DeskView = after_row_miss (row_place row) object me.0 in
-      let knows : SeatAgrees kinds world client view' =
-      noting_ok row me.0 rule.sound ok holding (λ e. miss (word ∙ e)) in
-      let told : play.picks content op_in reply_in attempt me found (view', me.1) =
-      λ object' row' log' holding' place. (
-        (λ hit. absurd (miss (hit ∙ ap (λ z. 1 + z) (sym (one_object holding holding'))))),
-        λ _. row_missed row row' me ok holding holding' (omega arith) (λ f. miss (word ∙ f)),
-      ) in (
-        view',
-        keeps,
-        tt,
-        rw (ne_eqb found (1 + object) miss) (unmoved rule (row_place row) id view' me.1 at is_client alike knows),
-        told,
-      ))
+        rw (eq-eqb found_there (1 + object) hit) (kept_after rule id view_picked at is_client alike after_picking),
+        hit_told hit,
+      )
+
+    -- At the word of a request for the object the client picks it up.
+    pick_hits : found_there ≡ 1 + object → MayPick
+    pick_hits hit =
+        let pass = pass_of (mine rule id is_client at) holding in
+        let inside = pass.inside in
+        let few_objects = rule.tied.objects in
+        let low : object < max_objects = omega arith in
+        let (request, was, on) = is_posted (rule.world.stage row) object low (sym (rule.tied.rows row few) ∙ hit) in
+        let (sent, at_home, image) = subst (CallAt content op_in reply_in (get_elem? state.homes (call_slot row))) was
+        (rule.tied.calls row few) in
+        let was_sent : rule.world.stage row ≡ posted (request_in op_in sent) = was ∙ ap posted (sym image) in
+        let on_sent : sent.object ≡ object = ap (λ z. z.object) image ∙ on in
+        may_pick sent was_sent on_sent at_home hit
+
+    -- At another word the client notes a miss.
+    pick_misses : found_there ≢ 1 + object → MayPick
+    pick_misses miss =
+        let ok = mine rule id is_client at in
+        let word : found_there ≡ row_word (rule.world.stage row) = rule.tied.rows row few in
+        let view' : DeskView = after_row_miss (row_place row) object me.0 in
+        let knows : SeatAgrees kinds rule.world me.0.number view' =
+        noting_ok row me.0 rule.sound ok holding (λ e. miss (word ∙ e)) in
+        let told : play.picks content op_in reply_in try_to_pick me found_there (view', me.1) =
+        λ object' row' log' holding' place. (
+          (λ hit. absurd (miss (hit ∙ ap (λ z. 1 + z) (sym (one_object holding holding'))))),
+          λ _. row_missed row row' me ok holding holding' (omega arith) (λ f. miss (word ∙ f)),
+        ) in (
+          view',
+          keeps,
+          tt,
+          rw (ne_eqb found_there (1 + object) miss) (unmoved rule (row_place row) id view' me.1 at is_client alike
+              knows),
+          told,
+        )
+
+  -- a try to pick up a row's request keeps the rule, with its object held and nothing in hand
+  pub pick_keeps_rule : (slots id object row : ℕ) (me : Me (Slot S O R) DeskView) (log : List AnyEntry)
+      → me.0.role ≡ role.Client → row < max_clients → me.0.held ≡ held.Pass object log
+      → Allows DeskRule slots id me (row_place row) (λ f. either (eqb f (1 + object)) (first_picked + object) f)
+      (play.picks content op_in reply_in (step slots (row_place row) (1 + object) (first_picked + object) maybe.none)
+      me)
+  pick_keeps_rule slots id object row me log is_client few holding state rule deep at small =
+      dite (ℕ_discrete (get_or state.words (row_place row) 0) (1 + object))
+      (pick_hits rule slots id object row me log is_client at few holding)
+      (pick_misses rule slots id object row me log is_client at few holding)
 
   -- ---- putting the request back
 
@@ -369,59 +448,95 @@ module _ {S O R : Type 0} (content : S → Content) (op_in : O → AnyOp) (reply
       let holds = hand.holds in
       grind (arith, sound.in_hand y row f)
 
+  -- a client that has the request of a row in hand puts it back
+  module _ {state : State (Slot S O R) DeskView} (rule : DeskRule state) (id object row : ℕ)
+      (me : Me (Slot S O R) DeskView) (log : List AnyEntry) (request : AnyRequest) (is_client : me.0.role ≡ role.Client)
+      (at : get_elem? state.views id ≡ some me.0) (holding : me.0.held ≡ held.Hand object log row request)
+      (on : request.object ≡ object) where
+    -- what the client's view tells of the request in hand
+    hand_before : IsHand kinds rule.world me.0.number object log row request
+    hand_before = hand_of (mine rule id is_client at) holding
+
+    -- the client's view after the request was put back
+    abbrev view_put_back : DeskView
+    view_put_back = after_put_back object log row request me.0
+
+    -- the row goes on with its call
+    putting_back_goes_on : GoesOn rule.world row request (posted request) rule.world.log
+    putting_back_goes_on =
+        let was : rule.world.stage row ≡ picked request = hand_before.picked_up in
+        record {
+          from = inr (inl was);
+          to = inl refl;
+          unanswered = λ q a e. absurd cc;
+          grow = λ y. starts_same (rule.world.log y);
+        }
+
+    -- The request was not in its row, and is there once the client has put it back.
+    not_there : NotPosted (rule.world.stage row)
+    not_there p e = let was = hand_before.picked_up in absurd cc
+
+    -- The client agrees with the world once its hand is empty and the request is in its row.
+    putter_agrees : SeatAgrees kinds (handed rule.world object None row (posted request)) me.0.number view_put_back
+    putter_agrees =
+        let world : World = rule.world in
+        let client : ℕ = me.0.number in
+        let stage : Stage = posted request in
+        let ok = mine rule id is_client at in
+        let hand = hand_before in
+        let hands : ℕ → Option ℕ = changed world.hand object None in
+        let empty : hands object ≡ None = changed_here world.hand object None in
+        let now : HeldAgrees (length kinds) (handed world object None row stage) client (held.Pass object log) =
+        (hand.inside, hand.holds, empty, hand.logged, hand.only) in
+        let put : PutBack = record { row = row; request = request } in
+        let in_row : InRow (changed world.stage row stage) world.holder client put =
+        (changed_here world.stage row stage, ap world.holder on ∙ hand.holds) in
+        let in_rows = All-push (InRow (changed world.stage row stage) world.holder client) me.0.back put
+        (rows_stay world client row stage me.0.back not_there ok.back) in_row in
+        seat_row world row request stage world.log putting_back_goes_on kinds hands client me.0 (held.Pass object log)
+        view_put_back.back in_rows ok now
+
+    -- the world after the request was put back
+    after_putting_back : (sent : Request O) → request_in op_in sent ≡ request
+        → After rule me.0 view_put_back (set state.words (row_place row) (1 + object))
+        (set state.homes (call_slot row) (some (slot.Request sent)))
+    after_putting_back sent is =
+        let world : World = rule.world in
+        let client : ℕ = me.0.number in
+        let stage : Stage = posted request in
+        let hand = hand_before in
+        let was : world.stage row ≡ picked request = hand.picked_up in
+        record {
+          world = handed world object None row stage;
+          holders = rule.holders;
+          come = come_after clients world row stage (rule.come row (λ e. absurd cc)) rule.come;
+          sound = sound_put_back kinds quota world object row client request was on hand.holds hand.in_hand rule.sound;
+          -- the words and the slots agree with the new world
+          tied = tied_row row (1 + object) stage (changed world.hand object None) world.log (some (slot.Request sent))
+              hand.few (λ y _. refl) (λ e. absurd (cc)) (ap request_of (sym was)) (ap (λ z. 1 + z) (sym on))
+              (sent, refl, is) rule.tied;
+          leave = row_leaves world row stage (ap request_of was);
+          -- the other clients keep what they know
+          others = λ another other. later_row world row request stage world.log putting_back_goes_on object client
+              another None (λ y _. refl) (apart another hand on other rule.sound) (λ p _. not_there p) hand.holds
+              other;
+          own = putter_agrees;
+        }
+
   -- putting the request in hand back keeps the rule, with the word of its object
   pub put_back_keeps_rule : (slots id object row word : ℕ) (me : Me (Slot S O R) DeskView) (log : List AnyEntry)
       (request : AnyRequest) (sent : Request O) (more : List (ℕ × Slot S O R))
       → me.0.role ≡ role.Client → me.0.held ≡ held.Hand object log row request
-      → me.1 ≡ (16 + row, slot.Request sent) ∷ more → request_in op_in sent ≡ request → request.object ≡ object
+      → me.1 ≡ (call_slot row, slot.Request sent) ∷ more → request_in op_in sent ≡ request → request.object ≡ object
       → word ≡ 1 + object
       → Allows DeskRule slots id me (row_place row) (λ _. word)
       (λ _. play.puts_back content op_in reply_in (step slots (row_place row) word 0 maybe.none) me word)
   put_back_keeps_rule slots id object row word me log request sent more is_client holding carried is on is_word state
       rule deep at small =
-      let world : World = rule.world in
-      let client : ℕ = me.0.number in
-      let ok = mine rule id is_client at in
-      let hand = hand_of ok holding in
-      let was : world.stage row ≡ picked request = hand.picked_up in
-      -- the row goes on with its call
-      let stage : Stage = posted request in
-      let hands : ℕ → Option ℕ = changed world.hand object None in
-      let world' : World = handed world object None row stage in
       let view' : DeskView = after_put_back object log row request me.0 in
-      let goes : GoesOn world row request stage world.log = record {
-        from = inr (inl was);
-        to = inl refl;
-        unanswered = λ q a e. absurd cc;
-        grow = λ y. starts_same (world.log y);
-      } in
-      let unposted : NotPosted (world.stage row) = λ p e. absurd cc in
-      -- the client holds the object, with nothing in hand, and the request is in its row
-      let empty : hands object ≡ None = changed_here world.hand object None in
-      let now : HeldAgrees (length kinds) world' client (held.Pass object log) =
-      (hand.inside, hand.holds, empty, hand.logged, hand.only) in
-      let in_row : InRow (changed world.stage row stage) world.holder client (record { row = row; request = request }) =
-      (changed_here world.stage row stage, ap world.holder on ∙ hand.holds) in
-      let in_rows = All-push (InRow (changed world.stage row stage) world.holder client) me.0.back
-      (record { row = row; request = request }) (rows_stay world client row stage me.0.back unposted ok.back) in_row in
       let after : After rule me.0 view' (set state.words (row_place row) word)
-      (set state.homes (16 + row) (some (slot.Request sent))) =
-      record {
-        world = world';
-        holders = rule.holders;
-        come = come_after clients world row stage (rule.come row (λ e. absurd cc)) rule.come;
-        sound = sound_put_back kinds quota world object row client request was on hand.holds hand.in_hand rule.sound;
-        -- the words and the slots agree with the new world
-        tied = tied_row row word stage hands world.log (some (slot.Request sent)) hand.few (λ y _. refl)
-            (λ e. absurd (cc)) (ap request_of (sym was)) (is_word ∙ ap (λ z. 1 + z) (sym on)) (sent, refl, is)
-            rule.tied;
-        leave = row_leaves world row stage (ap request_of was);
-        -- the other clients keep what they know
-        others = λ another other. later_row world row request stage world.log goes object client another None
-            (λ y _. refl) (apart another hand on other rule.sound) (λ p _. unposted p) hand.holds other;
-        own = seat_row world row request stage world.log goes kinds hands client me.0 (held.Pass object log) view'.back
-            in_rows ok now;
-      } in
+      (set state.homes (call_slot row) (some (slot.Request sent))) =
+      rw is_word (after_putting_back rule id object row me log request is_client at holding on sent is) in
       let told : play.puts_back content op_in reply_in (step slots (row_place row) word 0 maybe.none) me word
       (view', rest me.1) =
       λ object' row' log' request' holding'.
@@ -480,62 +595,92 @@ module _ {S O R : Type 0} (content : S → Content) (op_in : O → AnyOp) (reply
   answer_carried d (y ∷ ys) = answer_or d y.1
   answer_carried d [] = d
 
+  -- a client that has the request of a row in hand answers it, and the log is legal with the answer
+  module _ {state : State (Slot S O R) DeskView} (rule : DeskRule state) (id object row : ℕ)
+      (me : Me (Slot S O R) DeskView) (log : List AnyEntry) (request : AnyRequest) (given : Answer R)
+      (is_client : me.0.role ≡ role.Client) (at : get_elem? state.views id ≡ some me.0)
+      (holding : me.0.held ≡ held.Hand object log row request) (on : request.object ≡ object)
+      (legal : IsLegalLog (kind_at me.0.kinds object) (log ++ logged row request (answer_in reply_in given))) where
+    -- the entries by which the log of the object grows
+    abbrev entries_answered : List AnyEntry
+    entries_answered = logged row request (answer_in reply_in given)
+
+    -- the logs after the answer
+    abbrev logs_answered : ℕ → List AnyEntry
+    logs_answered = changed rule.world.log object (rule.world.log object ++ entries_answered)
+
+    -- the world after the answer
+    abbrev world_answered : World
+    world_answered = served_by rule.world object row request (answer_in reply_in given)
+
+    -- The client holds the object with the longer log, and has nothing in hand.
+    answerer_holds : HeldAgrees (length kinds) world_answered me.0.number (held.Pass object (log ++ entries_answered))
+    answerer_holds =
+        let world : World = rule.world in
+        let hand = hand_of (mine rule id is_client at) holding in
+        let empty : changed world.hand object None object ≡ None = changed_here world.hand object None in
+        let long : logs_answered object ≡ log ++ entries_answered =
+        changed_here world.log object (world.log object ++ entries_answered)
+        ∙ ap (λ z. z ++ entries_answered) hand.logged in
+        (hand.inside, hand.holds, empty, long, hand.only)
+
+    -- the longer log is legal in the world
+    legal_there : IsLegalLog (kind_at kinds object) (rule.world.log object ++ entries_answered)
+    legal_there =
+        let ok = mine rule id is_client at in
+        let hand = hand_of ok holding in
+        subst (λ (z : List Kind × List AnyEntry). IsLegalLog (kind_at z.0 object) (z.1 ++ entries_answered))
+        (λ i. (ok.kinds_are i, sym hand.logged i)) legal
+
+    -- what the rule asks of the world after the answer
+    after_answering : After rule me.0 (after_answer row object (log ++ entries_answered) me.0)
+        (set state.words (row_place row) answered_word)
+        (set state.homes (call_slot row) (some (slot.Answer given)))
+    after_answering =
+        let world : World = rule.world in
+        let client : ℕ = me.0.number in
+        let answer : AnyAnswer = answer_in reply_in given in
+        let stage : Stage = answered request answer in
+        let ok = mine rule id is_client at in
+        let hand = hand_of ok holding in
+        let was : world.stage row ≡ picked request = hand.picked_up in
+        let goes : GoesOn world row request stage logs_answered = answered_on world object row request answer was in
+        let keep : (y : ℕ) → y ≢ object → logs_answered y ≡ world.log y =
+        changed_else world.log object (world.log object ++ entries_answered) in
+        record {
+          world = world_answered;
+          holders = rule.holders;
+          come = come_after clients world row stage (rule.come row (λ e. absurd cc)) rule.come;
+          sound = sound_served kinds quota world object row client request answer was on hand.holds hand.in_hand
+              legal_there rule.sound;
+          -- the words and the slots agree with the new world
+          tied = tied_row row answered_word stage (changed world.hand object None) logs_answered
+              (some (slot.Answer given)) hand.few (λ y e. keep y (λ same. absurd cc)) (λ e. absurd (cc))
+              (ap request_of (sym was)) refl (given, refl, refl) rule.tied;
+          leave = row_leaves world row stage (ap request_of was);
+          -- the other clients keep what they know
+          others = λ another other. later_row world row request stage logs_answered goes object client another None keep
+              (apart another hand on other rule.sound) (λ p _ e. absurd cc) hand.holds other;
+          own = seat_answered world client object row request answer me.0 (held.Pass object (log ++ entries_answered))
+              was ok answerer_holds;
+        }
+
   -- answering the request in hand keeps the rule, if the log is legal with the answer
   pub answer_keeps_rule : (slots id object row : ℕ) (me : Me (Slot S O R) DeskView) (log : List AnyEntry)
       (request : AnyRequest) (given : Answer R) (more : List (ℕ × Slot S O R))
       → me.0.role ≡ role.Client → me.0.held ≡ held.Hand object log row request
-      → me.1 ≡ (16 + row, slot.Answer given) ∷ more → request.object ≡ object
+      → me.1 ≡ (call_slot row, slot.Answer given) ∷ more → request.object ≡ object
       → IsLegalLog (kind_at me.0.kinds object) (log ++ logged row request (answer_in reply_in given))
-      → Allows DeskRule slots id me (row_place row) (λ _. 33)
-      (λ _. play.answers content op_in reply_in (step slots (row_place row) 33 0 maybe.none) me 33)
+      → Allows DeskRule slots id me (row_place row) (λ _. answered_word)
+      (λ _. play.answers content op_in reply_in (step slots (row_place row) answered_word 0 maybe.none) me
+      answered_word)
   answer_keeps_rule slots id object row me log request given more is_client holding carried on legal state rule deep at
       small =
-      let world : World = rule.world in
-      let client : ℕ = me.0.number in
-      let ok = mine rule id is_client at in
-      let hand = hand_of ok holding in
-      let was : world.stage row ≡ picked request = hand.picked_up in
-      -- the row goes on with its call, and the log grows by what the answer says
-      let answer : AnyAnswer = answer_in reply_in given in
-      let stage : Stage = answered request answer in
-      let entries : List AnyEntry = logged row request answer in
-      let logs : ℕ → List AnyEntry = changed world.log object (world.log object ++ entries) in
-      let hands : ℕ → Option ℕ = changed world.hand object None in
-      let world' : World = served_by world object row request answer in
-      let view' : DeskView = after_answer row object (log ++ entries) me.0 in
-      let goes : GoesOn world row request stage logs = answered_on world object row request answer was in
-      let keep : (y : ℕ) → y ≢ object → logs y ≡ world.log y =
-      changed_else world.log object (world.log object ++ entries) in
-      let legal' : IsLegalLog (kind_at kinds object) (world.log object ++ entries) =
-      subst (λ (z : List Kind × List AnyEntry). IsLegalLog (kind_at z.0 object) (z.1 ++ entries))
-      (λ i. (ok.kinds_are i, sym hand.logged i)) legal in
-      -- the client holds the object, with nothing in hand
-      let empty : hands object ≡ None = changed_here world.hand object None in
-      let long : logs object ≡ log ++ entries =
-      changed_here world.log object (world.log object ++ entries) ∙ ap (λ z. z ++ entries) hand.logged in
-      let now : HeldAgrees (length kinds) world' client (held.Pass object (log ++ entries)) =
-      (hand.inside, hand.holds, empty, long, hand.only) in
-      let after : After rule me.0 view' (set state.words (row_place row) 33)
-      (set state.homes (16 + row) (some (slot.Answer given))) =
-      record {
-        world = world';
-        holders = rule.holders;
-        come = come_after clients world row stage (rule.come row (λ e. absurd cc)) rule.come;
-        sound = sound_served kinds quota world object row client request answer was on hand.holds hand.in_hand legal'
-            rule.sound;
-        -- the words and the slots agree with the new world
-        tied = tied_row row 33 stage hands logs (some (slot.Answer given)) hand.few
-            (λ y e. keep y (λ same. absurd cc)) (λ e. absurd (cc)) (ap request_of (sym was)) refl (given, refl, refl)
-            rule.tied;
-        leave = row_leaves world row stage (ap request_of was);
-        -- the other clients keep what they know
-        others = λ another other. later_row world row request stage logs goes object client another None keep
-            (apart another hand on other rule.sound) (λ p _ e. absurd cc) hand.holds other;
-        own = seat_answered world client object row request answer me.0 (held.Pass object (log ++ entries)) was ok now;
-      } in
+      let view' : DeskView = after_answer row object (log ++ logged row request (answer_in reply_in given)) me.0 in
+      let after = after_answering rule id object row me log request given is_client at holding on legal in
       -- the view and the slots in hand after the step
-      let told : play.answers content op_in reply_in (step slots (row_place row) 33 0 maybe.none) me 33
-      (view', rest me.1) =
+      let told : play.answers content op_in reply_in (step slots (row_place row) answered_word 0 maybe.none) me
+      answered_word (view', rest me.1) =
       λ object' row' i log' request' given' more' holding' carried'.
       let same = sym holding ∙ holding' in
       let same_given = ap (answer_carried given) (sym carried ∙ carried') in

@@ -7,7 +7,7 @@ use mathlib.Core.Option.{some}
 use lib.ListN.{get_elem?}
 use lib.Seq.{set-get_or}
 use Rattle.std.proofs.lemmas.List.Elements.{All-weaker}
-use Rattle.atomic_table.specs.Table.{State, keeps, stepped}
+use Rattle.atomic_table.specs.Table.{State, Me, Act, Valid, keeps, stepped, carried_after}
 use Rattle.atomic_table.specs.Seated.{TableId}
 use Rattle.atomic_table.proofs.Lists.{at_set}
 use Rattle.model.specs.declared.Kind.{Kind}
@@ -32,6 +32,7 @@ use Rattle.desk_model.proofs.Entries.{starts_longer, starts_same}
 use Rattle.desk_invariant.specs.Views.{seen_of, received_of, after_miss}
 use Rattle.desk_invariant.specs.Rule.{OwnCallAgrees, HoldsOnly, HeldAgrees, SeatAgrees, HasLeft, ViewAgrees}
 use Rattle.desk_invariant.specs.Rule.{HasOneMaker, Tied, Kept}
+use Rattle.desk_model.specs.Limits.{max_clients}
 
 -- ---- what a step leaves to the other clients
 
@@ -78,13 +79,13 @@ rows_stay world client row stage back unposted =
       at.1,
     )) back
 
--- at a step from world to world', who has ended stays so, and its journal with it
-abbrev pub Leaves : World → World → Type 0
-Leaves world world' = (d : ℕ) → world.ended d ≡ true
+-- Clients that have ended in world have ended in world', with the same journals.
+abbrev pub KeepsEnded : World → World → Type 0
+KeepsEnded world world' = (d : ℕ) → world.ended d ≡ true
     → (world'.ended d ≡ true) × (journal_in world' d ≡ journal_in world d)
 
 -- what was told of clients that have ended stays true
-left_stays : (world world' : World) (leavings : List Leaving) → Leaves world world' → All (HasLeft world) leavings
+left_stays : (world world' : World) (leavings : List Leaving) → KeepsEnded world world' → All (HasLeft world) leavings
     → All (HasLeft world') leavings
 left_stays world world' leavings leave =
     All-weaker (HasLeft world) (HasLeft world')
@@ -111,7 +112,7 @@ held_stays : (count : ℕ) (world world' : World) (client : ℕ) → Later world
 held_stays count world world' client later holding holds = grind (arith, later.holds, later.held, later.picked)
 
 -- the view of a client stays true at the step of another
-seat_stays : (kinds : List Kind) (world world' : World) (client : ℕ) (view : DeskView) → Leaves world world'
+seat_stays : (kinds : List Kind) (world world' : World) (client : ℕ) (view : DeskView) → KeepsEnded world world'
     → Later world world' client → SeatAgrees kinds world client view → SeatAgrees kinds world' client view
 seat_stays kinds world world' client view leave later ok =
     let ready : view.ready ≡ true → IsAnswered (world'.stage client) =
@@ -201,7 +202,7 @@ pub record IsHand (kinds : List Kind) (world : World) (client object : ℕ) (log
   pub in_hand : world.hand object ≡ Some row
   pub logged : world.log object ≡ log
   pub only : HoldsOnly world client object
-  pub few : row < 32
+  pub few : row < max_clients
   pub picked_up : world.stage row ≡ picked request
 
 -- what the view of such a client tells
@@ -231,7 +232,7 @@ seats_after : (kinds : List Kind) (lists : List TableId) (clients : ℕ) (world 
     (views : List DeskView) (id : ℕ) (view view' : DeskView)
     → get_elem? views id ≡ some view → view.role ≡ role.Client → Alike view view' → HasOneMaker clients views
     → ((j : ℕ) (u : DeskView) → get_elem? views j ≡ some u → ViewAgrees kinds lists world seat_of j u)
-    → Leaves world world' → ((c : ℕ) → c ≢ view.number → Later world world' c)
+    → KeepsEnded world world' → ((c : ℕ) → c ≢ view.number → Later world world' c)
     → SeatAgrees kinds world' view.number view'
     → (j : ℕ) (u : DeskView) → get_elem? (set views id view') j ≡ some u → ViewAgrees kinds lists world' seat_of j u
 seats_after kinds lists clients world world' seat_of views id view view' at is_client alike makers before leave others
@@ -342,6 +343,14 @@ module _ {S O R : Type 0} (content : S → Content) (op_in : O → AnyOp) (reply
   abbrev pub Rule : St → Type 0
   Rule = Kept content op_in reply_in kinds clients quota
 
+  -- what `Allows` asks of the rule in one state
+  abbrev pub AllowsIn : St → ℕ → Me (Slot S O R) DeskView → ℕ → (ℕ → ℕ) → (ℕ → Me (Slot S O R) DeskView → Type 0)
+      → Type 0
+  AllowsIn state id me word f told =
+      (view' : DeskView) × (act : Act (Slot S O R)) × Valid state.homes me.1 act
+      × Rule (stepped state word (f (get_or state.words word 0)) id me.1 view' act)
+      × told (get_or state.words word 0) (view', carried_after me.1 act)
+
 module _ {S O R : Type 0} {content : S → Content} {op_in : O → AnyOp} {reply_in : R → AnyReply} {kinds : List Kind}
     {clients quota : ℕ} where
   -- what the view of a client says of the client itself is true
@@ -358,7 +367,7 @@ module _ {S O R : Type 0} {content : S → Content} {op_in : O → AnyOp} {reply
     pub come : (d : ℕ) → world.stage d ≢ absent → d < clients
     pub sound : Sound kinds quota world
     pub tied : Tied content op_in reply_in kinds rule.lists world words homes
-    pub leave : Leaves rule.world world
+    pub leave : KeepsEnded rule.world world
     pub others : (another : ℕ) → another ≢ view.number → Later rule.world world another
     pub own : SeatAgrees kinds world view.number view'
 

@@ -16,6 +16,7 @@ use Rattle.desk_model.specs.Sound.{Sound}
 use Rattle.desk_model.proofs.Entries.{entries-append}
 use Rattle.desk_invariant.specs.Views.{owed, after_meet, IsAtRest, MayHold, IsAccount}
 use Rattle.desk_invariant.specs.Rule.{OwnCallAgrees, SeatAgrees}
+use Rattle.desk_model.specs.Limits.{max_objects}
 
 -- what is owed to a client is in the log
 owed_served : (object client : ℕ) (call : Own) (stage : Stage) → OwnCallAgrees call stage
@@ -49,8 +50,8 @@ seen_all P seen object log low here others y = dite (ℕ_discrete y object)
     (λ other. subst (P y) (sym (get_or-set_other seen object y log [] other)) (others y other))
 
 -- the client sees this log, a beginning of the object's log that has its own calls
-pub saw : (kinds : List Kind) (world : World) (client object : ℕ) (view : DeskView) (log : List AnyEntry) → object < 16
-    → StartsWith (world.log object) log
+pub saw : (kinds : List Kind) (world : World) (client object : ℕ) (view : DeskView) (log : List AnyEntry)
+    → object < max_objects → StartsWith (world.log object) log
     → StartsWith (entries_of_client client log) (served object client view.done ++ owed object client view.own)
     → SeatAgrees kinds world client view → SeatAgrees kinds world client (after_meet object log view)
 saw kinds world client object view log low begins covers ok =

@@ -18,8 +18,9 @@ use Rattle.desk_model.specs.World.{AnyEntry, AnyDone, Stage, absent, World, kind
 use Rattle.desk_model.specs.Transitions.{changed, staged, ticked, held_by, ended_by}
 use Rattle.desk_model.specs.Images.{event_in}
 use Rattle.desk_model.proofs.Changed.{changed_else, changed_all}
-use Rattle.desk_invariant.specs.Views.{row_place, end_place, clock_place}
+use Rattle.desk_invariant.specs.Views.{row_place, end_place, clock_place, call_slot, journal_slot}
 use Rattle.desk_invariant.specs.Rule.{Home, lock_word, row_word, end_word, CoreFits, CoreAt, CallAt, JournalAt, Tied}
+use Rattle.desk_model.specs.Limits.{max_clients}
 
 module _ {S O R : Type 0} {content : S → Content} {op_in : O → AnyOp} {reply_in : R → AnyReply} where
   -- the slot of a journal serves a stage with the same request, unless the client has not come
@@ -66,29 +67,30 @@ module _ {S O R : Type 0} {content : S → Content} {op_in : O → AnyOp} {reply
             (λ y other l e.
             let (core, there, fits) = tied.cores y l e in
             (core, set_else homes object y home other ∙ there, fits));
-        calls = λ r l. rw ((set_else homes object (16 + r) home (λ e. omega arith))) (tied.calls r l);
-        journals = λ c l. rw ((set_else homes object (48 + c) home (λ e. omega arith))) (tied.journals c l);
+        calls = λ r l. rw ((set_else homes object (call_slot r) home (λ e. omega arith))) (tied.calls r l);
+        journals = λ c l. rw ((set_else homes object (journal_slot c) home (λ e. omega arith))) (tied.journals c l);
       }
 
   -- the row goes to the stage: its word is set to this one, and its slot to home
   pub tied_row : (row word : ℕ) (stage : Stage) (hands : ℕ → Option ℕ) (logs : ℕ → List AnyEntry)
-      (home : maybe.Option (Slot S O R)) → row < 32 → ((x : ℕ) → world.holder x ≡ None → logs x ≡ world.log x)
+      (home : maybe.Option (Slot S O R)) → row < max_clients → ((x : ℕ) → world.holder x ≡ None → logs x ≡ world.log x)
       → stage ≢ absent → request_of stage ≡ request_of (world.stage row) → word ≡ row_word stage
       → CallAt content op_in reply_in (some home) stage
       → Tied content op_in reply_in kinds lists world words homes
       → Tied content op_in reply_in kinds lists
       (record world { hand = hands; log = logs; stage = changed world.stage row stage })
-      (set words (row_place row) word) (set homes (16 + row) home)
+      (set words (row_place row) word) (set homes (call_slot row) home)
   tied_row row word stage hands logs home low kept come same is_word ok tied =
       let wide = tied.wide in
       let deep = tied.deep in
       let few = tied.objects in
       record {
         wide = length-set words (row_place row) word ∙ wide;
-        deep = length-set homes (16 + row) home ∙ deep;
+        deep = length-set homes (call_slot row) home ∙ deep;
         objects = few;
         locks = λ x l. get_or-set_other words (row_place row) x word 0 (λ e. omega arith) ∙ tied.locks x l;
-        rows = changed_all (λ j u. j < 32 → get_or (set words (row_place row) word) (row_place j) 0 ≡ row_word u)
+        rows = changed_all
+            (λ j u. j < max_clients → get_or (set words (row_place row) word) (row_place j) 0 ≡ row_word u)
             world.stage row stage
             (λ l. get_or-set_same words (row_place row) word 0 (omega arith) ∙ is_word)
             (λ j other l. get_or-set_other words (row_place row) (row_place j) word 0 (λ e. other (omega arith))
@@ -97,20 +99,22 @@ module _ {S O R : Type 0} {content : S → Content} {op_in : O → AnyOp} {reply
         clock = get_or-set_other words (row_place row) clock_place word 0 (λ e. omega arith) ∙ tied.clock;
         cores = λ x l e. let (core, there, fits) = tied.cores x l e in (
           core,
-          set_else homes (16 + row) x home (λ e. omega arith) ∙ there,
+          set_else homes (call_slot row) x home (λ e. omega arith) ∙ there,
           subst (CoreFits content op_in reply_in (kind_at kinds x) (get_elem? lists x) core) (sym (kept x e)) fits,
         );
         calls = changed_all
-            (λ j u. j < 32 → CallAt content op_in reply_in (get_elem? (set homes (16 + row) home) (16 + j)) u)
+            (λ j u. j < max_clients
+            → CallAt content op_in reply_in (get_elem? (set homes (call_slot row) home) (call_slot j)) u)
             world.stage row stage
-            (λ l. rw ((set_here homes (16 + row) home (omega arith))) ok)
-            (λ j other l. rw ((set_else homes (16 + row) (16 + j) home (λ e. other (omega arith)))) (tied.calls j l));
-        journals = λ c l. rw ((set_else homes (16 + row) (48 + c) home (λ e. omega arith)))
-            (changed_all (λ d u. d < 32
-            → JournalAt content op_in reply_in (get_elem? homes (48 + d)) u (world.done d) (world.ended d))
+            (λ l. rw ((set_here homes (call_slot row) home (omega arith))) ok)
+            (λ j other l. rw ((set_else homes (call_slot row) (call_slot j) home (λ e. other (omega arith))))
+            (tied.calls j l));
+        journals = λ c l. rw ((set_else homes (call_slot row) (journal_slot c) home (λ e. omega arith)))
+            (changed_all (λ d u. d < max_clients
+            → JournalAt content op_in reply_in (get_elem? homes (journal_slot d)) u (world.done d) (world.ended d))
             world.stage row stage
-            (λ l. journaled_on (get_elem? homes (48 + row)) (world.stage row) stage (world.done row) (world.ended row)
-            come same (tied.journals row l))
+            (λ l. journaled_on (get_elem? homes (journal_slot row)) (world.stage row) stage (world.done row)
+            (world.ended row) come same (tied.journals row l))
             (λ d _. tied.journals d) c l);
       }
 
@@ -130,7 +134,7 @@ module _ {S O R : Type 0} {content : S → Content} {op_in : O → AnyOp} {reply
         deep = tied.deep;
         objects = few;
         locks = λ x l. get_or-set_other words clock_place x word 0 (λ e. omega arith) ∙ tied.locks x l;
-        rows = changed_all (λ j u. j < 32 → get_or (set words clock_place word) (row_place j) 0 ≡ row_word u)
+        rows = changed_all (λ j u. j < max_clients → get_or (set words clock_place word) (row_place j) 0 ≡ row_word u)
             world.stage client stage
             (λ l. get_or-set_other words clock_place (row_place client) word 0 (λ e. omega arith)
             ∙ (tied.rows client l ∙ same))
@@ -138,25 +142,25 @@ module _ {S O R : Type 0} {content : S → Content} {op_in : O → AnyOp} {reply
         ends = λ d l. get_or-set_other words clock_place (end_place d) word 0 (λ e. omega arith) ∙ tied.ends d l;
         clock = get_or-set_same words clock_place word 0 (omega arith) ∙ is_word;
         cores = tied.cores;
-        calls = changed_all (λ j u. j < 32 → CallAt content op_in reply_in (get_elem? homes (16 + j)) u)
-            world.stage client stage (λ l. ok (get_elem? homes (16 + client))) (λ j _. tied.calls j);
-        journals = λ d. changed_all (λ d u. d < 32
-            → JournalAt content op_in reply_in (get_elem? homes (48 + d)) u (changed world.done client done d)
+        calls = changed_all (λ j u. j < max_clients → CallAt content op_in reply_in (get_elem? homes (call_slot j)) u)
+            world.stage client stage (λ l. ok (get_elem? homes (call_slot client))) (λ j _. tied.calls j);
+        journals = λ d. changed_all (λ d u. d < max_clients
+            → JournalAt content op_in reply_in (get_elem? homes (journal_slot d)) u (changed world.done client done d)
             (world.ended d))
             world.stage client stage
             (λ l. record { at_first = λ e. absurd (come e); at_last = λ e. absurd cc })
             (λ d other l. subst
-            (λ z. JournalAt content op_in reply_in (get_elem? homes (48 + d)) (world.stage d) z (world.ended d))
+            (λ z. JournalAt content op_in reply_in (get_elem? homes (journal_slot d)) (world.stage d) z (world.ended d))
             (sym (changed_else world.done client done d other)) (tied.journals d l)) d;
       }
 
   -- the client ends, and its journal is in its slot
-  pub tied_end : (client : ℕ) (book : Journal O R) → client < 32 → world.stage client ≢ absent
+  pub tied_end : (client : ℕ) (book : Journal O R) → client < max_clients → world.stage client ≢ absent
       → map (event_in op_in reply_in) book.events.items
       ≡ journal_of (world.done client) (request_of (world.stage client))
       → Tied content op_in reply_in kinds lists world words homes
       → Tied content op_in reply_in kinds lists (ended_by world client) (set words (end_place client) 1)
-      (set homes (48 + client) (some (slot.Journal book)))
+      (set homes (journal_slot client) (some (slot.Journal book)))
   tied_end client book low come says tied =
       let wide = tied.wide in
       let deep = tied.deep in
@@ -164,11 +168,12 @@ module _ {S O R : Type 0} {content : S → Content} {op_in : O → AnyOp} {reply
       let home : maybe.Option (Slot S O R) = some (slot.Journal book) in
       record {
         wide = length-set words (end_place client) 1 ∙ wide;
-        deep = length-set homes (48 + client) home ∙ deep;
+        deep = length-set homes (journal_slot client) home ∙ deep;
         objects = few;
         locks = λ x l. get_or-set_other words (end_place client) x 1 0 (λ e. omega arith) ∙ tied.locks x l;
         rows = λ r l. get_or-set_other words (end_place client) (row_place r) 1 0 (λ e. omega arith) ∙ tied.rows r l;
-        ends = changed_all (λ d b. d < 32 → get_or (set words (end_place client) 1) (end_place d) 0 ≡ end_word b)
+        ends = changed_all
+            (λ d b. d < max_clients → get_or (set words (end_place client) 1) (end_place d) 0 ≡ end_word b)
             world.ended client true
             (λ l. get_or-set_same words (end_place client) 1 0 (omega arith))
             (λ d other l. get_or-set_other words (end_place client) (end_place d) 1 0 (λ e. other (omega arith))
@@ -176,42 +181,46 @@ module _ {S O R : Type 0} {content : S → Content} {op_in : O → AnyOp} {reply
         clock = get_or-set_other words (end_place client) clock_place 1 0 (λ e. omega arith) ∙ tied.clock;
         cores = λ x l e. let (core, there, fits) = tied.cores x l e in (
           core,
-          set_else homes (48 + client) x home (λ e. omega arith) ∙ there,
+          set_else homes (journal_slot client) x home (λ e. omega arith) ∙ there,
           fits,
         );
-        calls = λ r l. rw ((set_else homes (48 + client) (16 + r) home (λ e. omega arith))) (tied.calls r l);
-        journals = changed_all (λ d b. d < 32
-            → JournalAt content op_in reply_in (get_elem? (set homes (48 + client) home) (48 + d)) (world.stage d)
-            (world.done d) b)
+        calls = λ r l. rw ((set_else homes (journal_slot client) (call_slot r) home (λ e. omega arith)))
+            (tied.calls r l);
+        journals = changed_all (λ d b. d < max_clients
+            → JournalAt content op_in reply_in (get_elem? (set homes (journal_slot client) home) (journal_slot d))
+            (world.stage d) (world.done d) b)
             world.ended client true
             (λ l. record {
               at_first = λ e. absurd (come e);
-              at_last = λ e. (book, set_here homes (48 + client) home (omega arith), says);
+              at_last = λ e. (book, set_here homes (journal_slot client) home (omega arith), says);
             })
-            (λ d other l. rw ((set_else homes (48 + client) (48 + d) home (λ e. other (omega arith))))
+            (λ d other l. rw ((set_else homes (journal_slot client) (journal_slot d) home (λ e. other (omega arith))))
             (tied.journals d l));
       }
 
   -- the client comes, and takes its two slots out
-  pub tied_coming : (client word : ℕ) (stage : Stage) → client < 32 → stage ≢ absent → world.ended client ≡ false
-      → word ≡ row_word stage → ((home : Home S O R) → CallAt content op_in reply_in home stage)
+  pub tied_coming : (client word : ℕ) (stage : Stage) → client < max_clients → stage ≢ absent
+      → world.ended client ≡ false → word ≡ row_word stage
+      → ((home : Home S O R) → CallAt content op_in reply_in home stage)
       → Tied content op_in reply_in kinds lists world words homes
       → Tied content op_in reply_in kinds lists (staged world client stage) (set words (row_place client) word)
-      (set (set homes (48 + client) maybe.none) (16 + client) maybe.none)
+      (set (set homes (journal_slot client) maybe.none) (call_slot client) maybe.none)
   tied_coming client word stage low come going is_word ok tied =
       let wide = tied.wide in
       let deep = tied.deep in
       let few = tied.objects in
-      let first : List (maybe.Option (Slot S O R)) = set homes (48 + client) maybe.none in
-      let both : List (maybe.Option (Slot S O R)) = set first (16 + client) maybe.none in
-      let away : (i : ℕ) → i ≢ 48 + client → i ≢ 16 + client → get_elem? both i ≡ get_elem? homes i =
-      λ i a b. set_else first (16 + client) i maybe.none b ∙ set_else homes (48 + client) i maybe.none a in
+      let first : List (maybe.Option (Slot S O R)) = set homes (journal_slot client) maybe.none in
+      let both : List (maybe.Option (Slot S O R)) = set first (call_slot client) maybe.none in
+      let away : (i : ℕ) → i ≢ journal_slot client → i ≢ call_slot client → get_elem? both i ≡ get_elem? homes i =
+      λ i a b. set_else first (call_slot client) i maybe.none b ∙ set_else homes (journal_slot client) i maybe.none a in
       record {
         wide = length-set words (row_place client) word ∙ wide;
-        deep = length-set first (16 + client) maybe.none ∙ (length-set homes (48 + client) maybe.none ∙ deep);
+        deep = length-set first (call_slot client) maybe.none
+            ∙ (length-set homes (journal_slot client) maybe.none ∙ deep);
         objects = few;
         locks = λ x l. get_or-set_other words (row_place client) x word 0 (λ e. omega arith) ∙ tied.locks x l;
-        rows = changed_all (λ j u. j < 32 → get_or (set words (row_place client) word) (row_place j) 0 ≡ row_word u)
+        rows = changed_all
+            (λ j u. j < max_clients → get_or (set words (row_place client) word) (row_place j) 0 ≡ row_word u)
             world.stage client stage
             (λ l. get_or-set_same words (row_place client) word 0 (omega arith) ∙ is_word)
             (λ j other l. get_or-set_other words (row_place client) (row_place j) word 0 (λ e. other (omega arith))
@@ -223,13 +232,14 @@ module _ {S O R : Type 0} {content : S → Content} {op_in : O → AnyOp} {reply
           away x (λ e. omega arith) (λ e. omega arith) ∙ there,
           fits,
         );
-        calls = changed_all (λ j u. j < 32 → CallAt content op_in reply_in (get_elem? both (16 + j)) u)
+        calls = changed_all (λ j u. j < max_clients → CallAt content op_in reply_in (get_elem? both (call_slot j)) u)
             world.stage client stage
-            (λ l. ok (get_elem? both (16 + client)))
-            (λ j other l. rw ((away (16 + j) (λ e. omega arith) (λ e. other (omega arith)))) (tied.calls j l));
-        journals = changed_all (λ d u. d < 32
-            → JournalAt content op_in reply_in (get_elem? both (48 + d)) u (world.done d) (world.ended d))
+            (λ l. ok (get_elem? both (call_slot client)))
+            (λ j other l. rw ((away (call_slot j) (λ e. omega arith) (λ e. other (omega arith)))) (tied.calls j l));
+        journals = changed_all (λ d u. d < max_clients
+            → JournalAt content op_in reply_in (get_elem? both (journal_slot d)) u (world.done d) (world.ended d))
             world.stage client stage
             (λ l. record { at_first = λ e. absurd (come e); at_last = λ e. absurd cc })
-            (λ d other l. rw ((away (48 + d) (λ e. other (omega arith)) (λ e. omega arith))) (tied.journals d l));
+            (λ d other l. rw ((away (journal_slot d) (λ e. other (omega arith)) (λ e. omega arith)))
+            (tied.journals d l));
       }

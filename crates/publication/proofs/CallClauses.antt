@@ -1,6 +1,6 @@
 -- The clauses of the desk's calls follow from what their steps told: what a seat knew before, and the view that the
 -- step gave it, determine the result.
-use Rattle.std.proofs.Common.{◌≡◌, ◌≢◌, ℕ, ◌+◌, ◌<◌, Bool, List, [], ◌∷◌, ◌++◌, length, All, IsSome, IsTrue, ◌↔◌}
+use Rattle.std.proofs.Common.{◌≡◌, ◌≢◌, ℕ, ◌<◌, Bool, List, [], ◌∷◌, ◌++◌, length, All, IsSome, IsTrue, ◌↔◌}
 use Rattle.std.proofs.Common.{refl, sym, ap, arith}
 use Rattle.std.proofs.lemmas.List.{get_or-set_same}
 use lib.ListN.{get_elem?}
@@ -23,6 +23,8 @@ use Rattle.desk_invariant.specs.Views.{after_answer, after_release}
 use Rattle.desk_invariant.specs.Rule.{CoreFits}
 use Rattle.publication.specs.Handles.{DeskId, Known, PassState, Holding, Handling, log_of}
 use Rattle.publication.specs.Calls.{IsWon, IsPicked, IsPickMiss, CanDoAfter, kind_held, IsAnsweredCall, IsPutBack}
+use Rattle.desk_invariant.specs.Views.{call_slot}
+use Rattle.desk_model.specs.Limits.{max_objects}
 
 -- ---- a miss, a release and an answer
 
@@ -43,7 +45,7 @@ is_released is e f = rw (f, e, is)
 pub log_is_seen : {S O R : Type 0} {p v : Holding} {filled released : Me (Slot S O R) DeskView} {i : ℕ} {s : Slot S O R}
     {tl : List (ℕ × Slot S O R)} → p ≡ v → filled ≡ (v.knows, (i, s) ∷ tl)
     → released ≡ (after_release v.object v.log filled.0, rest filled.1)
-    → v.object < 16 → length v.knows.seen ≡ 16 → seen_of released.0 p.object ≡ p.log
+    → v.object < max_objects → length v.knows.seen ≡ max_objects → seen_of released.0 p.object ≡ p.log
 log_is_seen {p} {v} is e f low wide = rw (f, e, is)
     (get_or-set_same v.knows.seen v.object v.log [] (omega arith))
 
@@ -116,8 +118,8 @@ module _ {S O R : Type 0} (op_in : O → AnyOp) where
   -- After a pick the client has got the request of the row: it was picked, and its slot emptied.
   pub pick_gives : (desk : DeskId) (state : PassState) (row : ℕ) {p v : Holding} {q q' : Request O}
       {tl : List (ℕ × Slot S O R)} {picked emptied : Me (Slot S O R) DeskView} → p ≡ v
-      → picked ≡ (after_pick v.object v.log row (request_in op_in q) v.knows, (16 + row, slot.Request q) ∷ tl)
-      → emptied ≡ (picked.0, (16 + row, slot.Nothing) ∷ rest picked.1) → q ≡ q' → q.object ≡ v.object
+      → picked ≡ (after_pick v.object v.log row (request_in op_in q) v.knows, (call_slot row, slot.Request q) ∷ tl)
+      → emptied ≡ (picked.0, (call_slot row, slot.Nothing) ∷ rest picked.1) → q ≡ q' → q.object ≡ v.object
       → kind_of (op_in q.op) ≡ kind_at v.knows.kinds v.object
       → All (λ b. b.row ≡ row → b.request ≡ request_in op_in q) v.knows.back
       → ((p : AnyRequest) → row ≡ v.knows.number → v.knows.own ≡ own.Waiting p → request_in op_in q ≡ p)

@@ -15,6 +15,7 @@ use Rattle.publication_list.specs.Dealing.{AreGrown, HaveRoom}
 use Rattle.publication.specs.Handles.{DeskId, trying, fresh_places, ArePlacesOf}
 use Rattle.publication.specs.Making.{HasPlaces, AreDealt, rosters_of}
 use Rattle.publication.proofs.Growing.{there}
+use Rattle.desk_model.specs.Limits.{max_objects}
 
 abbrev rows : List PlaceSeen → List ℕ
 rows ps = map (λ (p : PlaceSeen). p.row) ps
@@ -72,7 +73,7 @@ row_there (suc count) zero client row e = sym (some-injective client row e)
 row_there (suc count) (suc object) client row e = row_there count object client row e
 
 -- a client has a place of its row in the list of each object
-pub own_place : (client object : ℕ) (lists : List TableId) (places : List PlaceSeen) → object < 16
+pub own_place : (client object : ℕ) (lists : List TableId) (places : List PlaceSeen) → object < max_objects
     → ArePlacesOf client lists places → (p : PlaceSeen) × (get_elem? places object ≡ some p)
     × (p.row ≡ client) × (get_elem? (rosters places) object ≡ some p.roster)
 own_place client object lists places low own =
@@ -118,7 +119,7 @@ walkers_left all (x ∷ xs) ws' n n' some_left gone more left j =
 
 module _ {Z : Type 0} where
   -- each owner has room for one more place
-  pub room_left : (n : ℕ) (lists : List TableId) (owners : List (Vec PlaceSeen Z)) → length lists < 16
+  pub room_left : (n : ℕ) (lists : List TableId) (owners : List (Vec PlaceSeen Z)) → length lists < max_objects
       → AreDealt 0 n lists owners → HaveRoom owners
   room_left n lists owners low all c d l =
       let count = all.0 in

@@ -14,6 +14,7 @@ use Rattle.desk_invariant.specs.Views.{seen_of, after_meet, IsAccount}
 use Rattle.publication.specs.Handles.{DeskId, Known, IsClient}
 use Rattle.publication.specs.Calls.{HaveBothMet}
 use Rattle.publication.proofs.Holds.{agrees_seeing}
+use Rattle.desk_model.specs.Limits.{max_objects}
 
 module _ {S O R : Type 0} (op_in : O → AnyOp) (reply_in : R → AnyReply) (number calls quota : ℕ) (outstanding : Bool)
     (j : Journal O R) where
@@ -22,7 +23,7 @@ module _ {S O R : Type 0} (op_in : O → AnyOp) (reply_in : R → AnyReply) (num
 
   -- a client that was told what another has seen, and then has seen a longer log, is still a client
   pub met_ok : (object : ℕ) (log : List AnyEntry) (received : List (List AnyEntry))
-      (before after : Me (Slot S O R) DeskView) → TheClient before → object < 16
+      (before after : Me (Slot S O R) DeskView) → TheClient before → object < max_objects
       → IsLegalLog (kind_at before.0.kinds object) log → IsAccount object (record before.0 { received = received }) log
       → after ≡ (after_meet object log (record before.0 { received = received }), before.1) → TheClient after
   met_ok object log received before after k low legal account e =

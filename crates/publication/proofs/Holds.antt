@@ -28,13 +28,15 @@ use Rattle.desk_invariant.specs.Views.{after_answer, after_release, after_meet, 
 use Rattle.desk_invariant.specs.Rule.{CoreFits}
 use Rattle.desk_invariant.proofs.Seeing.{seen_all}
 use Rattle.publication.specs.Handles.{Agrees, log_of, IsClient, IsPass, IsHand}
+use Rattle.desk_invariant.specs.Views.{call_slot}
+use Rattle.desk_model.specs.Limits.{max_clients, max_objects}
 
 -- ---- what may change in a view with which the fields agree
 
 -- The client sees the list l of x. `Agrees` says nothing of what it was told, holds, has put back or has missed, how
 -- often it won, and what it knows of ends and of its row: `assumption` proves it where only these change.
 pub agrees_seeing : {O R : Type 0} {op_in : O → AnyOp} {reply_in : R → AnyReply} {number calls quota : ℕ}
-    {outstanding : Bool} {j : Journal O R} {v : DeskView} (x : ℕ) (l : List AnyEntry) → x < 16
+    {outstanding : Bool} {j : Journal O R} {v : DeskView} (x : ℕ) (l : List AnyEntry) → x < max_objects
     → IsLegalLog (kind_at v.kinds x) l → IsAccount x v l → Agrees op_in reply_in number calls quota outstanding j v
     → Agrees op_in reply_in number calls quota outstanding j (after_meet x l v)
 agrees_seeing {v = v} x l low legal account k = let wide = k.wide in assumption (
@@ -65,7 +67,7 @@ module _ {S O R : Type 0} (op_in : O → AnyOp) (reply_in : R → AnyReply) wher
       omega arith
 
 module _ {S O R : Type 0} (content : S → Content) (op_in : O → AnyOp) (reply_in : R → AnyReply) where
-  -- the core after a request was served
+  -- A core that served a request fits its log with one more entry.
   pub core_grows : (kind : Kind) (list : maybe.Option TableId) (row : ℕ) (before after : Core S O R)
       (request : Request O) (given : Answer R) → after.list ≡ before.list
       → CoreFits content op_in reply_in kind list before (log_of op_in reply_in before)
@@ -107,7 +109,7 @@ module _ {S O R : Type 0} (content : S → Content) (op_in : O → AnyOp) (reply
   -- the core is out of its slot
   pub pass_after_win : {x : ℕ} {k core : Core S O R} (l : List AnyEntry) {m won emptied : M} → TheClient m
       → won ≡ (after_win x l m.0, (x, slot.Core k) ∷ m.1) → emptied ≡ (won.0, (x, slot.Nothing) ∷ rest won.1) → core ≡ k
-      → CoreFits content op_in reply_in (kind_at m.0.kinds x) (get_elem? m.0.lists x) k l → x < 16
+      → CoreFits content op_in reply_in (kind_at m.0.kinds x) (get_elem? m.0.lists x) k l → x < max_objects
       → ThePass x core emptied
   pass_after_win {x} l c e f same fits low = rw (f, e, same) record {
     agrees = assumption c.agrees;
@@ -129,37 +131,37 @@ module _ {S O R : Type 0} (content : S → Content) (op_in : O → AnyOp) (reply
     in_hand = ap rest p.in_hand;
   }
 
-  -- with the core in hand, the client may release
-  pub release_ready : {x : ℕ} {core : Core S O R} {m filled : M} → ThePass x core m
+  -- With the core in its slots again, the client holds the object, and the core fits its log.
+  pub pass_with_core : {x : ℕ} {core : Core S O R} {m filled : M} → ThePass x core m
       → filled ≡ (m.0, (x, slot.Core core) ∷ rest m.1)
       → (filled.0.role ≡ role.Client) × (filled.0.held ≡ held.Pass x (log_of op_in reply_in core))
       × (filled.1 ≡ (x, slot.Core core) ∷ rest m.1)
       × CoreFits content op_in reply_in (kind_at filled.0.kinds x) (get_elem? filled.0.lists x)
       core (log_of op_in reply_in core)
       × IsAtRest filled.0.own
-  release_ready p e = rw e (p.agrees.client_is, p.holds, refl, p.fits, p.agrees.at_rest)
+  pass_with_core p e = rw e (p.agrees.client_is, p.holds, refl, p.fits, p.agrees.at_rest)
 
   -- ---- misses at rows, and requests in hand
 
-  -- with the request in hand again, the client may put it back
-  pub back_ready : {x : ℕ} {core : Core S O R} {r : ℕ} {p : Request O} {m filled : M} → TheHand x core r p m
-      → filled ≡ (m.0, (16 + r, slot.Request p) ∷ rest m.1)
+  -- With the request in its slots again, the client has that request of the row in hand.
+  pub hand_with_request : {x : ℕ} {core : Core S O R} {r : ℕ} {p : Request O} {m filled : M} → TheHand x core r p m
+      → filled ≡ (m.0, (call_slot r, slot.Request p) ∷ rest m.1)
       → (filled.0.role ≡ role.Client)
       × (filled.0.held ≡ held.Hand x (log_of op_in reply_in core) r (request_in op_in p))
-      × (filled.1 ≡ (16 + r, slot.Request p) ∷ rest m.1)
-  back_ready h e = rw e (h.agrees.client_is, h.holds, refl)
+      × (filled.1 ≡ (call_slot r, slot.Request p) ∷ rest m.1)
+  hand_with_request h e = rw e (h.agrees.client_is, h.holds, refl)
 
-  -- with the answer in hand, the client may answer
-  pub answer_ready : {x : ℕ} {k : Core S O R} (k' : Core S O R) {r : ℕ} {q : Request O} {a : Answer R} {m filled : M}
-      → TheHand x k r q m
-      → filled ≡ (m.0, (16 + r, slot.Answer a) ∷ rest m.1)
+  -- With the answer in its slots, the client has the request of the row in hand, and the log is legal with the answer.
+  pub hand_with_answer : {x : ℕ} {k : Core S O R} (k' : Core S O R) {r : ℕ} {q : Request O} {a : Answer R}
+      {m filled : M} → TheHand x k r q m
+      → filled ≡ (m.0, (call_slot r, slot.Answer a) ∷ rest m.1)
       → log_of op_in reply_in k' ≡ log_of op_in reply_in k ++ logged r (request_in op_in q) (answer_in reply_in a)
       → Serves (content k.object) (op_in q.op) (answer_in reply_in a) (content k'.object)
       → (filled.0.role ≡ role.Client) × (filled.0.held ≡ held.Hand x (log_of op_in reply_in k) r (request_in op_in q))
-      × (filled.1 ≡ (16 + r, slot.Answer a) ∷ rest m.1)
+      × (filled.1 ≡ (call_slot r, slot.Answer a) ∷ rest m.1)
       × IsLegalLog (kind_at filled.0.kinds x) (log_of op_in reply_in k
       ++ logged r (request_in op_in q) (answer_in reply_in a))
-  answer_ready {x} {k} k' {r} {q} {a} {m} h e log did = rw e (
+  hand_with_answer {x} {k} k' {r} {q} {a} {m} h e log did = rw e (
     h.agrees.client_is,
     h.holds,
     refl,
@@ -181,15 +183,19 @@ module _ {S O R : Type 0} (content : S → Content) (op_in : O → AnyOp) (reply
     low = p.low;
   }
 
-  -- the request q is out of its slot: it was picked, and the slot emptied
-  pub hand_ok : {x : ℕ} {core : Core S O R} (r : ℕ) {q p : Request O} {m picked emptied : M} → ThePass x core m
-      → picked ≡ (after_pick x (log_of op_in reply_in core) r (request_in op_in q) m.0, (16 + r, slot.Request q) ∷ m.1)
-      → emptied ≡ (picked.0, (16 + r, slot.Nothing) ∷ rest picked.1) → q ≡ p → q.object ≡ x
-      → kind_of (op_in q.op) ≡ kind_at m.0.kinds x → r < 32 → TheHand x core r p emptied
-  hand_ok r k e f same on of_kind low = rw (f, e, ← same) record {
+  -- After a pick, and with the slot emptied, the client has the request in hand.
+  pub hand_after_pick : {x : ℕ} {core : Core S O R} (r : ℕ) {q p : Request O} {m picked emptied : M} → ThePass x core m
+      → picked ≡ (
+        after_pick x (log_of op_in reply_in core) r (request_in op_in q) m.0,
+        (call_slot r, slot.Request q)
+            ∷ m.1,
+      )
+      → emptied ≡ (picked.0, (call_slot r, slot.Nothing) ∷ rest picked.1) → q ≡ p → q.object ≡ x
+      → kind_of (op_in q.op) ≡ kind_at m.0.kinds x → r < max_clients → TheHand x core r p emptied
+  hand_after_pick r k e f same on of_kind low = rw (f, e, ← same) record {
     agrees = assumption k.agrees;
     holds = refl;
-    in_hand = ap (λ z. (16 + r, slot.Nothing) ∷ z) k.in_hand;
+    in_hand = ap (λ z. (call_slot r, slot.Nothing) ∷ z) k.in_hand;
     fits = k.fits;
     low = k.low;
     row_low = low;
@@ -197,12 +203,13 @@ module _ {S O R : Type 0} (content : S → Content) (op_in : O → AnyOp) (reply
     of_kind = of_kind;
   }
 
-  -- the request is back in its row: the slot was filled with the request, and the row returned
-  pub back_ok : {x : ℕ} {core : Core S O R} {r : ℕ} {p : Request O} {m filled returned : M} → TheHand x core r p m
-      → filled ≡ (m.0, (16 + r, slot.Request p) ∷ rest m.1)
+  -- Once the request is back in its row, the client holds the object with a free hand.
+  pub pass_after_put_back : {x : ℕ} {core : Core S O R} {r : ℕ} {p : Request O} {m filled returned : M}
+      → TheHand x core r p m
+      → filled ≡ (m.0, (call_slot r, slot.Request p) ∷ rest m.1)
       → returned ≡ (after_put_back x (log_of op_in reply_in core) r (request_in op_in p) filled.0, rest filled.1)
       → ThePass x core returned
-  back_ok h e f = rw (f, e) record {
+  pass_after_put_back h e f = rw (f, e) record {
     agrees = assumption h.agrees;
     holds = refl;
     in_hand = ap rest h.in_hand;
@@ -210,17 +217,18 @@ module _ {S O R : Type 0} (content : S → Content) (op_in : O → AnyOp) (reply
     low = h.low;
   }
 
-  -- the pass after an answer: the slot was filled with the answer, and the row answered
-  pub answered_ok : {x r : ℕ} {k : Core S O R} (k' : Core S O R) {q : Request O} {a : Answer R} {m filled answered : M}
+  -- Once the row is answered, the client holds the object with the longer log and a free hand.
+  pub pass_after_answer : {x r : ℕ} {k : Core S O R} (k' : Core S O R) {q : Request O} {a : Answer R}
+      {m filled answered : M}
       → TheHand x k r q m → k'.list ≡ k.list
       → Serves (content k.object) (op_in q.op) (answer_in reply_in a) (content k'.object)
       → log_of op_in reply_in k' ≡ log_of op_in reply_in k ++ logged r (request_in op_in q) (answer_in reply_in a)
-      → filled ≡ (m.0, (16 + r, slot.Answer a) ∷ rest m.1)
+      → filled ≡ (m.0, (call_slot r, slot.Answer a) ∷ rest m.1)
       → answered ≡ (
         after_answer r x (log_of op_in reply_in k ++ logged r (request_in op_in q) (answer_in reply_in a)) filled.0,
         rest m.1,
       ) → ThePass x k' answered
-  answered_ok {x} {r} {k} k' {q} {a} h same did log e f = rw (f, e) record {
+  pass_after_answer {x} {r} {k} k' {q} {a} h same did log e f = rw (f, e) record {
     agrees = assumption h.agrees;
     holds = ap (held.Pass x) (sym log);
     in_hand = ap rest h.in_hand;

@@ -1,6 +1,6 @@
 -- When all clients but one have ended, and that one holds nothing, each slot of a desk has its object, or what its
 -- client left. By the rule of the desk, slot by slot.
-use Rattle.std.proofs.Common.{◌≡◌, ◌≢◌, ℕ, ◌+◌, ◌<◌, ◌≤◌, true, List, [], map, length, get_or}
+use Rattle.std.proofs.Common.{◌≡◌, ◌≢◌, ℕ, ◌<◌, ◌≤◌, true, List, [], map, length, get_or}
 use Rattle.std.proofs.Common.{Option, Some, None, Contains, All, refl, sym, ap, subst, ◌∙◌, ⊎_elim, arith}
 use mathlib.Core.Logic.{dite}
 use mathlib.Core.Option.{some}
@@ -38,6 +38,7 @@ use Rattle.desk_invariant.proofs.Seeing.{all_covered, accounts}
 use Rattle.publication.specs.Handles.{DeskSeen, Known, log_of}
 use Rattle.publication.specs.Calls.{IsClosedRecord}
 use Rattle.publication.specs.Closing.{IsJournalOf, AreLogs, HaveEnded, HasLearntEnds}
+use Rattle.desk_invariant.specs.Views.{journal_slot}
 
 -- ---- all slots, once the other clients have ended
 
@@ -51,7 +52,7 @@ module _ {S O R : Type 0} (op_in : O → AnyOp) (reply_in : R → AnyReply) wher
         → (k : Core S O R) × (get_elem? xs x ≡ some (slot.Core k)) × (log_of op_in reply_in k ≡ world.log x)
     pub seen : (x : ℕ) → StartsWith (world.log x) (seen_of v x)
     pub journals : (c : ℕ) → c < clients → c ≢ v.number
-        → (j : Journal O R) × (get_elem? xs (48 + c) ≡ some (slot.Journal j))
+        → (j : Journal O R) × (get_elem? xs (journal_slot c) ≡ some (slot.Journal j))
         × (map (event_in op_in reply_in) j.events.items ≡ journal_in world c)
     pub own : journal v ≡ journal_in world v.number
     pub left : All (λ l. journal_in world l.client ≡ l.journal) v.left
@@ -94,7 +95,7 @@ module _ {S O R : Type 0} (content : S → Content) (op_in : O → AnyOp) (reply
         cores = λ x l. let b = k.tied.cores x l (free_all x) in (b.0, home x (slot.Core b.0) b.1, b.2.0);
         seen = ok.seen;
         journals = λ c l other. let b = (k.tied.journals c (omega arith)).at_last (ended c l other) in
-            (b.0, home (48 + c) (slot.Journal b.0) b.1, b.2);
+            (b.0, home (journal_slot c) (slot.Journal b.0) b.1, b.2);
         left = λ i d l. ((k.seats id view at).left i d l).1;
         own = λ i. journal_of (ok.done i) (own_is view.own (world.stage view.number) ok.own i);
         accounts = λ x. accounts kinds quota world x view (world.log x) rest ok.done ok.own k.sound

@@ -1,6 +1,6 @@
 -- A new desk keeps its rule, and each client that is made of it knows that it has made no call. By the lists with
 -- which a desk begins, and what making one more client adds.
-use Rattle.std.proofs.Common.{◌≡◌, ℕ, zero, suc, ◌+◌, ◌<◌, ◌≤◌, false, List, [], ◌∷◌, length, map, get_or, replicate}
+use Rattle.std.proofs.Common.{◌≡◌, ℕ, zero, suc, ◌<◌, ◌≤◌, false, List, [], ◌∷◌, length, map, get_or, replicate}
 use Rattle.std.proofs.Common.{refl, sym, ap, subst, ◌∙◌, arith}
 use mathlib.Core.Option.{some, some-injective, some-ne-none}
 use lib.ListN.{get_elem?, length-map}
@@ -24,6 +24,8 @@ use Rattle.desk_invariant.proofs.Beginnings.{get_or-replicate_same, opening_keep
 use Rattle.publication.specs.Handles.{IsClient, at_hand}
 use Rattle.publication.proofs.Growing.{there}
 use Rattle.publication.specs.Making.{IsLaid, AreEmpty, kinds_with, HasRoom, IsSmall}
+use Rattle.desk_invariant.specs.Views.{call_slot, journal_slot}
+use Rattle.desk_model.specs.Limits.{max_clients}
 
 module _ {A : Type 0} where
   -- what holds at each place of a list holds of an element that was found
@@ -65,7 +67,7 @@ module _ {S O R : Type 0} (content : S → Content) (op_in : O → AnyOp) (reply
 module _ {S O R : Type 0} (op_in : O → AnyOp) (reply_in : R → AnyReply) where
   -- a client after its first step
   pub begun_ok : (kinds : List Kind) (lists : List TableId) (number quota : ℕ) (j : Journal O R)
-      (m : Me (Slot S O R) DeskView) → number < 32
+      (m : Me (Slot S O R) DeskView) → number < max_clients
       → quota < 10001 → HasRoom quota j
       → m ≡ (with_own own.Idle (new_client kinds lists number), at_hand number own.Idle)
       → IsClient op_in reply_in number 0 quota false j m
@@ -85,6 +87,6 @@ module _ {S O R : Type 0} where
   pub entered : (kinds : List Kind) (lists : List TableId) (number : ℕ) (f new m : Me (Slot S O R) DeskView)
       → f ≡ (maker_of kinds lists number, [])
       → new ≡ (new_client f.0.kinds f.0.lists f.0.made, [])
-      → m ≡ (with_own own.Idle new.0, (16 + number, slot.Nothing) ∷ (48 + number, slot.Nothing) ∷ new.1)
+      → m ≡ (with_own own.Idle new.0, (call_slot number, slot.Nothing) ∷ (journal_slot number, slot.Nothing) ∷ new.1)
       → m ≡ (with_own own.Idle (new_client kinds lists number), at_hand number own.Idle)
   entered kinds lists number f new m a b e = rw (e, b, a)

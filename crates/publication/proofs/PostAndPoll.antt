@@ -29,6 +29,8 @@ use Rattle.desk_invariant.proofs.Seeing.{seen_all}
 use Rattle.publication.specs.Handles.{Agrees, IsClient, at_hand}
 use Rattle.publication.specs.Calls.{IsPosted, IsPollAnswer}
 use Rattle.desk_model.proofs.Tickets.{journal_begun, journal_over}
+use Rattle.desk_invariant.specs.Views.{call_slot, journal_slot}
+use Rattle.desk_model.specs.Limits.{max_objects}
 
 -- ---- the own call, and the length of a journal
 
@@ -36,7 +38,7 @@ pub own_idle : (o : Own) → IsAtRest o → is_waiting o ≡ false → o ≡ own
 own_idle o a e = grind arith
 
 pub own_waiting : (o : Own) → IsAtRest o → is_waiting o ≡ true
-    → (q : AnyRequest) × (o ≡ own.Waiting q) × (q.object < 16)
+    → (q : AnyRequest) × (o ≡ own.Waiting q) × (q.object < max_objects)
 own_waiting (own.Waiting q) a e = (q, refl, a)
 own_waiting own.Idle a e = absurd cc
 own_waiting o a e = absurd a
@@ -52,7 +54,7 @@ outstanding_is e k = rw e at k
 pub outstanding : {S O R : Type 0} {op_in : O → AnyOp} {reply_in : R → AnyReply} {number calls quota : ℕ} {a : Bool}
     {j : Journal O R} {m : Me (Slot S O R) DeskView} → a ≡ true → IsClient op_in reply_in number calls quota a j m
     → IsClient op_in reply_in number calls quota true j m
-    × ((q : AnyRequest) × (m.0.own ≡ own.Waiting q) × (q.object < 16))
+    × ((q : AnyRequest) × (m.0.own ≡ own.Waiting q) × (q.object < max_objects))
 outstanding e k =
     let k' = outstanding_is e k in (k', own_waiting _ k'.agrees.at_rest (sym k'.agrees.outstanding_is))
 
@@ -103,11 +105,11 @@ module _ {S O R : Type 0} {op_in : O → AnyOp} {reply_in : R → AnyReply} {num
   -- names each seat: the slot was filled, the ticket drawn, the request in the slot stamped with it, and posted.
   pub post_turn : {p q : Request O} {filled drawn stamped posted : Me (Slot S O R) DeskView}
       → IsClient op_in reply_in number calls quota false j m
-      → filled ≡ (m.0, (16 + number, slot.Request p) ∷ rest m.1)
+      → filled ≡ (m.0, (call_slot number, slot.Request p) ∷ rest m.1)
       → drawn ≡ (with_own (own.Drawn (request_in op_in q)) filled.0, filled.1)
-      → stamped ≡ (drawn.0, (16 + number, slot.Request q) ∷ rest drawn.1)
+      → stamped ≡ (drawn.0, (call_slot number, slot.Request q) ∷ rest drawn.1)
       → posted ≡ (with_own (own.Waiting (request_in op_in q)) stamped.0, rest stamped.1)
-      → posted ≡ (with_own (own.Waiting (request_in op_in q)) m.0, (48 + number, slot.Nothing) ∷ [])
+      → posted ≡ (with_own (own.Waiting (request_in op_in q)) m.0, (journal_slot number, slot.Nothing) ∷ [])
   post_turn {q = q} k fill draw stamp post =
       let is = own_idle m.0.own k.agrees.at_rest (sym k.agrees.outstanding_is) in
       rw (post, stamp, draw, fill) (ap (λ z. (with_own (own.Waiting (request_in op_in q)) m.0, rest z))
@@ -116,8 +118,8 @@ module _ {S O R : Type 0} {op_in : O → AnyOp} {reply_in : R → AnyReply} {num
   -- the client after a post
   pub client_after_post : {j' : Journal O R} (q : Request O) {d : Me (Slot S O R) DeskView}
       → IsClient op_in reply_in number calls quota false j m
-      → d ≡ (with_own (own.Waiting (request_in op_in q)) m.0, (48 + number, slot.Nothing) ∷ [])
-      → q.object < 16 → calls < quota → j'.events.items ≡ j.events.items ++ Invoked q.ticket q.object q.op ∷ []
+      → d ≡ (with_own (own.Waiting (request_in op_in q)) m.0, (journal_slot number, slot.Nothing) ∷ [])
+      → q.object < max_objects → calls < quota → j'.events.items ≡ j.events.items ++ Invoked q.ticket q.object q.op ∷ []
       → vec_capacity j'.events ≡ vec_capacity j.events
       → IsClient op_in reply_in number (calls + 1) quota true j' d
   client_after_post {j' = j'} q k e low few more same =
@@ -152,7 +154,7 @@ module _ {S O R : Type 0} {op_in : O → AnyOp} {reply_in : R → AnyReply} {num
       → IsClient op_in reply_in number calls quota false j m → v ≡ m.0
       → d ≡ (
         with_own (own.Waiting record { object = x; ticket = t; op = op_in op }) m.0,
-        (48 + number, slot.Nothing) ∷ [],
+        (journal_slot number, slot.Nothing) ∷ [],
       ) → IsPosted v x (op_in op) d.0
   posted {x} {t} op k is e =
       let same = own_idle m.0.own k.agrees.at_rest (sym k.agrees.outstanding_is) in
@@ -170,27 +172,30 @@ module _ {S O R : Type 0} {op_in : O → AnyOp} {reply_in : R → AnyReply} {num
   pub poll_turn : (t : ℕ) {q : AnyRequest} {e : Answer R} (l : List AnyEntry)
       {taken emptied over : Me (Slot S O R) DeskView} → IsClient op_in reply_in number calls quota true j m
       → m.0.own ≡ own.Waiting q
-      → taken ≡ (after_take q (answer_in reply_in e) l m.0, (16 + number, slot.Answer e) ∷ m.1)
-      → emptied ≡ (taken.0, (16 + number, slot.Nothing) ∷ rest taken.1)
+      → taken ≡ (after_take q (answer_in reply_in e) l m.0, (call_slot number, slot.Answer e) ∷ m.1)
+      → emptied ≡ (taken.0, (call_slot number, slot.Nothing) ∷ rest taken.1)
       → over ≡ (after_return q (answer_in reply_in e) t emptied.0, emptied.1)
       → over ≡ (
         after_return q (answer_in reply_in e) t (after_take q (answer_in reply_in e) l m.0),
-        (16 + number, slot.Nothing) ∷ (48 + number, slot.Nothing) ∷ [],
+        (call_slot number, slot.Nothing) ∷ (journal_slot number, slot.Nothing) ∷ [],
       )
   poll_turn t {q} {e} l k is take empty return = let w : AnyAnswer = answer_in reply_in e in
-      rw (return, empty, take) (ap (λ z. (after_return q w t (after_take q w l m.0), (16 + number, slot.Nothing) ∷ z))
-      (k.in_hand ∙ ap (at_hand number) is))
+      rw (return, empty, take) (ap (λ z. (
+        after_return q w t (after_take q w l m.0),
+        (call_slot number, slot.Nothing)
+            ∷ z,
+      )) (k.in_hand ∙ ap (at_hand number) is))
 
   -- the client after a poll that took the answer
   pub client_after_poll : (t : ℕ) {j' : Journal O R} {q : AnyRequest} (e : Answer R) (l : List AnyEntry)
       {d : Me (Slot S O R) DeskView}
-      → IsClient op_in reply_in number calls quota true j m → m.0.own ≡ own.Waiting q → q.object < 16
+      → IsClient op_in reply_in number calls quota true j m → m.0.own ≡ own.Waiting q → q.object < max_objects
       → IsLegalLog (kind_at m.0.kinds q.object) l
       → entries_of_client m.0.number l ≡ served q.object m.0.number m.0.done
       ++ logged m.0.number q (answer_in reply_in e)
       → d ≡ (
         after_return q (answer_in reply_in e) t (after_take q (answer_in reply_in e) l m.0),
-        (16 + number, slot.Nothing) ∷ (48 + number, slot.Nothing) ∷ [],
+        (call_slot number, slot.Nothing) ∷ (journal_slot number, slot.Nothing) ∷ [],
       )
       → j'.events.items ≡ j.events.items ++ Returned t e ∷ [] → vec_capacity j'.events ≡ vec_capacity j.events
       → IsClient op_in reply_in number calls quota false j' d
@@ -255,14 +260,14 @@ module _ {S O R : Type 0} {op_in : O → AnyOp} {reply_in : R → AnyReply} {num
   -- what a poll that took the answer says
   pub polled : {t : ℕ} {q : AnyRequest} (e : Answer R) (l : List AnyEntry) {v u : DeskView}
       {d : Me (Slot S O R) DeskView} → IsClient op_in reply_in number calls quota true j m → v ≡ m.0
-      → m.0.own ≡ own.Waiting q → q.object < 16
+      → m.0.own ≡ own.Waiting q → q.object < max_objects
       → IsLegalLog (kind_at m.0.kinds q.object) l → StartsWith l (seen_of m.0 q.object)
       → entries_of_client m.0.number l ≡ served q.object m.0.number m.0.done
       ++ logged m.0.number q (answer_in reply_in e)
       → u ≡ after_take q (answer_in reply_in e) l m.0 → All (λ y. y.ticket < t) (seen_of u q.object)
       → d ≡ (
         after_return q (answer_in reply_in e) t (after_take q (answer_in reply_in e) l m.0),
-        (16 + number, slot.Nothing) ∷ (48 + number, slot.Nothing) ∷ [],
+        (call_slot number, slot.Nothing) ∷ (journal_slot number, slot.Nothing) ∷ [],
       ) → IsPollAnswer v (answer_in reply_in e) d.0
   polled {t} {q} e l {u = u} k is waits low legal begins counted took later f =
       let w : AnyAnswer = answer_in reply_in e in

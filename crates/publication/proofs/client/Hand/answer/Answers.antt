@@ -1,4 +1,4 @@
--- `answer`: the row has the answer, and the log is longer by the operation if that was done. `answer_ready` gives
+-- `answer`: the row has the answer, and the log is longer by the operation if that was done. `hand_with_answer` gives
 -- what the store needs to keep the rule of the row, and `core_grows` that the core still fits what the pass knows.
 use Rattle.std.proofs.Common.{refl, ◌≡◌, ◌+◌, ◌-◌, ◌<◌, length, vec_len, vec_capacity, rules, arith, sym, ap, subst}
 use Rattle.std.proofs.Common.{◌∙◌}
@@ -7,7 +7,7 @@ use Rattle.desk_model.specs.Images.{answer_in}
 use Rattle.publication.proofs.Dealing.{own_still, same_desk}
 use Rattle.publication.specs.Handles.{Handling}
 use Rattle.desk_invariant.proofs.Rows.{answer_keeps_rule}
-use Rattle.publication.proofs.Holds.{answer_ready, room_taken, core_grows, answered_ok}
+use Rattle.publication.proofs.Holds.{hand_with_answer, room_taken, core_grows, pass_after_answer}
 use Rattle.publication.proofs.CallClauses.{may_serve, answer_gives}
 use Rattle.publication.proofs.client.Hand.answer.Goals as goal
 
@@ -22,7 +22,7 @@ store-requires g c =
     let wide = c.desk.invariant.0.0 in
     let served = c.serve-answer.ensures in
     let ready =
-    answer_ready _ _ _ _ _ _ _ _ c.serve-answer.new.core hand c.exchange.ensures.3 served.log served.content in (
+    hand_with_answer _ _ _ _ _ _ _ _ c.serve-answer.new.core hand c.exchange.ensures.3 served.log served.content in (
       search rules,
       omega arith,
       answer_keeps_rule _ _ _ _ _ _ _ _ _ _ _ _ _ _ _ ready.0 ready.1 ready.2 hand.on ready.3,
@@ -33,9 +33,9 @@ invariant_of-result g c =
     let hand = c.self.invariant.0 in
     let served = c.serve-answer.ensures in
     let ready =
-    answer_ready _ _ _ _ _ _ _ _ c.serve-answer.new.core hand c.exchange.ensures.3 served.log served.content in
+    hand_with_answer _ _ _ _ _ _ _ _ c.serve-answer.new.core hand c.exchange.ensures.3 served.log served.content in
     let stored = c.store.ensures.2 _ _ _ _ _ _ _ ready.1 ready.2 in (
-      answered_ok _ _ _ _ _ _ _ _ c.serve-answer.new.core hand served.state.1 served.content served.log
+      pass_after_answer _ _ _ _ _ _ _ _ c.serve-answer.new.core hand served.state.1 served.content served.log
           c.exchange.ensures.3 stored,
       own_still _ _ _ _ (ap (λ m. m.0.lists) stored ∙ ap (λ m. m.0.lists) c.exchange.ensures.3) c.self.invariant.1,
     )
@@ -45,7 +45,7 @@ returns-clause-answered g c =
     let hand = c.self.invariant.0 in
     let served = c.serve-answer.ensures in
     let ready =
-    answer_ready _ _ _ _ _ _ _ _ c.serve-answer.new.core hand c.exchange.ensures.3 served.log served.content in
+    hand_with_answer _ _ _ _ _ _ _ _ c.serve-answer.new.core hand c.exchange.ensures.3 served.log served.content in
     let fits = core_grows g.S.SeqObject.content g.S.SeqObject.op_in g.S.SeqObject.reply_in _ _ _ c.self.inside.core
     c.serve-answer.new.core
     c.self.inside.request c.serve-answer.result served.state.1 hand.fits served.log served.content in
@@ -57,7 +57,7 @@ returns-clause-desk g c =
     let hand = c.self.invariant.0 in
     let served = c.serve-answer.ensures in
     let ready =
-    answer_ready _ _ _ _ _ _ _ _ c.serve-answer.new.core hand c.exchange.ensures.3 served.log served.content in
+    hand_with_answer _ _ _ _ _ _ _ _ c.serve-answer.new.core hand c.exchange.ensures.3 served.log served.content in
     same_desk (c.store.ensures.0 ∙ c.exchange.ensures.0) refl
     (ap (λ m. m.0.kinds) (c.store.ensures.2 _ _ _ _ _ _ _ ready.1 ready.2) ∙ ap (λ m. m.0.kinds) c.exchange.ensures.3)
     refl (ap (λ k. k.desk) c.self.view_is)

@@ -5,7 +5,7 @@ use Rattle.desk_invariant.proofs.Locks.{held_object}
 use Rattle.desk_invariant.proofs.Rows.{look_at_row_keeps_rule, pick_keeps_rule}
 use Rattle.publication.proofs.Dealing.{own_still, same_desk}
 use Rattle.publication.proofs.Slots.{came_out, same_request, can_exchange}
-use Rattle.publication.proofs.Holds.{pass_after_row_miss, hand_ok}
+use Rattle.publication.proofs.Holds.{pass_after_row_miss, hand_after_pick}
 use Rattle.publication.proofs.CallClauses.{pick_gives, pick_misses}
 use Rattle.publication.proofs.client.Pass.pick.Goals as goal
 
@@ -47,7 +47,7 @@ exchange-requires g c =
 pub invariant_of-result-in-Request : goal.invariant_of-result-in-Request
 invariant_of-result-in-Request g c =
     let t = (c.look_and_exchange-found.ensures.tried _ c.args.row _ c.self.invariant.0.holds refl).0 (search rules) in (
-      hand_ok _ _ _ _ _ _ _ _ _ c.self.invariant.0 t.3 c.exchange.ensures.3
+      hand_after_pick _ _ _ _ _ _ _ _ _ c.self.invariant.0 t.3 c.exchange.ensures.3
           (same_request _ _ (sym (came_out _ _ _ _ _ (ap (λ m. m.1) t.3) c.exchange.ensures.2)
           ∙ c.in-Request.is)) t.1 t.2
           c.requires.row,

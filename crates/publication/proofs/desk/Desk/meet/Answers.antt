@@ -9,6 +9,7 @@ use Rattle.desk_invariant.proofs.Meets.{adopt_keeps_rule, told_back, begins_ther
 use Rattle.publication.proofs.Dealing.{own_still}
 use Rattle.publication.proofs.Encounters.{met_ok, met}
 use Rattle.publication.proofs.desk.Desk.meet.Goals as goal
+use Rattle.desk_model.specs.Limits.{max_objects}
 
 pub split_seat-message-requires : goal.split_seat-message-requires
 split_seat-message-requires g c =
@@ -58,7 +59,7 @@ load-requires-2 g c =
     let wide = desk.0 in
     let few = desk.5 in
     let low : c.args.object < length c.self.inside.kinds.items = search rules in
-    let low' : c.args.object < 16 = omega arith in
+    let low' : c.args.object < max_objects = omega arith in
     let learnt = c.load.ensures.2 in
     let agrees = c.other.invariant.0.agrees in
     let received = ap (λ z. z.0) c.join_seat.ensures.2
@@ -81,7 +82,7 @@ invariant_of-result g c =
     let desk = c.self.invariant.0 in
     let few = desk.5 in
     let low : c.args.object < length c.self.inside.kinds.items = search rules in
-    let low' : c.args.object < 16 = omega arith in
+    let low' : c.args.object < max_objects = omega arith in
     let object : ℕ = c.args.object in
     let learnt = c.load.ensures.2 in
     let first = c.split_seat-message-2.ensures.2
@@ -99,7 +100,7 @@ invariant_of-result-2 g c =
     let desk = c.self.invariant.0 in
     let few = desk.5 in
     let low : c.args.object < length c.self.inside.kinds.items = search rules in
-    let low' : c.args.object < 16 = omega arith in
+    let low' : c.args.object < max_objects = omega arith in
     let object : ℕ = c.args.object in
     let learnt = c.load.ensures.2 in
     let received = ap (λ z. z.0) c.join_seat.ensures.2
@@ -132,7 +133,7 @@ returns-clause-met g c =
     let desk = c.self.invariant.0 in
     let few = desk.5 in
     let low : c.args.object < length c.self.inside.kinds.items = search rules in
-    let low' : c.args.object < 16 = omega arith in
+    let low' : c.args.object < max_objects = omega arith in
     let object : ℕ = c.args.object in
     let learnt = c.load.ensures.2 in
     let first = c.split_seat-message-2.ensures.2

@@ -15,6 +15,7 @@ use Rattle.publication.proofs.PostAndPoll.{own_idle, outstanding_is, post_turn, 
 use Rattle.publication.proofs.desk.Desk.post.Goals as goal
 use Rattle.publication.proofs.desk.Desk.post.Given.{Over}
 use Rattle.publication.proofs.desk.Desk.post.Goals.{After-exchange}
+use Rattle.desk_invariant.specs.Views.{call_slot}
 
 -- the client before the call, which has none outstanding, and has calls left
 before : (g : Over) (c : After-exchange g) → IsClient g.S.SeqObject.op_in g.S.SeqObject.reply_in c.client.inside.number
@@ -81,7 +82,8 @@ store-requires g c =
     let filled = c.exchange.ensures.3 in
     let drawn = c.fetch_add-ticket.ensures.2 _ _ _ (ap (λ z. z.1) filled) in
     let stamped =
-    in_slot c.fetch_add-ticket.new.seat.me.0 (16 + c.client.inside.number) _ _ (rest c.fetch_add-ticket.new.seat.me.1)
+    in_slot c.fetch_add-ticket.new.seat.me.0 (call_slot c.client.inside.number) _ _
+    (rest c.fetch_add-ticket.new.seat.me.1)
     (c.set_ticket.ensures _ (came_out _ _ _ _ _ (ap (λ z. z.1) drawn ∙ ap (λ z. z.1) filled)
     c.slot_mut.ensures.value)) in (
       search rules,
@@ -115,7 +117,8 @@ invariant_of-client g c =
     let filled = c.exchange.ensures.3 in
     let drawn = c.fetch_add-ticket.ensures.2 _ _ _ (ap (λ z. z.1) filled) in
     let stamped =
-    in_slot c.fetch_add-ticket.new.seat.me.0 (16 + c.client.inside.number) _ _ (rest c.fetch_add-ticket.new.seat.me.1)
+    in_slot c.fetch_add-ticket.new.seat.me.0 (call_slot c.client.inside.number) _ _
+    (rest c.fetch_add-ticket.new.seat.me.1)
     (c.set_ticket.ensures _ (came_out _ _ _ _ _ (ap (λ z. z.1) drawn ∙ ap (λ z. z.1) filled)
     c.slot_mut.ensures.value)) in
     let noted = c.note_invoked.ensures in
@@ -145,7 +148,8 @@ returns-clause-posted g c =
     let filled = c.exchange.ensures.3 in
     let drawn = c.fetch_add-ticket.ensures.2 _ _ _ (ap (λ z. z.1) filled) in
     let stamped =
-    in_slot c.fetch_add-ticket.new.seat.me.0 (16 + c.client.inside.number) _ _ (rest c.fetch_add-ticket.new.seat.me.1)
+    in_slot c.fetch_add-ticket.new.seat.me.0 (call_slot c.client.inside.number) _ _
+    (rest c.fetch_add-ticket.new.seat.me.1)
     (c.set_ticket.ensures _ (came_out _ _ _ _ _ (ap (λ z. z.1) drawn ∙ ap (λ z. z.1) filled)
     c.slot_mut.ensures.value)) in
     let turn = post_turn client filled drawn stamped
@@ -157,7 +161,8 @@ returns-clause-desk g c =
     let filled = c.exchange.ensures.3 in
     let drawn = c.fetch_add-ticket.ensures.2 _ _ _ (ap (λ z. z.1) filled) in
     let stamped =
-    in_slot c.fetch_add-ticket.new.seat.me.0 (16 + c.client.inside.number) _ _ (rest c.fetch_add-ticket.new.seat.me.1)
+    in_slot c.fetch_add-ticket.new.seat.me.0 (call_slot c.client.inside.number) _ _
+    (rest c.fetch_add-ticket.new.seat.me.1)
     (c.set_ticket.ensures _ (came_out _ _ _ _ _ (ap (λ z. z.1) drawn ∙ ap (λ z. z.1) filled)
     c.slot_mut.ensures.value)) in
     let stored = c.store.ensures.2 _ (ap (λ z. z.0.own) stamped ∙ ap (λ z. z.0.own) drawn) in
