@@ -235,8 +235,8 @@ all_later from at first (e ∷ cs) f =
     ∙ ap (λ ds. call_later first at e ∷ ds) (all_later from at first cs (λ y i. f y (inr i)))
 
 -- The calls with these numbers have a valid order, and the part is a suffix that has each of them.
-module _ (kind : Kind) (from : ℕ) (calls part : List Call) (kept : ℕ → Bool) (order : List ℤ) (are : AreCalls kind calls)
-    (suffix : IsSuffix from calls part) (covers : Covers kept calls part)
+module _ (kind : Kind) (from : ℕ) (calls part : List Call) (kept : ℕ → Bool) (order : List ℤ)
+    (are : AreCalls kind calls) (suffix : IsSuffix from calls part) (covers : Covers kept calls part)
     (valid : IsValidOrder kind (kept_calls kept calls) order) where
   abbrev becomes : Call → Option Call
   becomes e = call_from from suffix.at suffix.first e
