@@ -319,7 +319,7 @@ module _ (calls : List Call) (kind : Kind) (all : Bool) (keeps : ℤ → Bool) (
 
   -- ---- a call that is no pending removal
 
-  -- it takes out what its reply shows
+  -- a call that is no pending removal takes out what its reply shows
   own_told : is_open call ≡ false
       → one (takes_out keeps call.op (reply_of call.returned)) ≡ one (takes_out keeps call.op (Some reply))
   own_told closed = told call.returned refl agrees
@@ -339,7 +339,7 @@ module _ (calls : List Call) (kind : Kind) (all : Bool) (keeps : ℤ → Bool) (
   fitting = sym (ap (fits all keeps (kept call.number) call.op) (reply_shown call.returned reply agrees))
       ∙ setting.each call here
 
-  -- as many pending removals took a kept value after it
+  -- a call that is no pending removal leaves the number of those that took a kept value
   same : is_open call ≡ false → IsTurn calls keeps i xs later after
   same closed = record {
     many = so_far.many;
@@ -366,7 +366,7 @@ module _ (calls : List Call) (kind : Kind) (all : Bool) (keeps : ℤ → Bool) (
 
   -- ---- a pending removal
 
-  -- after it at most one pending removal more took a kept value
+  -- after a pending removal at most one more of them took a kept value
   fewer : is_some call.returned ≡ false → (j : ℕ) (ys : List Call) → length ys ≡ j
       → ((x : Call) → In x ys → is_open x ≡ true)
       → ((x : Call) → In x ys → In x calls) → Pairs (λ x y. x.number ≢ y.number) ys
@@ -395,7 +395,7 @@ module _ (calls : List Call) (kind : Kind) (all : Bool) (keeps : ℤ → Bool) (
       (fewer (open_returned call opened) i xs so_far.many so_far.pending so_far.known so_far.apart
       (λ x y a b. so_far.cross_apart x y a (inr b)) (λ x y a b. so_far.cross_time x y a (inr b)) (omega arith)))
 
-  -- A pending removal took a kept value: with it there are i + 1 of them.
+  -- A pending removal takes a kept value, so that i + 1 of them did.
   module _ (opened : is_open call ≡ true) (took : takes_out keeps call.op (Some reply) ≡ true) where
     long : length (call ∷ xs) ≡ i + 1
     long = let m = so_far.many in omega arith
@@ -412,14 +412,14 @@ module _ (calls : List Call) (kind : Kind) (all : Bool) (keeps : ℤ → Bool) (
     all_apart : Pairs (λ x y. x.number ≢ y.number) (call ∷ xs)
     all_apart = (λ x j w. so_far.cross_apart x call j (inl refl) (sym w), so_far.apart)
 
-    -- no later call returned before one of them was invoked
+    -- no later call returned before one of the i + 1 was invoked
     on_time : (x y : Call) → In x (call ∷ xs) → In y later → ReturnsBefore y x → ⊥
     on_time x y j l = elim j [
       | inl w ↦ subst (λ (z : Call). ReturnsBefore y z → ⊥) (sym w) (so_far.in_time.0 y l)
       | inr k ↦ so_far.cross_time x y k (inr l)
     ]
 
-    -- no later call is one of them
+    -- no later call is one of the i + 1
     not_later : (x y : Call) → In x (call ∷ xs) → In y later → x.number ≢ y.number
     not_later x y j l = elim j [
       | inl w ↦ subst (λ (z : Call). z.number ≢ y.number) (sym w) (so_far.later_apart.0 y l)
@@ -430,7 +430,7 @@ module _ (calls : List Call) (kind : Kind) (all : Bool) (keeps : ℤ → Bool) (
     chosen : Nth calls i
     chosen = place calls (call ∷ xs) i setting.rising long all_apart all_open all_known
 
-    -- one of them was invoked no earlier than the chosen one
+    -- one of the i + 1 was invoked no earlier than the chosen one
     last : (x : Call) × In x (call ∷ xs) × (chosen.call.number ≤ x.number)
     last = one_late calls (call ∷ xs) i chosen long all_apart all_open all_known
 

@@ -250,7 +250,7 @@ module _ (kind : Kind) (from : ℕ) (calls part : List Call) (kept : ℕ → Boo
       sym (commutes kept becomes calls (λ y x i e. (from_timed from calls part are.rising suffix y x i e).number))
       ∙ ap (kept_calls kept) (sym suffix.named)
 
-  -- the call with which the suffix begins is one of these
+  -- where the first call of the suffix is one of these, they have a suffix that begins with it
   begins_there : kept from ≡ true → (o : List ℤ) × IsValidOrder kind (kept_calls kept part) o
   begins_there is_kept =
       let s = suffix.start in
@@ -272,7 +272,7 @@ module _ (kind : Kind) (from : ℕ) (calls part : List Call) (kept : ℕ → Boo
       (λ e i. are.kinds e (in_kept e i))) start valid in
       (found.0, subst (λ cs. IsValidOrder kind cs found.0) same_calls found.1)
 
-  -- it is none of these: each of them is a later call
+  -- where the first call of the suffix is none of these, each of them is a later call
   is_later : kept from ≡ false → (e : Call) → In e (kept_calls kept calls)
       → becomes e ≡ Some (call_later suffix.first suffix.at e)
   is_later left_out e i =

@@ -130,7 +130,7 @@ module _ (kind : Kind) (calls : List Call) (until : ℕ) (order : List ℤ)
   abbrev front : List Call
   front = up_to (early until) valid.entries
 
-  -- each of its calls was invoked before the number
+  -- each call of the front was invoked before the number
   front_is_begun : (e : Call) → In e front → is_begun e ≡ true
   front_is_begun e i =
       let far = reach (λ x y. ReturnsBefore y x → ⊥) (early until) valid.entries e (in_time_order valid) i in
@@ -151,7 +151,7 @@ module _ (kind : Kind) (calls : List Call) (until : ℕ) (order : List ℤ)
       (in_filter_from is_begun m.0 calls (in_calls valid m.0 (in_up_to (early until) valid.entries m.0 m.1))
       (front_is_begun m.0 m.1)))
 
-  -- a call of the prefix that returned is in it
+  -- each call of the prefix that returned is in the front
   returned_in_front : (e : Call) → In e (calls_before until calls) → IsSome e.returned → In e (map cut front)
   returned_in_front e i so =
       let m = in_map cut e (filter is_begun calls) i in
@@ -165,7 +165,7 @@ module _ (kind : Kind) (calls : List Call) (until : ℕ) (order : List ℤ)
   front_apart =
       pairs_up_to (λ x y. ◌≢◌ {A = ℤ} (pos x.number) (pos y.number)) (early until) valid.entries (named_apart valid)
 
-  -- none of its calls returned before an earlier one was invoked
+  -- no call of the front returned before an earlier one was invoked
   front_on_time : Pairs (λ x y. ReturnsBefore y x → ⊥) (map cut front)
   front_on_time = pairs_map (λ x y. ReturnsBefore y x → ⊥) cut front
       (pairs_weaker (λ x y. ReturnsBefore y x → ⊥) (λ x y. ReturnsBefore (cut y) (cut x) → ⊥) front
