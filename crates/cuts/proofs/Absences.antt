@@ -263,65 +263,102 @@ early_spent value number call later content after reply turned early spent =
         → one (puts_in (int_eq value) op) ≡ 0
     no_put op r k = let never = no_put_takes (int_eq value) op r in grind arith
 
+latter : (a b : Bool) → a ≡ true → (a && b) ≡ false → b ≡ false
+latter a b p e = grind arith
+
+-- The whole does a call, and the part contains all values except this one.
+module _ (value : ℤ) (number : ℕ) (call : Call) (later : List Call) (whole part after : Content) (reply : AnyReply)
+    (shadow : IsOthers value whole part) (does : next whole call.op ≡ Some (after, reply))
+    (agrees : IfSome call.returned (λ r. r.reply ≡ reply)) (replies : RepliesAlong after later)
+    (in_time : Pairs (λ x y. ReturnsBefore y x → ⊥) (call ∷ later))
+    (spent : IsSpent value number whole (call ∷ later)) where
+  -- the calls of the part that come after this one
+  abbrev Rest : Type 0
+  Rest = (d : Content) → IsOthers value after d → IsSpent value number after later
+      → RepliesAlong d (filter (stays value number) later)
+
+  abbrev is_early : Bool
+  is_early = is_put_before value number call || is_taken_before value number call
+
+  turned : Turn (int_eq value) call whole after reply
+  turned = turn (int_eq value) call whole after reply does agrees
+
+  touched : is_early ≡ true → Touches value call.op reply
+  touched early = elim (or_true (is_put_before value number call) (is_taken_before value number call) early) [
+    | inl put ↦ inl (early_put value number call put).0
+    | inr taken ↦ inr (more (takes_out (int_eq value) call.op (reply_of call.returned))
+        (takes_out (int_eq value) call.op (Some reply)) (early_removal value number call taken).0 turned.fewer)
+  ]
+    where
+      more : (a b : Bool) → a ≡ true → one a ≤ one b → b ≡ true
+      more a b q l = grind arith
+
+  -- the part leaves out an early call on the value
+  leave_early : Rest → is_early ≡ true → RepliesAlong part (filter (stays value number) (call ∷ later))
+  leave_early rest early =
+      let skipped = subst (λ z. IfSome z (λ p. Touches value call.op p.1 → IsOthers value p.0 part)) does
+      (skips value whole part call.op shadow) (touched early) in
+      subst (RepliesAlong part) (sym (filter_away (stays value number) call later (ap not early)))
+      (rest part skipped (early_spent value number call later whole after reply turned early spent))
+
+  -- from a late put on the value is not taken early, and all stays
+  late_put : is_taken_before value number call ≡ false → puts_in (int_eq value) call.op ≡ true
+      → nat_lt call.number number ≡ false → RepliesAlong part (filter (stays value number) (call ∷ later))
+  late_put not_taken put is_late =
+      let none_here = ap one not_taken in
+      let none_later = none_after value number call later is_late in_time.0 in
+      all_stay value number (call ∷ later) whole part shadow (after, reply, does, agrees, replies) spent (omega arith)
+
+  -- no late call takes the value out: all that is there is taken early
+  not_taken_late : is_taken_before value number call ≡ false → puts_in (int_eq value) call.op ≡ false
+      → takes_out (int_eq value) call.op (Some reply) ≡ true → ⊥
+  not_taken_late not_taken not_put taken =
+      let balance = turned in
+      let some_took = ap one taken in
+      let none_put = ap one not_put in
+      let none_here = ap one not_taken in
+      let owing = owed value number later after replies in_time.1 in
+      absurd (omega arith)
+
+  -- the part does a call that is not on the value
+  keep_apart : Rest → is_early ≡ false → puts_in (int_eq value) call.op ≡ false
+      → takes_out (int_eq value) call.op (Some reply) ≡ false
+      → RepliesAlong part (filter (stays value number) (call ∷ later))
+  keep_apart rest late not_put not_taken =
+      let goes_on = subst (λ z. IfSome z (λ p. IsApart value call.op p.1 → Goes value call.op part p.0 p.1)) does
+      (goes value whole part call.op shadow) (not_put, not_taken) in
+      let balance = turned in
+      let none_took = ap one not_taken in
+      let none_put = ap one not_put in
+      let none_here =
+      ap one (or_parts (is_put_before value number call) (is_taken_before value number call) late).1 in
+      let still : IsSpent value number after later = omega arith in
+      subst (RepliesAlong part) (sym (filter_here (stays value number) call later (ap not late)))
+      (goes_on.0, reply, goes_on.1, agrees, rest goes_on.0 goes_on.2 still)
+
+  go_on : Rest → RepliesAlong part (filter (stays value number) (call ∷ later))
+  go_on rest = elim (true_or_false is_early) [
+    | inl early ↦ leave_early rest early
+    | inr late ↦
+        let no_early = or_parts (is_put_before value number call) (is_taken_before value number call) late in
+        elim (true_or_false (puts_in (int_eq value) call.op)) [
+          | inl put ↦ late_put no_early.1 put
+              (latter (puts_in (int_eq value) call.op) (nat_lt call.number number) put no_early.0)
+          | inr not_put ↦ elim (true_or_false (takes_out (int_eq value) call.op (Some reply))) [
+            | inl taken ↦ absurd (not_taken_late no_early.1 not_put taken)
+            | inr not_taken ↦ keep_apart rest late not_put not_taken
+          ]
+        ]
+  ]
+
 -- without the calls on the value the others have their replies, from what is there besides it
 without_early : (value : ℤ) (number : ℕ) (calls : List Call) (whole part : Content) → IsOthers value whole part
     → RepliesAlong whole calls → Pairs (λ x y. ReturnsBefore y x → ⊥) calls
     → IsSpent value number whole calls → RepliesAlong part (filter (stays value number) calls)
-without_early value number [] whole part others along in_time spent = tt
-without_early value number (call ∷ calls) whole part others along in_time spent =
-    let turned = turn (int_eq value) call whole along.0 along.1 along.2 along.3 in
-    elim (true_or_false (is_put_before value number call || is_taken_before value number call)) [
-      | inl early ↦
-          let skipped = subst (λ z. IfSome z (λ p. Touches value call.op p.1 → IsOthers value p.0 part)) along.2
-          (skips value whole part call.op others) (touched along.1 early turned.fewer) in
-          subst (RepliesAlong part) (sym (filter_away (stays value number) call calls (ap not early)))
-          (without_early value number calls along.0 part skipped along.4 in_time.1
-          (early_spent value number call calls whole along.0 along.1 turned early spent))
-      | inr late ↦
-          let no_early = or_parts (is_put_before value number call) (is_taken_before value number call) late in
-          elim (true_or_false (puts_in (int_eq value) call.op)) [
-            | inl put ↦
-                let later = latter (puts_in (int_eq value) call.op) (nat_lt call.number number) put no_early.0 in
-                let none_here = ap one no_early.1 in
-                let none_later = none_after value number call calls later in_time.0 in
-                all_stay value number (call ∷ calls) whole part others along spent (omega arith)
-            | inr no_put ↦ elim (true_or_false (takes_out (int_eq value) call.op (Some along.1))) [
-              | inl took ↦
-                  let some_took = ap one took in
-                  let none_put = ap one no_put in
-                  let none_here = ap one no_early.1 in
-                  let owing = owed value number calls along.0 along.4 in_time.1 in
-                  absurd (omega arith)
-              | inr no_take ↦
-                  let g = subst
-                  (λ z. IfSome z (λ p. IsApart value call.op p.1 → Goes value call.op part p.0 p.1)) along.2
-                  (goes value whole part call.op others) (no_put, no_take) in
-                  let none_took = ap one no_take in
-                  let none_put = ap one no_put in
-                  let none_here = ap one no_early.1 in
-                  let still : IsSpent value number along.0 calls = omega arith in
-                  subst (RepliesAlong part) (sym (filter_here (stays value number) call calls (ap not late)))
-                  (g.0, along.1, g.1, along.3, without_early value number calls along.0 g.0 g.2 along.4 in_time.1 still)
-            ]
-          ]
-    ]
-  where
-    latter : (a b : Bool) → a ≡ true → (a && b) ≡ false → b ≡ false
-    latter a b p e = grind arith
-
-    touched : (reply : AnyReply) → (is_put_before value number call || is_taken_before value number call) ≡ true
-        → one (takes_out (int_eq value) call.op (reply_of call.returned))
-        ≤ one (takes_out (int_eq value) call.op (Some reply))
-        → Touches value call.op reply
-    touched reply early fewer = elim
-        (or_true (is_put_before value number call) (is_taken_before value number call) early) [
-          | inl put ↦ inl (early_put value number call put).0
-          | inr taken ↦ inr (more (takes_out (int_eq value) call.op (reply_of call.returned))
-              (takes_out (int_eq value) call.op (Some reply)) (early_removal value number call taken).0 fewer)
-        ]
-      where
-        more : (a b : Bool) → a ≡ true → one a ≤ one b → b ≡ true
-        more a b q l = grind arith
+without_early value number [] whole part shadow along in_time spent = tt
+without_early value number (call ∷ calls) whole part shadow along in_time spent =
+    go_on value number call calls whole part along.0 along.1 shadow along.2 along.3 along.4 in_time spent
+    (λ d still left. without_early value number calls along.0 d still along.4 in_time.1 left)
 
 -- ---- the law
 

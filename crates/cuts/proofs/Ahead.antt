@@ -20,7 +20,7 @@ use Rattle.model.proofs.Lists.{Pairs, in_append, in_left, in_split, in_from_cont
 use Rattle.model.proofs.Lists.{pairs_from_all, pairs_weaker}
 use Rattle.cuts.specs.Parts.{ended_before}
 use Rattle.cuts.specs.Kinds.Containers.{puts_in, is_removal, is_value_ahead}
-use Rattle.cuts.specs.Ahead.{found_in, found_by, first_put, ahead_before, is_settled, is_put_ahead, may_precede}
+use Rattle.cuts.specs.Ahead.{found_in, found_by, first_put, ahead_before, are_settled, is_put_ahead, may_precede}
 use Rattle.cuts.proofs.Ordered.{calls_apart, in_calls, in_entries, numbers_apart, in_time_order}
 use Rattle.cuts.proofs.Conserved.{tally, count_tally, tally_le, count_among}
 use Rattle.std.proofs.lemmas.Bool.{and_from, and_parts}
@@ -306,7 +306,7 @@ moved kind calls removal split from op own found value same is bounded =
 pub ahead_bounded : (kind : Kind) (calls : List Call) (removal : Call) (at from : ℕ) (found : Option ℤ)
     (order : List ℤ) → All (λ e. kind_of e.op ≡ kind) calls → AllPairs (λ a b. a.number < b.number) calls
     → All (λ e. (r : Return) → e.returned ≡ Some r → e.number < r.at) calls → Contains calls removal
-    → found_by removal.op removal.returned ≡ Some (at, found) → is_settled found removal.op from calls ≡ true
+    → found_by removal.op removal.returned ≡ Some (at, found) → are_settled found removal.op from calls ≡ true
     → IsValidOrder kind calls order
     → count_by (is_put_ahead (is_value_ahead found removal.op) from
     (ahead_before found removal.op removal.number calls))
@@ -333,9 +333,9 @@ ahead_bounded kind calls removal at from found order of_kind rising ends stands 
             omega arith) ends in
             moved kind calls removal split from removal.op Dequeue found c.0 c.2 c.1 q
         | inr c ↦
-            let all : is_settled (Some c.0) Pop from calls ≡ true = subst
-            (λ (o : Option ℤ). is_settled o Pop from calls ≡ true) c.1
-            (subst (λ (op : AnyOp). is_settled found op from calls ≡ true) c.2 settled) in
+            let all : are_settled (Some c.0) Pop from calls ≡ true = subst
+            (λ (o : Option ℤ). are_settled o Pop from calls ≡ true) c.1
+            (subst (λ (op : AnyOp). are_settled found op from calls ≡ true) c.2 settled) in
             let q = stack_case kind calls removal split response c.0 from removal.number (of_op Pop c.2)
             c.2 shows.returned
             (shows.value ∙ ap Value c.1) (omega arith) all ends in

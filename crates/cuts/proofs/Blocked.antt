@@ -18,11 +18,11 @@ use Rattle.events.specs.declared.operations.End.{End}
 use Rattle.events.specs.declared.operations.Operation.{Operation}
 use Rattle.events.specs.Operations.{call_with, call_of, calls_of, return_of, ObjectCalls, IsObjectHistory}
 use Rattle.cuts.specs.CutOperations.{is_put, is_over, op_found, op_first_put, op_ahead_before, op_is_settled}
-use Rattle.cuts.specs.CutOperations.{are_settled, op_is_put_ahead, op_may_take, op_may_precede, IsRemoval}
+use Rattle.cuts.specs.CutOperations.{op_are_settled, op_is_put_ahead, op_may_take, op_may_precede, IsRemoval}
 use Rattle.cuts.proofs.CutOperations.{rising_calls, calls_end, call_cases}
 use Rattle.cuts.proofs.Sequences.{in_filter_map, in_filter_map_from, one_number}
 use Rattle.cuts.proofs.CountedCalls.{passes, count_calls}
-use Rattle.cuts.specs.Ahead.{found_by, first_put, ahead_before, is_settled, is_put_ahead, may_precede, IsBlocked}
+use Rattle.cuts.specs.Ahead.{found_by, first_put, ahead_before, are_settled, is_put_ahead, may_precede, IsBlocked}
 use Rattle.cuts.proofs.Ahead.{pair_first, ahead_bounded}
 use Rattle.cuts.proofs.Booleans.{false_is_not_true}
 
@@ -70,10 +70,10 @@ call_removal : (op : AnyOp) (number : ℕ) (e : End) (x : ℕ × Option ℤ) →
     → call_with number op e ≡ Some (record { number = number; op = op; returned = return_of e })
 call_removal op number e x q = grind arith
 
-is_settled-calls : (found : Option ℤ) (op : AnyOp) (from : ℕ) (ops : List Operation)
-    → are_settled found op from ops ≡ is_settled found op from (calls_of ops)
-is_settled-calls None op from ops = refl
-is_settled-calls (Some b) Pop from ops = each ops
+are_settled-calls : (found : Option ℤ) (op : AnyOp) (from : ℕ) (ops : List Operation)
+    → op_are_settled found op from ops ≡ are_settled found op from (calls_of ops)
+are_settled-calls None op from ops = refl
+are_settled-calls (Some b) Pop from ops = each ops
   where
     with_operation : (o : Operation) (es : List Call) (e : End) (t : Bool)
         → t ≡ list_all (λ e. not (puts_in (int_eq b) e.op) || ended_before from e.returned) es
@@ -86,13 +86,13 @@ is_settled-calls (Some b) Pop from ops = each ops
         (λ e. not (puts_in (int_eq b) e.op) || ended_before from e.returned) (calls_of ops)
     each [] = refl
     each (o ∷ os) = with_operation o (calls_of os) o.«end» (list_all (op_is_settled b from) os) (each os)
-is_settled-calls (Some b) op from ops = refl
+are_settled-calls (Some b) op from ops = refl
 
 -- ---- a blocked removal as an operation
 
 -- the removal of a number, as a call
 blocked_from : (ops : List Operation) (number from : ℕ) (op : AnyOp) (at : ℕ) (found : Option ℤ)
-    (t : IsRemoval ops number op at found) → are_settled found op from ops ≡ true
+    (t : IsRemoval ops number op at found) → op_are_settled found op from ops ≡ true
     → count_by (op_may_precede (is_value_ahead found op) number at) ops < count_by
     (λ o. op_is_put_ahead (is_value_ahead found op) from (op_ahead_before found op number ops) o.number
     o.op o.«end») ops → IsBlocked number from (calls_of ops)
@@ -116,8 +116,8 @@ blocked_from ops number from op at found t settled l =
       at = at;
       found = found;
       told = sym (found_return o.op o.«end») ∙ told;
-      settled = subst (λ (z : AnyOp). is_settled found z from (calls_of ops) ≡ true) (sym t.same)
-          (sym (is_settled-calls found op from ops) ∙ settled);
+      settled = subst (λ (z : AnyOp). are_settled found z from (calls_of ops) ≡ true) (sym t.same)
+          (sym (are_settled-calls found op from ops) ∙ settled);
       more = subst
           (λ (z : AnyOp). count_by (may_precede (is_value_ahead found z) number at) (calls_of ops) <
           count_by (is_put_ahead (is_value_ahead found z) from (ahead_before found z number (calls_of ops)))
@@ -166,9 +166,9 @@ ahead_decided : (h : ObjectCalls) (number from : ℕ) (op : AnyOp) (at : ℕ) (f
     → ahead ≡ count_by
     (λ o. op_is_put_ahead (is_value_ahead found op) from (op_ahead_before found op number h.ops) o.number
     o.op o.«end») h.ops → takes ≡ count_by (op_may_precede (is_value_ahead found op) number at) h.ops
-    → MatchBool (are_settled found op from h.ops && nat_lt takes ahead)
+    → MatchBool (op_are_settled found op from h.ops && nat_lt takes ahead)
     (IsBlocked number from (calls_of h.ops)) (IsBlocked number from (calls_of h.ops) → ⊥)
-ahead_decided h number from op at found ahead takes is t e f = go (are_settled found op from h.ops)
+ahead_decided h number from op at found ahead takes is t e f = go (op_are_settled found op from h.ops)
     (nat_lt takes ahead) refl refl
   where
     less : (few few' many many' : ℕ) → few ≡ few' → many ≡ many' → nat_lt few many ≡ true → few' < many'
@@ -177,7 +177,7 @@ ahead_decided h number from op at found ahead takes is t e f = go (are_settled f
     not_less : (few few' many many' : ℕ) → few ≡ few' → many ≡ many' → nat_lt few many ≡ false → few' < many' → ⊥
     not_less few few' many many' e f l m = grind (arith, nat_tests)
 
-    go : (y z : Bool) → are_settled found op from h.ops ≡ y → nat_lt takes ahead ≡ z
+    go : (y z : Bool) → op_are_settled found op from h.ops ≡ y → nat_lt takes ahead ≡ z
         → MatchBool (y && z) (IsBlocked number from (calls_of h.ops)) (IsBlocked number from (calls_of h.ops) → ⊥)
     go true true p q = blocked_from h.ops number from op at found t p (less _ _ _ _ f e q)
     go true false p q = λ b.
@@ -204,9 +204,9 @@ ahead_decided h number from op at found ahead takes is t e f = go (are_settled f
     go false z p q = λ b.
         let u = blocked_operation h.ops number from b in
         let s = one_removal h.ops number op b.removal.op at b.at found b.found is.rising t u in
-        false_is_not_true (sym p ∙ is_settled-calls found op from h.ops
-        ∙ ap (λ (z : AnyOp). is_settled found z from (calls_of h.ops)) s.0
-        ∙ ap (λ (z : Option ℤ). is_settled z b.removal.op from (calls_of h.ops)) s.2 ∙ b.settled)
+        false_is_not_true (sym p ∙ are_settled-calls found op from h.ops
+        ∙ ap (λ (z : AnyOp). are_settled found z from (calls_of h.ops)) s.0
+        ∙ ap (λ (z : Option ℤ). are_settled z b.removal.op from (calls_of h.ops)) s.2 ∙ b.settled)
 
 -- an object's history in which a removal is blocked has no valid order
 pub blocked_shows : (h : ObjectCalls) (number from : ℕ) → IsObjectHistory h
@@ -235,7 +235,7 @@ pub decided_of : (h : ObjectCalls) (ops : List Operation) (number own from : ℕ
     (λ o. op_is_put_ahead (is_value_ahead found op) from (op_ahead_before found op own ops) o.number o.op
     o.«end») ops
     → takes ≡ count_by (op_may_precede (is_value_ahead found op) own at) ops
-    → MatchBool (are_settled found op from ops && nat_lt takes ahead)
+    → MatchBool (op_are_settled found op from ops && nat_lt takes ahead)
     (IsBlocked number from (calls_of h.ops)) (IsBlocked number from (calls_of h.ops) → ⊥)
 decided_of h ops number own from op at found ahead takes is same named t e f =
     let e' = e
@@ -248,7 +248,7 @@ decided_of h ops number own from op at found ahead takes is same named t e f =
     let f' = f
     ∙ ap (λ (os : List Operation). count_by (op_may_precede (is_value_ahead found op) own at) os) same
     ∙ ap (λ (k : ℕ). count_by (op_may_precede (is_value_ahead found op) k at) h.ops) named in
-    subst (λ (os : List Operation). MatchBool (are_settled found op from os && nat_lt takes ahead)
+    subst (λ (os : List Operation). MatchBool (op_are_settled found op from os && nat_lt takes ahead)
     (IsBlocked number from (calls_of h.ops)) (IsBlocked number from (calls_of h.ops) → ⊥)) (sym same)
     (ahead_decided h number from op at found ahead takes is
     (subst (λ (os : List Operation). IsRemoval os number op at found) same t) e' f')

@@ -32,8 +32,8 @@ use Rattle.model.proofs.Bags.{with_value-more, with_value-front}
 
 -- what a register contains in the part: the same as in the whole, or anything if the part leaves out that value
 abbrev pub IsCellShadow : (ℤ → Bool) → Option ℤ → Option ℤ → Type 0
-IsCellShadow keeps None y = y ≡ None
-IsCellShadow keeps (Some v) y = keeps v ≡ true → y ≡ Some v
+IsCellShadow keeps None part = part ≡ None
+IsCellShadow keeps (Some v) part = keeps v ≡ true → part ≡ Some v
 
 -- no value is less than an earlier one
 abbrev pub IsRising : List ℤ → Type 0
@@ -41,16 +41,17 @@ IsRising vs = Pairs (λ v w. v ≤ℤ w) vs
 
 -- what the part contains where the whole contains the first
 abbrev pub IsShadow : (ℤ → Bool) → Content → Content → Type 0
-IsShadow keeps (queue vs) (queue ws) = ws ≡ filter keeps vs
-IsShadow keeps (stack vs) (stack ws) = ws ≡ filter keeps vs
-IsShadow keeps (heap vs) (heap ws) = (ws ≡ filter keeps vs) × IsRising vs
-IsShadow keeps (register x) (register y) = IsCellShadow keeps x y
-IsShadow keeps (table m) (table n) = (k : ℤ) → keeps k ≡ true → map.get n k ≡ map.get m k
-IsShadow keeps (mutex b) (mutex d) = d ≡ b
-IsShadow keeps (elements s) (elements t) = (v : ℤ) → keeps v ≡ true → set.contains t v ≡ set.contains s v
-IsShadow keeps (count a) (count b) = b ≡ a
-IsShadow keeps (owner x) (owner y) = y ≡ x
-IsShadow keeps c d = ⊥
+IsShadow keeps (queue whole) (queue part) = part ≡ filter keeps whole
+IsShadow keeps (stack whole) (stack part) = part ≡ filter keeps whole
+IsShadow keeps (heap whole) (heap part) = (part ≡ filter keeps whole) × IsRising whole
+IsShadow keeps (register whole) (register part) = IsCellShadow keeps whole part
+IsShadow keeps (table whole) (table part) = (k : ℤ) → keeps k ≡ true → map.get part k ≡ map.get whole k
+IsShadow keeps (mutex whole) (mutex part) = part ≡ whole
+IsShadow keeps (elements whole) (elements part) =
+    (v : ℤ) → keeps v ≡ true → set.contains part v ≡ set.contains whole v
+IsShadow keeps (count whole) (count part) = part ≡ whole
+IsShadow keeps (owner whole) (owner part) = part ≡ whole
+IsShadow keeps whole part = ⊥
 
 -- the part of an empty object is empty
 pub empty_shadow : (keeps : ℤ → Bool) (k : Kind) → IsShadow keeps (empty k) (empty k)
@@ -65,10 +66,14 @@ shown false r = None
 
 -- the step in the part that keeps the reply
 abbrev Takes : (ℤ → Bool) → AnyOp → AnyReply → Content → Content → Type 0
-Takes keeps op reply d after = (behind : Content) × (next d op ≡ Some (behind, reply)) × IsShadow keeps after behind
+Takes keeps op reply part after =
+    (behind : Content) × (next part op ≡ Some (behind, reply)) × IsShadow keeps after behind
 
+-- The whole does an operation with this reply, and then contains `after`. The part does the operation with the same
+-- reply, or leaves it out, and then contains a shadow of `after`. It leaves out an operation that it keeps only if the
+-- reply is not told: the call is pending.
 abbrev Step : (ℤ → Bool) → AnyOp → Bool → Bool → AnyReply → Content → Content → Type 0
-Step keeps op kept b reply d after = Stepped (IsShadow keeps) op kept b reply d after
+Step keeps op kept told reply part after = Stepped (IsShadow keeps) op kept told reply part after
 
 -- an operation that the part keeps exactly if it keeps its value
 by_same : (keeps : ℤ → Bool) (op : AnyOp) (kept told : Bool) (reply : AnyReply) (part after : Content) (own : Bool)
@@ -115,12 +120,15 @@ by_change keeps op key false true false part after fit take skip same = inl (inl
 
 -- a pending removal that the part leaves out took no value that the part keeps
 abbrev pub TookNone : (ℤ → Bool) → AnyOp → Bool → Bool → AnyReply → Type 0
-TookNone keeps op b kept reply = b ≡ false → kept ≡ false → takes_out keeps op (Some reply) ≡ false
+TookNone keeps op told kept reply = told ≡ false → kept ≡ false → takes_out keeps op (Some reply) ≡ false
 
+-- For each operation that the whole can do the part has a step, whether it keeps the operation or not, and whether the
+-- reply is told or not, as long as to keep it, or not, fits what is told.
 abbrev StepAt : Bool → (ℤ → Bool) → AnyOp → Content → Content → Type 0
-StepAt all keeps op c d =
-    (kept b : Bool) → IfSome (next c op)
-    (λ p. fits all keeps kept op (shown b p.1) ≡ true → TookNone keeps op b kept p.1 → Step keeps op kept b p.1 d p.0)
+StepAt all keeps op whole part =
+    (kept told : Bool) → IfSome (next whole op)
+    (λ p. fits all keeps kept op (shown told p.1) ≡ true → TookNone keeps op told kept p.1
+    → Step keeps op kept told p.1 part p.0)
 
 -- ---- queues, stacks and heaps
 
@@ -146,30 +154,33 @@ after_out keeps v vs e =
 
 queue_step : (all : Bool) (keeps : ℤ → Bool) (vs : List ℤ) (op : AnyOp)
     → StepAt all keeps op (queue vs) (queue (filter keeps vs))
-queue_step all keeps vs (Enqueue v) kept b =
-    λ f g. by_same keeps (Enqueue v) kept b (Value (Some v)) (queue (filter keeps vs)) (queue (vs ++ v ∷ []))
-    (keeps v) f
-    (λ k. (queue (filter keeps vs ++ v ∷ []), refl, after_in keeps v vs k)) (λ k. after_out keeps v vs k)
-queue_step all keeps [] Dequeue kept b =
-    λ f g. by_free keeps Dequeue kept b (Value None) (queue []) (queue []) (queue [], refl, refl) refl
-queue_step all keeps (v ∷ vs) Dequeue kept b =
-    λ f g. by_removal keeps Dequeue kept b v (queue (filter keeps (v ∷ vs))) (queue vs) (keeps v) refl f g
-    (λ k. (queue (filter keeps vs), ap (λ ws. next (queue ws) Dequeue) (filter_in keeps v vs k), refl))
-    (λ k. filter_out keeps v vs k)
-queue_step all keeps vs op kept b = tt
+queue_step all keeps vs (Enqueue v) kept told =
+    λ fit none. by_same keeps (Enqueue v) kept told (Value (Some v)) (queue (filter keeps vs)) (queue (vs ++ v ∷ []))
+    (keeps v) fit
+    (λ own. (queue (filter keeps vs ++ v ∷ []), refl, after_in keeps v vs own))
+    (λ out. after_out keeps v vs out)
+queue_step all keeps [] Dequeue kept told =
+    λ fit none. by_free keeps Dequeue kept told (Value None) (queue []) (queue []) (queue [], refl, refl) refl
+queue_step all keeps (v ∷ vs) Dequeue kept told =
+    λ fit none. by_removal keeps Dequeue kept told v (queue (filter keeps (v ∷ vs))) (queue vs) (keeps v) refl fit none
+    (λ own. (queue (filter keeps vs), ap (λ ws. next (queue ws) Dequeue) (filter_in keeps v vs own), refl))
+    (λ out. filter_out keeps v vs out)
+queue_step all keeps vs op kept told = tt
 
 stack_step : (all : Bool) (keeps : ℤ → Bool) (vs : List ℤ) (op : AnyOp)
     → StepAt all keeps op (stack vs) (stack (filter keeps vs))
-stack_step all keeps vs (Push v) kept b =
-    λ f g. by_same keeps (Push v) kept b (Value (Some v)) (stack (filter keeps vs)) (stack (v ∷ vs)) (keeps v) f
-    (λ k. (stack (v ∷ filter keeps vs), refl, sym (filter_in keeps v vs k))) (λ k. sym (filter_out keeps v vs k))
-stack_step all keeps [] Pop kept b =
-    λ f g. by_free keeps Pop kept b (Value None) (stack []) (stack []) (stack [], refl, refl) refl
-stack_step all keeps (v ∷ vs) Pop kept b =
-    λ f g. by_removal keeps Pop kept b v (stack (filter keeps (v ∷ vs))) (stack vs) (keeps v) refl f g
-    (λ k. (stack (filter keeps vs), ap (λ ws. next (stack ws) Pop) (filter_in keeps v vs k), refl))
-    (λ k. filter_out keeps v vs k)
-stack_step all keeps vs op kept b = tt
+stack_step all keeps vs (Push v) kept told =
+    λ fit none. by_same keeps (Push v) kept told (Value (Some v)) (stack (filter keeps vs)) (stack (v ∷ vs))
+    (keeps v) fit
+    (λ own. (stack (v ∷ filter keeps vs), refl, sym (filter_in keeps v vs own)))
+    (λ out. sym (filter_out keeps v vs out))
+stack_step all keeps [] Pop kept told =
+    λ fit none. by_free keeps Pop kept told (Value None) (stack []) (stack []) (stack [], refl, refl) refl
+stack_step all keeps (v ∷ vs) Pop kept told =
+    λ fit none. by_removal keeps Pop kept told v (stack (filter keeps (v ∷ vs))) (stack vs) (keeps v) refl fit none
+    (λ own. (stack (filter keeps vs), ap (λ ws. next (stack ws) Pop) (filter_in keeps v vs own), refl))
+    (λ out. filter_out keeps v vs out)
+stack_step all keeps vs op kept told = tt
 
 not_lt_from_le : (u v w : ℤ) → int_lt w v ≡ false → w ≤ℤ u → int_lt u v ≡ false
 not_lt_from_le u v w e le = grind (arith, ints)
@@ -226,18 +237,23 @@ with_value_out keeps v (w ∷ ws) k =
 
 heap_step : (all : Bool) (keeps : ℤ → Bool) (vs : List ℤ) (op : AnyOp) → IsRising vs
     → StepAt all keeps op (heap vs) (heap (filter keeps vs))
-heap_step all keeps vs (Insert v) r kept b =
-    λ f g. by_same keeps (Insert v) kept b (Value (Some v)) (heap (filter keeps vs)) (heap (with_value v vs))
-    (keeps v) f
-    (λ k. (heap (with_value v (filter keeps vs)), refl, (with_value_in keeps v vs r k, rising_with_value v vs r)))
-    (λ k. (with_value_out keeps v vs k, rising_with_value v vs r))
-heap_step all keeps [] ExtractMin r kept b =
-    λ f g. by_free keeps ExtractMin kept b (Value None) (heap []) (heap []) (heap [], refl, (refl, tt)) (refl, tt)
-heap_step all keeps (v ∷ vs) ExtractMin r kept b =
-    λ f g. by_removal keeps ExtractMin kept b v (heap (filter keeps (v ∷ vs))) (heap vs) (keeps v) refl f g
-    (λ k. (heap (filter keeps vs), ap (λ ws. next (heap ws) ExtractMin) (filter_in keeps v vs k), (refl, r.1)))
-    (λ k. (filter_out keeps v vs k, r.1))
-heap_step all keeps vs op r kept b = tt
+heap_step all keeps vs (Insert v) rising kept told =
+    λ fit none. by_same keeps (Insert v) kept told (Value (Some v)) (heap (filter keeps vs)) (heap (with_value v vs))
+    (keeps v) fit
+    (λ own. (
+      heap (with_value v (filter keeps vs)),
+      refl,
+      (with_value_in keeps v vs rising own, rising_with_value v vs rising),
+    ))
+    (λ out. (with_value_out keeps v vs out, rising_with_value v vs rising))
+heap_step all keeps [] ExtractMin rising kept told =
+    λ fit none. by_free keeps ExtractMin kept told (Value None) (heap []) (heap [])
+    (heap [], refl, (refl, tt)) (refl, tt)
+heap_step all keeps (v ∷ vs) ExtractMin rising kept told =
+    λ fit none. by_removal keeps ExtractMin kept told v (heap (filter keeps (v ∷ vs))) (heap vs) (keeps v) refl fit none
+    (λ own. (heap (filter keeps vs), ap (λ ws. next (heap ws) ExtractMin) (filter_in keeps v vs own), (refl, rising.1)))
+    (λ out. (filter_out keeps v vs out, rising.1))
+heap_step all keeps vs op rising kept told = tt
 
 -- ---- registers
 
@@ -471,77 +487,84 @@ table_step all keeps whole part op shadow kept told = tt
 -- ---- mutexes
 
 mutex_step : (all : Bool) (keeps : ℤ → Bool) (held : Bool) (op : AnyOp) → StepAt all keeps op (mutex held) (mutex held)
-mutex_step all keeps false Acquire kept b = λ f g. inr (f, mutex true, refl, refl)
-mutex_step all keeps true Release kept b = λ f g. inr (f, mutex false, refl, refl)
-mutex_step all keeps held op kept b = tt
+mutex_step all keeps false Acquire kept told = λ fit none. inr (fit, mutex true, refl, refl)
+mutex_step all keeps true Release kept told = λ fit none. inr (fit, mutex false, refl, refl)
+mutex_step all keeps held op kept told = tt
 
 -- ---- sets
 
 abbrev IsSetShadow : (ℤ → Bool) → set.FinSet int_cmp → set.FinSet int_cmp → Type 0
-IsSetShadow keeps s t = (v : ℤ) → keeps v ≡ true → set.contains t v ≡ set.contains s v
+IsSetShadow keeps whole part = (v : ℤ) → keeps v ≡ true → set.contains part v ≡ set.contains whole v
 
-elements_step : (all : Bool) (keeps : ℤ → Bool) (s t : set.FinSet int_cmp) (op : AnyOp) → IsSetShadow keeps s t
-    → StepAt all keeps op (elements s) (elements t)
-elements_step all keeps s t (Add v) h kept b =
-    λ f g. by_change keeps (Add v) v kept b (not (set.contains s v)) (elements t) (elements (set.insert s v)) f
-    (λ a. (
-      elements (set.insert t v),
-      ap (λ (z : Bool). Some (elements (set.insert t v), Flag (not z))) (h v a),
-      λ q k. let same = h q k in grind (arith, ints, contains-insert),
+elements_step : (all : Bool) (keeps : ℤ → Bool) (whole part : set.FinSet int_cmp) (op : AnyOp)
+    → IsSetShadow keeps whole part → StepAt all keeps op (elements whole) (elements part)
+elements_step all keeps whole part (Add v) shadow kept told =
+    λ fit none. by_change keeps (Add v) v kept told (not (set.contains whole v)) (elements part)
+    (elements (set.insert whole v)) fit
+    (λ own. (
+      elements (set.insert part v),
+      ap (λ (z : Bool). Some (elements (set.insert part v), Flag (not z))) (shadow v own),
+      λ q k. let same = shadow q k in grind (arith, ints, contains-insert),
     ))
-    (λ a q k. let same = h q k in grind (arith, ints, contains-insert))
-    (λ e q k. let same = h q k in grind (arith, ints, contains-insert))
-elements_step all keeps s t (Remove v) h kept b =
-    λ f g. by_change keeps (Remove v) v kept b (set.contains s v) (elements t) (elements (set.remove s v)) f
-    (λ a. (
-      elements (set.remove t v),
-      ap (λ (z : Bool). Some (elements (set.remove t v), Flag z)) (h v a),
-      λ q k. let same = h q k in grind (arith, ints, contains-remove),
+    (λ out q k. let same = shadow q k in grind (arith, ints, contains-insert))
+    (λ not_took q k. let same = shadow q k in grind (arith, ints, contains-insert))
+elements_step all keeps whole part (Remove v) shadow kept told =
+    λ fit none. by_change keeps (Remove v) v kept told (set.contains whole v) (elements part)
+    (elements (set.remove whole v)) fit
+    (λ own. (
+      elements (set.remove part v),
+      ap (λ (z : Bool). Some (elements (set.remove part v), Flag z)) (shadow v own),
+      λ q k. let same = shadow q k in grind (arith, ints, contains-remove),
     ))
-    (λ a q k. let same = h q k in grind (arith, ints, contains-remove))
-    (λ e q k. let same = h q k in grind (arith, ints, contains-remove))
-elements_step all keeps s t (Has v) h true b =
-    λ f g. inr (refl, elements t, ap (λ (z : Bool). Some (elements t, Flag z)) (h v f), h)
-elements_step all keeps s t (Has v) h false b = λ f g. inl (inl refl, h)
-elements_step all keeps s t op h kept b = tt
+    (λ out q k. let same = shadow q k in grind (arith, ints, contains-remove))
+    (λ not_took q k. let same = shadow q k in grind (arith, ints, contains-remove))
+elements_step all keeps whole part (Has v) shadow true told =
+    λ fit none. inr (refl, elements part, ap (λ (z : Bool). Some (elements part, Flag z)) (shadow v fit), shadow)
+elements_step all keeps whole part (Has v) shadow false told = λ fit none. inl (inl refl, shadow)
+elements_step all keeps whole part op shadow kept told = tt
 
 -- ---- counters and locks
 
+-- what `StepAt` says of one choice: what the operation leaves and its reply are p
 abbrev Fits : Bool → (ℤ → Bool) → Bool → Bool → AnyOp → Content → Content × AnyReply → Type 0
-Fits all keeps kept b op d p =
-    fits all keeps kept op (shown b p.1) ≡ true → TookNone keeps op b kept p.1 → Step keeps op kept b p.1 d p.0
+Fits all keeps kept told op part p =
+    fits all keeps kept op (shown told p.1) ≡ true → TookNone keeps op told kept p.1
+    → Step keeps op kept told p.1 part p.0
 
 count_step : (all : Bool) (keeps : ℤ → Bool) (c : ℤ) (op : AnyOp) → StepAt all keeps op (count c) (count c)
-count_step all keeps c (FetchAdd n) kept b =
-    adds (Fits all keeps kept b (FetchAdd n) (count c)) c n (λ does f g. inr (f, count (c +ℤ n), does, refl))
-count_step all keeps c GetCount kept b =
-    λ f g. by_free keeps GetCount kept b (Value (Some c)) (count c) (count c) (count c, refl, refl) refl
-count_step all keeps c op kept b = tt
+count_step all keeps c (FetchAdd n) kept told =
+    adds (Fits all keeps kept told (FetchAdd n) (count c)) c n
+    (λ does fit none. inr (fit, count (c +ℤ n), does, refl))
+count_step all keeps c GetCount kept told =
+    λ fit none. by_free keeps GetCount kept told (Value (Some c)) (count c) (count c) (count c, refl, refl) refl
+count_step all keeps c op kept told = tt
 
 lock_step : (all : Bool) (keeps : ℤ → Bool) (x : Option ℤ) (op : AnyOp) → StepAt all keeps op (owner x) (owner x)
-lock_step all keeps None (LockBy o) kept b = λ f g. inr (f, owner (Some o), refl, refl)
-lock_step all keeps (Some p) (UnlockBy o) kept b =
-    frees (Fits all keeps kept b (UnlockBy o) (owner (Some p))) p o (λ does f g. inr (f, owner None, does, refl))
-lock_step all keeps x op kept b = tt
+lock_step all keeps None (LockBy o) kept told = λ fit none. inr (fit, owner (Some o), refl, refl)
+lock_step all keeps (Some p) (UnlockBy o) kept told =
+    frees (Fits all keeps kept told (UnlockBy o) (owner (Some p))) p o
+    (λ does fit none. inr (fit, owner None, does, refl))
+lock_step all keeps x op kept told = tt
 
 -- ---- any content
 
 -- a step of the whole, and what the part does then, whatever the object contains
-pub step_at : (all : Bool) (keeps : ℤ → Bool) → (all ≡ true → (v : ℤ) → keeps v ≡ true) → (c d : Content) (op : AnyOp)
-    → IsShadow keeps c d → StepAt all keeps op c d
-step_at all keeps every (queue vs) (queue ws) op s =
-    subst (λ (zs : List ℤ). StepAt all keeps op (queue vs) (queue zs)) (sym s) (queue_step all keeps vs op)
-step_at all keeps every (stack vs) (stack ws) op s =
-    subst (λ (zs : List ℤ). StepAt all keeps op (stack vs) (stack zs)) (sym s) (stack_step all keeps vs op)
-step_at all keeps every (heap vs) (heap ws) op s =
-    subst (λ (zs : List ℤ). StepAt all keeps op (heap vs) (heap zs)) (sym s.0) (heap_step all keeps vs op s.1)
-step_at all keeps every (register x) (register y) op s = register_step all keeps every x y op s
-step_at all keeps every (table m) (table n) op s = table_step all keeps m n op s
-step_at all keeps every (mutex x) (mutex y) op s =
-    subst (λ (z : Bool). StepAt all keeps op (mutex x) (mutex z)) (sym s) (mutex_step all keeps x op)
-step_at all keeps every (elements x) (elements y) op s = elements_step all keeps x y op s
-step_at all keeps every (count x) (count y) op s =
-    subst (λ (z : ℤ). StepAt all keeps op (count x) (count z)) (sym s) (count_step all keeps x op)
-step_at all keeps every (owner x) (owner y) op s =
-    subst (λ (z : Option ℤ). StepAt all keeps op (owner x) (owner z)) (sym s) (lock_step all keeps x op)
-step_at all keeps every c d op s = absurd s
+pub step_at : (all : Bool) (keeps : ℤ → Bool) → (all ≡ true → (v : ℤ) → keeps v ≡ true) → (whole part : Content)
+    (op : AnyOp) → IsShadow keeps whole part → StepAt all keeps op whole part
+step_at all keeps every (queue whole) (queue part) op shadow =
+    subst (λ (z : List ℤ). StepAt all keeps op (queue whole) (queue z)) (sym shadow) (queue_step all keeps whole op)
+step_at all keeps every (stack whole) (stack part) op shadow =
+    subst (λ (z : List ℤ). StepAt all keeps op (stack whole) (stack z)) (sym shadow) (stack_step all keeps whole op)
+step_at all keeps every (heap whole) (heap part) op shadow =
+    subst (λ (z : List ℤ). StepAt all keeps op (heap whole) (heap z)) (sym shadow.0)
+    (heap_step all keeps whole op shadow.1)
+step_at all keeps every (register whole) (register part) op shadow = register_step all keeps every whole part op shadow
+step_at all keeps every (table whole) (table part) op shadow = table_step all keeps whole part op shadow
+step_at all keeps every (mutex whole) (mutex part) op shadow =
+    subst (λ (z : Bool). StepAt all keeps op (mutex whole) (mutex z)) (sym shadow) (mutex_step all keeps whole op)
+step_at all keeps every (elements whole) (elements part) op shadow = elements_step all keeps whole part op shadow
+step_at all keeps every (count whole) (count part) op shadow =
+    subst (λ (z : ℤ). StepAt all keeps op (count whole) (count z)) (sym shadow) (count_step all keeps whole op)
+step_at all keeps every (owner whole) (owner part) op shadow =
+    subst (λ (z : Option ℤ). StepAt all keeps op (owner whole) (owner z)) (sym shadow) (lock_step all keeps whole op)
+step_at all keeps every whole part op shadow = absurd shadow

@@ -294,13 +294,201 @@ keep_other calls kept i content after removal late later reply chosen rising pen
     more : (a b : ℕ) → b ≡ a → b ≡ i → i + 1 ≤ a → ⊥
     more a b q r l = absurd (omega arith)
 
+-- ---- one call of the whole
+
+-- The whole does a call, before which i pending removals, xs, took a kept value.
+module _ (calls : List Call) (kind : Kind) (all : Bool) (keeps : ℤ → Bool) (kept : ℕ → Bool)
+    (setting : IsSetting calls kind all keeps kept) (call : Call) (later : List Call) (i : ℕ) (xs : List Call)
+    (whole part after : Content) (reply : AnyReply) (shadow : IsShadow keeps whole part)
+    (does : next whole call.op ≡ Some (after, reply)) (agrees : IfSome call.returned (λ r. r.reply ≡ reply))
+    (replies : RepliesAlong after later) (so_far : IsTurn calls keeps i xs (call ∷ later) whole) where
+  -- the calls of the part that come after this one
+  abbrev Rest : Type 0
+  Rest = (j : ℕ) (ys : List Call) (d : Content) → IsShadow keeps after d → IsTurn calls keeps j ys later after
+      → Exchanged calls kept j d later
+
+  here : In call calls
+  here = so_far.later_known call (inl refl)
+
+  steps : (k told : Bool) → fits all keeps k call.op (shown told reply) ≡ true → TookNone keeps call.op told k reply
+      → Stepped (IsShadow keeps) call.op k told reply part after
+  steps k told = subst
+      (λ z. IfSome z (λ p. fits all keeps k call.op (shown told p.1) ≡ true → TookNone keeps call.op told k p.1
+      → Stepped (IsShadow keeps) call.op k told p.1 part p.0))
+      does (step_at all keeps setting.every whole part call.op shadow k told)
+
+  -- ---- a call that is no pending removal
+
+  -- a call that is no pending removal takes out what its reply shows
+  own_told : is_open call ≡ false
+      → one (takes_out keeps call.op (reply_of call.returned)) ≡ one (takes_out keeps call.op (Some reply))
+  own_told closed = told call.returned refl agrees
+    where
+      told : (w : Option Return) → call.returned ≡ w → IfSome w (λ r. r.reply ≡ reply)
+          → one (takes_out keeps call.op (reply_of w)) ≡ one (takes_out keeps call.op (Some reply))
+      told None q a =
+          let none = closed_removal call closed (ap is_some q) in
+          ap (λ z. one (z && false)) none ∙ ap (λ z. one (z && is_kept_value keeps (Some reply))) (sym none)
+      told (Some w) q a = ap (λ (z : AnyReply). one (takes_out keeps call.op (Some z))) a
+
+  own_none : is_open call ≡ false → TookNone keeps call.op (is_some call.returned) (kept call.number) reply
+  own_none closed pending left_out =
+      ap (λ z. z && is_kept_value keeps (Some reply)) (closed_removal call closed pending)
+
+  fitting : fits all keeps (kept call.number) call.op (shown (is_some call.returned) reply) ≡ true
+  fitting = sym (ap (fits all keeps (kept call.number) call.op) (reply_shown call.returned reply agrees))
+      ∙ setting.each call here
+
+  -- a call that is no pending removal leaves the number of those that took a kept value
+  same : is_open call ≡ false → IsTurn calls keeps i xs later after
+  same closed = record {
+    many = so_far.many;
+    pending = so_far.pending;
+    known = so_far.known;
+    apart = so_far.apart;
+    cross_apart = λ x y a b. so_far.cross_apart x y a (inr b);
+    cross_time = λ x y a b. so_far.cross_time x y a (inr b);
+    later_known = λ x a. so_far.later_known x (inr a);
+    later_apart = so_far.later_apart.1;
+    in_time = so_far.in_time.1;
+    owed =
+        let told = own_told closed in
+        let u = turn keeps call whole after reply does agrees in
+        omega arith;
+  }
+
+  walk_closed : Rest → is_open call ≡ false → Exchanged calls kept i part (call ∷ later)
+  walk_closed rest closed = elim (steps (kept call.number) (is_some call.returned) fitting (own_none closed)) [
+    | inl skip ↦ leave calls kept i part call later skip.0 (rest i xs part skip.1 (same closed))
+    | inr take ↦ keep_own calls kept i part take.1 call later reply setting.rising closed take.0 here
+        so_far.later_apart.0 so_far.in_time.0 take.2 agrees (rest i xs take.1 take.3 (same closed))
+  ]
+
+  -- ---- a pending removal
+
+  -- after a pending removal at most one more of them took a kept value
+  fewer : is_some call.returned ≡ false → (j : ℕ) (ys : List Call) → length ys ≡ j
+      → ((x : Call) → In x ys → is_open x ≡ true)
+      → ((x : Call) → In x ys → In x calls) → Pairs (λ x y. x.number ≢ y.number) ys
+      → ((x y : Call) → In x ys → In y later → x.number ≢ y.number)
+      → ((x y : Call) → In x ys → In y later → ReturnsBefore y x → ⊥)
+      → j ≤ i + one (takes_out keeps call.op (Some reply)) → IsTurn calls keeps j ys later after
+  fewer none j ys many pending known apart cross_apart cross_time le = record {
+    many = many;
+    pending = pending;
+    known = known;
+    apart = apart;
+    cross_apart = cross_apart;
+    cross_time = cross_time;
+    later_known = λ x a. so_far.later_known x (inr a);
+    later_apart = so_far.later_apart.1;
+    in_time = so_far.in_time.1;
+    owed =
+        let u = turn keeps call whole after reply does agrees in
+        let none_told = u.open_call none in
+        omega arith;
+  }
+
+  leave_open : Rest → is_open call ≡ true → IsShadow keeps after part → Exchanged calls kept i part (call ∷ later)
+  leave_open rest opened still = leave calls kept i part call later (inr (open_returned call opened))
+      (rest i xs part still
+      (fewer (open_returned call opened) i xs so_far.many so_far.pending so_far.known so_far.apart
+      (λ x y a b. so_far.cross_apart x y a (inr b)) (λ x y a b. so_far.cross_time x y a (inr b)) (omega arith)))
+
+  -- A pending removal takes a kept value, so that i + 1 of them did.
+  module _ (opened : is_open call ≡ true) (took : takes_out keeps call.op (Some reply) ≡ true) where
+    long : length (call ∷ xs) ≡ i + 1
+    long = let m = so_far.many in omega arith
+
+    all_open : (x : Call) → In x (call ∷ xs) → is_open x ≡ true
+    all_open x j = elim j [ inl w ↦ ap (λ (z : Call). is_open z) w ∙ opened | inr l ↦ so_far.pending x l ]
+
+    all_known : (x : Call) → In x (call ∷ xs) → In x calls
+    all_known x j = elim j [
+      | inl w ↦ subst (λ (z : Call). In z calls) (sym w) here
+      | inr l ↦ so_far.known x l
+    ]
+
+    all_apart : Pairs (λ x y. x.number ≢ y.number) (call ∷ xs)
+    all_apart = (λ x j w. so_far.cross_apart x call j (inl refl) (sym w), so_far.apart)
+
+    -- no later call returned before one of the i + 1 was invoked
+    on_time : (x y : Call) → In x (call ∷ xs) → In y later → ReturnsBefore y x → ⊥
+    on_time x y j l = elim j [
+      | inl w ↦ subst (λ (z : Call). ReturnsBefore y z → ⊥) (sym w) (so_far.in_time.0 y l)
+      | inr k ↦ so_far.cross_time x y k (inr l)
+    ]
+
+    -- no later call is one of the i + 1
+    not_later : (x y : Call) → In x (call ∷ xs) → In y later → x.number ≢ y.number
+    not_later x y j l = elim j [
+      | inl w ↦ subst (λ (z : Call). z.number ≢ y.number) (sym w) (so_far.later_apart.0 y l)
+      | inr k ↦ so_far.cross_apart x y k (inr l)
+    ]
+
+    -- the pending removal before which i were invoked, which is done in place of this one
+    chosen : Nth calls i
+    chosen = place calls (call ∷ xs) i setting.rising long all_apart all_open all_known
+
+    -- one of the i + 1 was invoked no earlier than the chosen one
+    last : (x : Call) × In x (call ∷ xs) × (chosen.call.number ≤ x.number)
+    last = one_late calls (call ∷ xs) i chosen long all_apart all_open all_known
+
+    turned : IsTurn calls keeps (i + 1) (call ∷ xs) later after
+    turned = fewer (open_returned call opened) (i + 1) (call ∷ xs) long all_open all_known all_apart not_later on_time
+        (let counted = ap one took in omega arith)
+
+    same_op : chosen.call.op ≡ call.op
+    same_op = same_removal_op chosen.call.op call.op (open_removal chosen.call chosen.pending)
+        (open_removal call opened)
+        (setting.of_kind chosen.call chosen.known ∙ sym (setting.of_kind call here))
+
+    -- the part keeps the chosen one, since more kept values are taken out than by the calls before it
+    chosen_kept : kept chosen.call.number ≡ true
+    chosen_kept = elim (true_or_false (kept chosen.call.number)) [
+      | inl kept_so ↦ kept_so
+      | inr left_out ↦
+          let due = setting.pending chosen.call chosen.known chosen.pending left_out in
+          let ranked = chosen.at in
+          let now = turned in
+          let gone = conserved keeps later after replies in
+          absurd (omega arith)
+    ]
+
+    exchange : Rest → (behind : Content) → next part call.op ≡ Some (behind, reply) → IsShadow keeps after behind
+        → Exchanged calls kept i part (call ∷ later)
+    exchange rest behind done still =
+        keep_other calls kept i part behind call last.0 later reply chosen setting.rising opened chosen_kept last.2
+        (λ y j. on_time last.0 y last.1 j) (ap (λ (z : AnyOp). next part z) same_op ∙ done)
+        (rest (i + 1) (call ∷ xs) behind still turned)
+
+  walk_open : Rest → (took : Bool) → is_open call ≡ true → takes_out keeps call.op (Some reply) ≡ took
+      → Exchanged calls kept i part (call ∷ later)
+  walk_open rest true opened took =
+      elim (steps true false (fits_open all keeps true call.op (open_removal call opened))
+      (λ b k. absurd (false_is_not_true (sym k)))) [
+        | inl skip ↦ leave_open rest opened skip.1
+        | inr take ↦ exchange opened took rest take.1 take.2 take.3
+      ]
+  walk_open rest false opened took =
+      elim (steps false false (fits_open all keeps false call.op (open_removal call opened)) (λ b k. took)) [
+        | inl skip ↦ leave_open rest opened skip.1
+        | inr take ↦ absurd (false_is_not_true take.0)
+      ]
+
+  walk_call : Rest → (opened : Bool) → is_open call ≡ opened → Exchanged calls kept i part (call ∷ later)
+  walk_call rest false closed = walk_closed rest closed
+  walk_call rest true opened = walk_open rest (takes_out keeps call.op (Some reply)) opened refl
+
+-- ---- all calls of the whole
+
 -- if calls of the whole have their replies from a content on, calls of the part have theirs from its part of this
 -- content on, with pending removals exchanged
 pub walk : (calls : List Call) (kind : Kind) (all : Bool) (keeps : ℤ → Bool) (kept : ℕ → Bool)
     → IsSetting calls kind all keeps kept
-    → (es : List Call) (i : ℕ) (xs : List Call) (c d : Content) → IsShadow keeps c d → RepliesAlong c es
-    → IsTurn calls keeps i xs es c → Exchanged calls kept i d es
-walk calls kind all keeps kept s [] i xs c d r h t = record {
+    → (es : List Call) (i : ℕ) (xs : List Call) (whole part : Content) → IsShadow keeps whole part
+    → RepliesAlong whole es → IsTurn calls keeps i xs es whole → Exchanged calls kept i part es
+walk calls kind all keeps kept setting [] i xs whole part shadow replies so_far = record {
   entries = [];
   replies = tt;
   from = λ y j. absurd j;
@@ -309,152 +497,8 @@ walk calls kind all keeps kept s [] i xs c d r h t = record {
   apart = tt;
   whole = λ x j k so. absurd j;
 }
-walk calls kind all keeps kept s (e ∷ es) i xs c d r h t =
-    go (λ j ys b q u. walk calls kind all keeps kept s es j ys h.0 b q h.4 u) (is_open e)
-    (takes_out keeps e.op (Some h.1)) refl refl
-  where
-    steps : (k b : Bool) → fits all keeps k e.op (shown b h.1) ≡ true → TookNone keeps e.op b k h.1
-        → Stepped (IsShadow keeps) e.op k b h.1 d h.0
-    steps k b = subst (λ z. IfSome z (λ p. fits all keeps k e.op (shown b p.1) ≡ true → TookNone keeps e.op b k p.1
-        → Stepped (IsShadow keeps) e.op k b p.1 d p.0)) h.2 (step_at all keeps s.every c d e.op r k b)
-
-    -- no pending removal took a kept value here
-    same : (one (takes_out keeps e.op (reply_of e.returned)) ≡ one (takes_out keeps e.op (Some h.1)))
-        → IsTurn calls keeps i xs es h.0
-    same q = record {
-      many = t.many;
-      pending = t.pending;
-      known = t.known;
-      apart = t.apart;
-      cross_apart = λ x y a b. t.cross_apart x y a (inr b);
-      cross_time = λ x y a b. t.cross_time x y a (inr b);
-      later_known = λ x a. t.later_known x (inr a);
-      later_apart = t.later_apart.1;
-      in_time = t.in_time.1;
-      owed = let u = turn keeps e c h.0 h.1 h.2 h.3 in omega arith;
-    }
-
-    -- a pending removal took a kept value, and one more may be done
-    fewer : is_some e.returned ≡ false → (j : ℕ) (ys : List Call) → length ys ≡ j
-        → ((x : Call) → In x ys → is_open x ≡ true)
-        → ((x : Call) → In x ys → In x calls) → Pairs (λ x y. x.number ≢ y.number) ys
-        → ((x y : Call) → In x ys → In y es → x.number ≢ y.number)
-        → ((x y : Call) → In x ys → In y es → ReturnsBefore y x → ⊥) → j ≤ i + one (takes_out keeps e.op (Some h.1))
-        → IsTurn calls keeps j ys es h.0
-    fewer none j ys many pending known apart cross_apart cross_time le = record {
-      many = many;
-      pending = pending;
-      known = known;
-      apart = apart;
-      cross_apart = cross_apart;
-      cross_time = cross_time;
-      later_known = λ x a. t.later_known x (inr a);
-      later_apart = t.later_apart.1;
-      in_time = t.in_time.1;
-      owed =
-          let u = turn keeps e c h.0 h.1 h.2 h.3 in
-          let none_told = u.open_call none in
-          omega arith;
-    }
-
-    own_told : is_open e ≡ false
-        → one (takes_out keeps e.op (reply_of e.returned)) ≡ one (takes_out keeps e.op (Some h.1))
-    own_told o = told e.returned refl h.3
-      where
-        told : (w : Option Return) → e.returned ≡ w → IfSome w (λ r. r.reply ≡ h.1)
-            → one (takes_out keeps e.op (reply_of w)) ≡ one (takes_out keeps e.op (Some h.1))
-        told None q a =
-            let none = closed_removal e o (ap is_some q) in
-            ap (λ z. one (z && false)) none ∙ ap (λ z. one (z && is_kept_value keeps (Some h.1))) (sym none)
-        told (Some w) q a = ap (λ (z : AnyReply). one (takes_out keeps e.op (Some z))) a
-
-    own_none : is_open e ≡ false → TookNone keeps e.op (is_some e.returned) (kept e.number) h.1
-    own_none o p k = ap (λ z. z && is_kept_value keeps (Some h.1)) (closed_removal e o p)
-
-    fitting : fits all keeps (kept e.number) e.op (shown (is_some e.returned) h.1) ≡ true
-    fitting = sym (ap (fits all keeps (kept e.number) e.op) (reply_shown e.returned h.1 h.3))
-        ∙ s.each e (t.later_known e (inl refl))
-
-    exchange : ((j : ℕ) (ys : List Call) (b : Content) → IsShadow keeps h.0 b → IsTurn calls keeps j ys es h.0
-        → Exchanged calls kept j b es)
-        → is_open e ≡ true → takes_out keeps e.op (Some h.1) ≡ true → (behind : Content)
-        → next d e.op ≡ Some (behind, h.1) → IsShadow keeps h.0 behind → Exchanged calls kept i d (e ∷ es)
-    exchange again o took behind does q =
-        keep_other calls kept i d behind e last.0 es h.1 p s.rising o kept_one last.2 (λ y j. time y last.0 last.1 j)
-        (ap (λ (z : AnyOp). next d z) same_op ∙ does) (again (i + 1) (e ∷ xs) behind q turned)
-      where
-        long : length (e ∷ xs) ≡ i + 1
-        long = let m = t.many in omega arith
-
-        pending : (x : Call) → In x (e ∷ xs) → is_open x ≡ true
-        pending x j = elim j [ inl w ↦ ap (λ (z : Call). is_open z) w ∙ o | inr l ↦ t.pending x l ]
-
-        known : (x : Call) → In x (e ∷ xs) → In x calls
-        known x j = elim j [
-          | inl w ↦ subst (λ (z : Call). In z calls) (sym w) (t.later_known e (inl refl))
-          | inr l ↦ t.known x l
-        ]
-
-        apart : Pairs (λ x y. x.number ≢ y.number) (e ∷ xs)
-        apart = (λ x j w. t.cross_apart x e j (inl refl) (sym w), t.apart)
-
-        time : (y x : Call) → In x (e ∷ xs) → In y es → ReturnsBefore y x → ⊥
-        time y x j l = elim j [
-          | inl w ↦ subst (λ (z : Call). ReturnsBefore y z → ⊥) (sym w) (t.in_time.0 y l)
-          | inr k ↦ t.cross_time x y k (inr l)
-        ]
-
-        cross : (x y : Call) → In x (e ∷ xs) → In y es → x.number ≢ y.number
-        cross x y j l = elim j [
-          | inl w ↦ subst (λ (z : Call). z.number ≢ y.number) (sym w) (t.later_apart.0 y l)
-          | inr k ↦ t.cross_apart x y k (inr l)
-        ]
-
-        p : Nth calls i
-        p = place calls (e ∷ xs) i s.rising long apart pending known
-
-        last : (x : Call) × In x (e ∷ xs) × (p.call.number ≤ x.number)
-        last = one_late calls (e ∷ xs) i p long apart pending known
-
-        turned : IsTurn calls keeps (i + 1) (e ∷ xs) es h.0
-        turned = fewer (open_returned e o) (i + 1) (e ∷ xs) long pending known apart cross (λ x y. time y x)
-            (let counted = ap one took in omega arith)
-
-        same_op : p.call.op ≡ e.op
-        same_op = same_removal_op p.call.op e.op (open_removal p.call p.pending) (open_removal e o)
-            (s.of_kind p.call p.known ∙ sym (s.of_kind e (t.later_known e (inl refl))))
-
-        kept_one : kept p.call.number ≡ true
-        kept_one = elim (true_or_false (kept p.call.number)) [
-          | inl kept_so ↦ kept_so
-          | inr left_out ↦
-              let due = s.pending p.call p.known p.pending left_out in
-              let ranked = p.at in
-              let now = turned in
-              let gone = conserved keeps es h.0 h.4 in
-              absurd (omega arith)
-        ]
-
-    go : ((j : ℕ) (ys : List Call) (b : Content) → IsShadow keeps h.0 b → IsTurn calls keeps j ys es h.0
-        → Exchanged calls kept j b es)
-        → (o took : Bool) → is_open e ≡ o → takes_out keeps e.op (Some h.1) ≡ took → Exchanged calls kept i d (e ∷ es)
-    go again false took o w = elim (steps (kept e.number) (is_some e.returned) fitting (own_none o)) [
-      | inl skip ↦ leave calls kept i d e es skip.0 (again i xs d skip.1 (same (own_told o)))
-      | inr take ↦ keep_own calls kept i d take.1 e es h.1 s.rising o take.0
-          (t.later_known e (inl refl)) t.later_apart.0 t.in_time.0 take.2 h.3
-          (again i xs take.1 take.3 (same (own_told o)))
-    ]
-    go again true true o w =
-        elim (steps true false (fits_open all keeps true e.op (open_removal e o))
-        (λ b k. absurd (false_is_not_true (sym k)))) [
-          | inl skip ↦ leave calls kept i d e es (inr (open_returned e o))
-              (again i xs d skip.1 (fewer (open_returned e o) i xs t.many t.pending t.known t.apart
-              (λ x y a b. t.cross_apart x y a (inr b)) (λ x y a b. t.cross_time x y a (inr b)) (omega arith)))
-          | inr take ↦ exchange again o w take.1 take.2 take.3
-        ]
-    go again true false o w = elim (steps false false (fits_open all keeps false e.op (open_removal e o)) (λ b k. w)) [
-      | inl skip ↦ leave calls kept i d e es (inr (open_returned e o))
-          (again i xs d skip.1 (fewer (open_returned e o) i xs t.many t.pending t.known t.apart
-          (λ x y a b. t.cross_apart x y a (inr b)) (λ x y a b. t.cross_time x y a (inr b)) (omega arith)))
-      | inr take ↦ absurd (false_is_not_true take.0)
-    ]
+walk calls kind all keeps kept setting (e ∷ es) i xs whole part shadow replies so_far =
+    walk_call calls kind all keeps kept setting e es i xs whole part replies.0 replies.1 shadow replies.2 replies.3
+    replies.4 so_far
+    (λ j ys d still turned.
+    walk calls kind all keeps kept setting es j ys replies.0 d still replies.4 turned) (is_open e) refl

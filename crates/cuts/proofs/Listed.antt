@@ -40,7 +40,7 @@ use Rattle.cuts.proofs.Recasts.{recast_timed}
 use Rattle.cuts.proofs.Places.{into_part, part_valid}
 use Rattle.cuts.proofs.Later.{leaves_kind}
 use Rattle.cuts.proofs.Named.{AreRising, from_timed, timed_named, rising_timed}
-use Rattle.cuts.proofs.Booleans.{false_is_not_true}
+use Rattle.cuts.proofs.Booleans.{false_is_not_true, true_or_false}
 
 -- ---- what holds of the calls of a history, and of those of each part
 
@@ -225,78 +225,83 @@ later_valid kind first at calls order v =
         let u = (cut_of first at y).returned r.0 r.1 in
         subst (λ (o : Option Return). IsSome o) (sym u.1) refl
 
--- an order of the calls with these numbers gives one of what becomes of them in a suffix
-from_step : (kind : Kind) (from : ℕ) (calls part : List Call) (kept : ℕ → Bool) (order : List ℤ) → AreCalls kind calls
-    → IsSuffix from calls part
-    → Covers kept calls part → IsValidOrder kind (kept_calls kept calls) order
-    → (o : List ℤ) × IsValidOrder kind (kept_calls kept part) o
-from_step kind from calls part kept order are suffix covers valid = go (kept from) refl
-  where
-    same : filter_map (call_from from suffix.at suffix.first) (kept_calls kept calls) ≡ kept_calls kept part
-    same =
-        sym (commutes kept (call_from from suffix.at suffix.first) calls
-        (λ y x i e. (from_timed from calls part are.rising suffix y x i e).number))
-        ∙ ap (kept_calls kept) (sym suffix.named)
+-- what becomes of each call in a suffix that begins with none of these is the call as a later one
+all_later : (from at : ℕ) (first : Option (AnyOp × AnyReply)) (cs : List Call)
+    → ((e : Call) → In e cs → call_from from at first e ≡ Some (call_later first at e))
+    → filter_map (call_from from at first) cs ≡ map (call_later first at) cs
+all_later from at first [] f = refl
+all_later from at first (e ∷ cs) f =
+    ap (λ (o : Option Call). cons_option o (filter_map (call_from from at first) cs)) (f e (inl refl))
+    ∙ ap (λ ds. call_later first at e ∷ ds) (all_later from at first cs (λ y i. f y (inr i)))
 
-    in_kept : (e : Call) → In e (kept_calls kept calls) → In e calls
-    in_kept e i = in_filter (λ (e : Call). kept e.number) e calls i
+-- The calls with these numbers have a valid order, and the part is a suffix that has each of them.
+module _ (kind : Kind) (from : ℕ) (calls part : List Call) (kept : ℕ → Bool) (order : List ℤ)
+    (are : AreCalls kind calls) (suffix : IsSuffix from calls part) (covers : Covers kept calls part)
+    (valid : IsValidOrder kind (kept_calls kept calls) order) where
+  abbrev becomes : Call → Option Call
+  becomes e = call_from from suffix.at suffix.first e
 
-    -- the call with which the suffix begins is one of these
-    begins : kept from ≡ true → (o : List ℤ) × IsValidOrder kind (kept_calls kept part) o
-    begins q =
-        let s = suffix.start in
-        let here : Contains (kept_calls kept calls) s.call =
-        contains_from_in (kept_calls kept calls) s.call
-        (in_filter_from (λ (e : Call). kept e.number) s.call calls (in_from_contains calls s.call s.known)
-        (ap kept s.number ∙ q)) in
-        let start : IsStart (kept_calls kept calls) from suffix.at suffix.first = record {
-          call = s.call;
-          known = here;
-          number = s.number;
-          reply = s.reply;
-          returned = s.returned;
-          told = s.told;
-          one_key = all_from_in (λ (e : Call). key_of e.op ≡ key_of s.call.op) (kept_calls kept calls)
-              (λ e i. all_at (λ (e : Call). key_of e.op ≡ key_of s.call.op) calls s.one_key e (in_kept e i));
-        } in
-        let found = start_valid kind (kept_calls kept calls) from suffix.at suffix.first order
-        (all_from_in (λ (e : Call). kind_of e.op ≡ kind) (kept_calls kept calls)
-        (λ e i. are.kinds e (in_kept e i))) start valid in
-        (found.0, subst (λ cs. IsValidOrder kind cs found.0) same found.1)
+  in_kept : (e : Call) → In e (kept_calls kept calls) → In e calls
+  in_kept e i = in_filter (λ (e : Call). kept e.number) e calls i
 
-    is_later : kept from ≡ false → (e : Call) → In e (kept_calls kept calls)
-        → call_from from suffix.at suffix.first e ≡ Some (call_later suffix.first suffix.at e)
-    is_later q e i =
-        let chosen = in_filter_passes (λ (e : Call). kept e.number) e calls i in
-        let y = covers e (in_kept e i) chosen in
-        let z = in_filter_map (call_from from suffix.at suffix.first) y.0 calls (subst (In y.0) suffix.named y.1) in
-        let own = one_number (λ (z : Call). z.number) z.0 e calls are.rising z.1 (in_kept e i)
-        (sym (from_timed from calls part are.rising suffix z.0 y.0 z.1 z.2).number ∙ y.2) in
-        let made : call_from from suffix.at suffix.first e ≡ Some y.0 =
-        ap (call_from from suffix.at suffix.first) (sym own) ∙ z.2 in
-        elim (call_from_cases from suffix.at suffix.first e y.0 made) [
-          | inl w ↦ absurd (false_is_not_true (sym q ∙ ap kept (sym (ap (λ (z : Call). z.number) w.2) ∙ y.2) ∙ chosen))
-          | inr w ↦ made ∙ ap (λ (z : Call). Some z) w.1
-        ]
+  -- what these calls become is what the part has of them
+  same_calls : filter_map becomes (kept_calls kept calls) ≡ kept_calls kept part
+  same_calls =
+      sym (commutes kept becomes calls (λ y x i e. (from_timed from calls part are.rising suffix y x i e).number))
+      ∙ ap (kept_calls kept) (sym suffix.named)
 
-    all_later : (cs : List Call) → ((e : Call) → In e cs
-        → call_from from suffix.at suffix.first e ≡ Some (call_later suffix.first suffix.at e))
-        → filter_map (call_from from suffix.at suffix.first) cs ≡ map (call_later suffix.first suffix.at) cs
-    all_later [] f = refl
-    all_later (e ∷ cs) f =
-        ap (λ (o : Option Call). cons_option o (filter_map (call_from from suffix.at suffix.first) cs)) (f e (inl refl))
-        ∙ ap (λ ds. call_later suffix.first suffix.at e ∷ ds) (all_later cs (λ y i. f y (inr i)))
+  -- where the first call of the suffix is one of these, they have a suffix that begins with it
+  begins_there : kept from ≡ true → (o : List ℤ) × IsValidOrder kind (kept_calls kept part) o
+  begins_there is_kept =
+      let s = suffix.start in
+      let start : IsStart (kept_calls kept calls) from suffix.at suffix.first = record {
+        call = s.call;
+        known =
+            contains_from_in (kept_calls kept calls) s.call
+            (in_filter_from (λ (e : Call). kept e.number) s.call calls (in_from_contains calls s.call s.known)
+            (ap kept s.number ∙ is_kept));
+        number = s.number;
+        reply = s.reply;
+        returned = s.returned;
+        told = s.told;
+        one_key = all_from_in (λ (e : Call). key_of e.op ≡ key_of s.call.op) (kept_calls kept calls)
+            (λ e i. all_at (λ (e : Call). key_of e.op ≡ key_of s.call.op) calls s.one_key e (in_kept e i));
+      } in
+      let found = start_valid kind (kept_calls kept calls) from suffix.at suffix.first order
+      (all_from_in (λ (e : Call). kind_of e.op ≡ kind) (kept_calls kept calls)
+      (λ e i. are.kinds e (in_kept e i))) start valid in
+      (found.0, subst (λ cs. IsValidOrder kind cs found.0) same_calls found.1)
 
-    go : (b : Bool) → kept from ≡ b → (o : List ℤ) × IsValidOrder kind (kept_calls kept part) o
-    go true q = begins q
-    go false q = (
-      order,
+  -- where the first call of the suffix is none of these, each of them is a later call
+  is_later : kept from ≡ false → (e : Call) → In e (kept_calls kept calls)
+      → becomes e ≡ Some (call_later suffix.first suffix.at e)
+  is_later left_out e i =
+      let chosen = in_filter_passes (λ (e : Call). kept e.number) e calls i in
+      let y = covers e (in_kept e i) chosen in
+      let z = in_filter_map becomes y.0 calls (subst (In y.0) suffix.named y.1) in
+      let own = one_number (λ (z : Call). z.number) z.0 e calls are.rising z.1 (in_kept e i)
+      (sym (from_timed from calls part are.rising suffix z.0 y.0 z.1 z.2).number ∙ y.2) in
+      let made : becomes e ≡ Some y.0 = ap becomes (sym own) ∙ z.2 in
+      elim (call_from_cases from suffix.at suffix.first e y.0 made) [
+        | inl w ↦ absurd (false_is_not_true
+            (sym left_out ∙ ap kept (sym (ap (λ (z : Call). z.number) w.2) ∙ y.2) ∙ chosen))
+        | inr w ↦ made ∙ ap (λ (z : Call). Some z) w.1
+      ]
+
+  begins_elsewhere : kept from ≡ false → IsValidOrder kind (kept_calls kept part) order
+  begins_elsewhere left_out =
       subst (λ cs. IsValidOrder kind cs order)
-          (sym (all_later (kept_calls kept calls) (is_later q)) ∙ same)
-          (later_valid kind suffix.first suffix.at (kept_calls kept calls) order valid),
-    )
+      (sym (all_later from suffix.at suffix.first (kept_calls kept calls) (is_later left_out)) ∙ same_calls)
+      (later_valid kind suffix.first suffix.at (kept_calls kept calls) order valid)
 
--- and of what becomes of them at a cell or an entry
+  -- an order of the calls with these numbers gives one of what becomes of them in a suffix
+  from_step : (o : List ℤ) × IsValidOrder kind (kept_calls kept part) o
+  from_step = elim (true_or_false (kept from)) [
+    | inl is_kept ↦ begins_there is_kept
+    | inr left_out ↦ (order, begins_elsewhere left_out)
+  ]
+
+-- an order of the calls with these numbers gives one of what becomes of them at a cell or an entry
 step_at : (place : CellId) (keeps : ℤ → Bool) (other : ℤ) (chosen : ℕ → Bool) (kind : Kind) (calls part : List Call)
     (kept : ℕ → Bool) (order : List ℤ) → part ≡ calls_at place keeps other chosen calls
     → IsValidOrder kind (kept_calls kept calls) order

@@ -108,58 +108,86 @@ replies_up_to until p (e ∷ es) c h = go (some_passes p (e ∷ es)) (replies_up
     go true f = (h.0, h.1, h.2, reply_kept until e.returned (λ r. r.reply ≡ h.1) h.3, f)
     go false f = tt
 
--- if the calls have a valid order, a prefix has one
-pub prefix_valid : (kind : Kind) (calls : List Call) (until : ℕ) (order : List ℤ)
-    → All (λ e. (r : Return) → e.returned ≡ Some r → e.number < r.at) calls → IsValidOrder kind calls order
-    → (part : List ℤ) × IsValidOrder kind (calls_before until calls) part
-prefix_valid kind calls until order ends v =
-    let number : Call → ℤ = λ e. pos e.number in
-    let cut : Call → Call = call_before until in
-    let p : Call → Bool = early until in
-    let begun : Call → Bool = λ e. nat_lt e.number until in
-    let front : List Call = up_to p v.entries in
-    let low : (e : Call) → In e front → begun e ≡ true = λ e i.
-    let far = reach (λ x y. ReturnsBefore y x → ⊥) p v.entries e (in_time_order v) i in
-    let ret = returned_early until far.0.returned far.2 in
-    true_lt e.number until (elim far.3 [
-      | inl q ↦
-          let l = all_at (λ e. (r : Return) → e.returned ≡ Some r → e.number < r.at) calls ends far.0
-          (in_calls v far.0 far.1) ret.0 ret.1 in
-          subst (λ (z : Call). z.number < until) (sym q) (between far.0.number ret.0.at until l ret.2)
-      | inr q ↦ late ret.0.at e.number until ret.2 (λ l. q (ret.0, ret.1, l))
-    ]) in
-    let apart = pairs_up_to (λ x y. number x ≢ number y) p v.entries (named_apart v) in (
-      map number (map cut front),
-      record {
-        entries = map cut front;
-        numbers = refl;
-        known = all_from_in (Contains (calls_before until calls)) (map cut front) (λ e i.
-            let m = in_map cut e front i in
-            contains_from_in (calls_before until calls) e
-            (subst (λ (z : Call). In z (calls_before until calls)) (sym m.2)
-            (in_map_from cut m.0 (filter begun calls)
-            (in_filter_from begun m.0 calls (in_calls v m.0 (in_up_to p v.entries m.0 m.1)) (low m.0 m.1)))));
-        once = all_from_pairs (λ x y. x ≢ y) (map number (map cut front))
-            (pairs_map (λ x y. x ≢ y) number (map cut front) (pairs_map (λ x y. number x ≢ number y) cut front apart));
-        whole = all_from_in (λ e. IsSome e.returned → Contains (map cut front) e) (calls_before until calls) (λ e i so.
-            let m = in_map cut e (filter begun calls) i in
-            let is_early : p m.0 ≡ true = sym (ap (λ (z : Call). is_some z.returned) m.2) ∙ so in
-            let ret = returned_early until m.0.returned is_early in
-            let here = in_entries v m.0 (in_filter begun m.0 calls m.1) (ap is_some ret.1) in
-            contains_from_in (map cut front) e
-            (subst (λ (z : Call). In z (map cut front)) (sym m.2)
-            (in_map_from cut m.0 front (whole_up_to p v.entries m.0 here is_early))));
-        in_order = all_from_pairs (λ x y. ReturnsBefore y x → ⊥) (map cut front)
-            (pairs_map (λ x y. ReturnsBefore y x → ⊥) cut front
-            (pairs_weaker (λ x y. ReturnsBefore y x → ⊥) (λ x y. ReturnsBefore (cut y) (cut x) → ⊥) front
-            (λ x y i j h b. h (b.0, return_kept until y.returned b.0 b.1, b.2))
-            (pairs_up_to (λ x y. ReturnsBefore y x → ⊥) p v.entries (in_time_order v))));
-        replies = replies_up_to until p v.entries (empty kind) v.replies;
-      },
-    )
-  where
-    between : (a b c : ℕ) → a < b → b < c → a < c
-    between a b c l m = omega arith
+-- ---- the order of a prefix
 
-    late : (at number until : ℕ) → at < until → (at < number → ⊥) → number < until
-    late at number until l h = grind arith
+between : (a b c : ℕ) → a < b → b < c → a < c
+between a b c l m = omega arith
+
+begins_before : (at number until : ℕ) → at < until → (at < number → ⊥) → number < until
+begins_before at number until l h = grind arith
+
+-- The calls have a valid order, which goes up to the last call that returned before this number.
+module _ (kind : Kind) (calls : List Call) (until : ℕ) (order : List ℤ)
+    (ends : All (λ e. (r : Return) → e.returned ≡ Some r → e.number < r.at) calls)
+    (valid : IsValidOrder kind calls order) where
+  abbrev cut : Call → Call
+  cut e = call_before until e
+
+  abbrev is_begun : Call → Bool
+  is_begun e = nat_lt e.number until
+
+  -- the order up to the last call that returned before the number
+  abbrev front : List Call
+  front = up_to (early until) valid.entries
+
+  -- each call of the front was invoked before the number
+  front_is_begun : (e : Call) → In e front → is_begun e ≡ true
+  front_is_begun e i =
+      let far = reach (λ x y. ReturnsBefore y x → ⊥) (early until) valid.entries e (in_time_order valid) i in
+      let ret = returned_early until far.0.returned far.2 in
+      true_lt e.number until (elim far.3 [
+        | inl q ↦
+            let l = all_at (λ e. (r : Return) → e.returned ≡ Some r → e.number < r.at) calls ends far.0
+            (in_calls valid far.0 far.1) ret.0 ret.1 in
+            subst (λ (z : Call). z.number < until) (sym q) (between far.0.number ret.0.at until l ret.2)
+        | inr q ↦ begins_before ret.0.at e.number until ret.2 (λ l. q (ret.0, ret.1, l))
+      ])
+
+  front_known : (e : Call) → In e (map cut front) → In e (calls_before until calls)
+  front_known e i =
+      let m = in_map cut e front i in
+      subst (λ (z : Call). In z (calls_before until calls)) (sym m.2)
+      (in_map_from cut m.0 (filter is_begun calls)
+      (in_filter_from is_begun m.0 calls (in_calls valid m.0 (in_up_to (early until) valid.entries m.0 m.1))
+      (front_is_begun m.0 m.1)))
+
+  -- each call of the prefix that returned is in the front
+  returned_in_front : (e : Call) → In e (calls_before until calls) → IsSome e.returned → In e (map cut front)
+  returned_in_front e i so =
+      let m = in_map cut e (filter is_begun calls) i in
+      let is_early : early until m.0 ≡ true = sym (ap (λ (z : Call). is_some z.returned) m.2) ∙ so in
+      let ret = returned_early until m.0.returned is_early in
+      let here = in_entries valid m.0 (in_filter is_begun m.0 calls m.1) (ap is_some ret.1) in
+      subst (λ (z : Call). In z (map cut front)) (sym m.2)
+      (in_map_from cut m.0 front (whole_up_to (early until) valid.entries m.0 here is_early))
+
+  front_apart : Pairs (λ x y. ◌≢◌ {A = ℤ} (pos x.number) (pos y.number)) front
+  front_apart =
+      pairs_up_to (λ x y. ◌≢◌ {A = ℤ} (pos x.number) (pos y.number)) (early until) valid.entries (named_apart valid)
+
+  -- no call of the front returned before an earlier one was invoked
+  front_on_time : Pairs (λ x y. ReturnsBefore y x → ⊥) (map cut front)
+  front_on_time = pairs_map (λ x y. ReturnsBefore y x → ⊥) cut front
+      (pairs_weaker (λ x y. ReturnsBefore y x → ⊥) (λ x y. ReturnsBefore (cut y) (cut x) → ⊥) front
+      (λ x y i j h b. h (b.0, return_kept until y.returned b.0 b.1, b.2))
+      (pairs_up_to (λ x y. ReturnsBefore y x → ⊥) (early until) valid.entries (in_time_order valid)))
+
+  -- if the calls have a valid order, a prefix has one
+  pub prefix_valid : (part : List ℤ) × IsValidOrder kind (calls_before until calls) part
+  prefix_valid =
+      let number : Call → ℤ = λ e. pos e.number in (
+        map number (map cut front),
+        record {
+          entries = map cut front;
+          numbers = refl;
+          known = all_from_in (Contains (calls_before until calls)) (map cut front)
+              (λ e i. contains_from_in (calls_before until calls) e (front_known e i));
+          once = all_from_pairs (λ x y. x ≢ y) (map number (map cut front))
+              (pairs_map (λ x y. x ≢ y) number (map cut front)
+              (pairs_map (λ x y. number x ≢ number y) cut front front_apart));
+          whole = all_from_in (λ e. IsSome e.returned → Contains (map cut front) e) (calls_before until calls)
+              (λ e i so. contains_from_in (map cut front) e (returned_in_front e i so));
+          in_order = all_from_pairs (λ x y. ReturnsBefore y x → ⊥) (map cut front) front_on_time;
+          replies = replies_up_to until (early until) valid.entries (empty kind) valid.replies;
+        },
+      )

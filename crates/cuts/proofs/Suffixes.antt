@@ -25,7 +25,7 @@ use Rattle.cuts.proofs.Simulation.{pick, in_pick, pairs_pick, Replied, Choice, c
 use Rattle.cuts.proofs.Contents.{IsShadow}
 use Rattle.cuts.proofs.Fitting.{MayStep, all_step, closed_simulates}
 use Rattle.cuts.proofs.Freshness.{on_key, is_free, free_keeps, all_fit, Begins, tells}
-use Rattle.cuts.proofs.Sequences.{in_filter_map, in_filter_map_from, pairs_at, pairs_filter_map}
+use Rattle.cuts.proofs.Sequences.{in_filter_map, in_filter_map_from, PairsAt, pairs_at, pairs_filter_map}
 use Rattle.cuts.proofs.Overlaps.{later_replies, IsCutOf, cut_of, in_time_cut, front_call, IsFront}
 use Rattle.cuts.proofs.Overlaps.{front_facts, late_facts, first_write, IsWrite, front_replies}
 
@@ -180,151 +180,242 @@ chosen kind key from at first front es after on writes written begins along = go
           whole = λ x i so. m.whole x i refl so;
         }
 
--- the suffix that begins with a call has a valid order if all calls have one
-suffix_valid : (kind : Kind) (calls : List Call) (call : Call) (response : Return) (first : Option (AnyOp × AnyReply))
-    (order : List ℤ) → Contains calls call
-    → All (λ f. kind_of f.op ≡ kind) calls → call.returned ≡ Some response → leaves call.op response.reply ≡ Some first
-    → All (λ f. key_of f.op ≡ key_of call.op) calls → IsValidOrder kind calls order
-    → (part : List ℤ) × IsValidOrder kind (calls_from call.number response.at first calls) part
-suffix_valid kind calls call response first order stands kinds returned leaves_first one_key valid =
-    let number : Call → ℤ = λ x. pos x.number in
-    let from : ℕ = call.number in
-    let at : ℕ = response.at in
-    let in_calls_of = in_from_contains calls call stands in
-    let of_kind : (x : Call) → In x calls → kind_of x.op ≡ kind =
-    λ x i. all_at (λ f. kind_of f.op ≡ kind) calls kinds x i in
-    let s = in_split call valid.entries (in_entries valid call in_calls_of (ap is_some returned)) in
-    let earlier : List Call = s.0 in
-    let later : List Call = s.1 in
-    let b = replies_after earlier call later (empty kind) (subst (RepliesAlong (empty kind)) s.2 valid.replies) in
-    let same = subst (λ (o : Option Return). IfSome o (λ r. r.reply ≡ b.reply)) returned b.agrees in
-    let told = subst (λ (o : Option (Content × AnyReply)). IfSome o
-    (λ p. IfSome (leaves call.op p.1) (λ f. Begins (on_key (key_of call.op)) (kind_of call.op) f p.0))) b.does
-    (tells b.before call.op) in
-    let begins = subst (λ k. Begins (on_key (key_of call.op)) k first b.after) (of_kind call in_calls_of)
-    (subst (λ (o : Option (Option (AnyOp × AnyReply))). IfSome o
-    (λ f. Begins (on_key (key_of call.op)) (kind_of call.op) f b.after))
-    (ap (leaves call.op) (sym same) ∙ leaves_first) told) in
-    let cut : Call → Call = call_later first at in
-    let es : List Call = map cut later in
-    let front : List Call = filter_map (front_call from at first) earlier in
-    let in_later : (y : Call) → In y later → In y valid.entries =
-    λ y i. subst (In y) (sym s.2) (in_right y earlier (call ∷ later) (inr i)) in
-    let in_earlier : (y : Call) → In y earlier → In y valid.entries =
-    λ y i. subst (In y) (sym s.2) (in_left y earlier (call ∷ later) i) in
-    let m = chosen kind (key_of call.op) from at first front es b.after
-    (λ x i.
-    let y = in_map cut x later i in
-    ap (λ (z : Call). key_of z.op) y.2 ∙ (cut_of first at y.0).key
-    ∙ all_at (λ f. key_of f.op ≡ key_of call.op) calls one_key y.0 (in_calls valid y.0 (in_later y.0 y.1)))
-    (λ x i.
-    let y = in_filter_map (front_call from at first) x earlier i in
-    let f = front_facts from at first y.0 x y.2 in
-    let kinds_are = sym (of_kind y.0 (in_calls valid y.0 (in_earlier y.0 y.1))) ∙ f.kind in
-    (f.began, (y.0.number, f.when, f.value, f.write), kinds_are))
-    (λ p q k. first_write call.op response.reply p (leaves_first ∙ ap (λ (z : Option (AnyOp × AnyReply)). Some z) q)
-    (of_kind call in_calls_of ∙ k))
-    begins (later_replies first at later b.after b.replies) in
-    let j = m.joined in
-    let picked : List Call = pick m.flags es in
-    let entries : List Call = m.entries in
-    let apart = pairs_at (λ x y. x.number ≢ y.number) earlier call later
-    (subst (Pairs (λ x y. x.number ≢ y.number)) s.2 (numbers_apart valid)) in
-    let in_time = pairs_at (λ x y. ReturnsBefore y x → ⊥) earlier call later
-    (subst (Pairs (λ x y. ReturnsBefore y x → ⊥)) s.2 (in_time_order valid)) in
-    let from_later : (x : Call) → In x picked → (y : Call) × In y later × IsCutOf x y × (x ≡ cut y) = λ x i.
-    let y = in_map cut x later (in_pick m.flags es x i) in
-    (y.0, y.1, subst (λ (z : Call). IsCutOf z y.0) (sym y.2) (cut_of first at y.0), y.2) in
-    let from_front : (x : Call) → In x front → (y : Call) × In y earlier × IsCutOf x y × IsFront from at first y x =
-    λ x i.
-    let y = in_filter_map (front_call from at first) x earlier i in
-    (y.0, y.1, front_cut from at first y.0 x y.2, front_facts from at first y.0 x y.2) in (
-      map number entries,
-      record {
-        entries = entries;
-        numbers = refl;
-        known = all_from_in (Contains (calls_from from at first calls)) entries
-            (λ x i. contains_from_in (calls_from from at first calls) x (elim (j.from_where x i) [
-              | inl q ↦ in_filter_map_from (call_from from at first) call x calls in_calls_of
-                  (call_from_own from at first call q.0 refl q.1 ∙ ap (λ (z : Call). Some z) (sym q.2))
-              | inr k ↦ elim k [
-                | inl w ↦
-                    let y = from_front x w in
-                    in_filter_map_from (call_from from at first) y.0 x calls (in_calls valid y.0 (in_earlier y.0 y.1))
-                    (call_from_other from at first y.0 (apart.0 y.0 y.1) y.3.not_over
-                    ∙ ap (λ (z : Call). Some z) y.3.is_later)
-                | inr w ↦
-                    let y = from_later x w in
-                    in_filter_map_from (call_from from at first) y.0 x calls (in_calls valid y.0 (in_later y.0 y.1))
-                    (call_from_other from at first y.0 (λ q. apart.1 y.0 y.1 (sym q))
-                    (not_ended from y.0.returned (λ t q l. in_time.1 y.0 y.1 (t, q, l)))
-                    ∙ ap (λ (z : Call). Some z) (sym y.3))
-              ]
-            ]));
-        once = all_from_pairs (λ x y. x ≢ y) (map number entries)
-            (pairs_map (λ x y. x ≢ y) number entries
-            (pairs_weaker (λ x y. x.number ≢ y.number) (λ x y. number x ≢ number y) entries
-            (λ x y i k ne q. ne (same_pos x.number y.number q))
-            (j.pairs
-            (λ x i q. let y = from_front x i in apart.0 y.0 y.1 (sym y.2.number ∙ q))
-            (λ x i q. let y = from_later x i in apart.1 y.0 y.1 (sym (sym y.2.number ∙ q)))
-            (λ x z i k q.
-            let y = from_front x i in
-            let w = from_later z k in
-            apart.4 y.0 w.0 y.1 w.1 (sym y.2.number ∙ q ∙ w.2.number))
-            (pairs_filter_map (λ x y. x.number ≢ y.number) (λ x y. x.number ≢ y.number)
-            (front_call from at first) earlier
-            (λ y w x z i k ne f g q.
-            ne (sym (front_cut from at first y x f).number ∙ q ∙ (front_cut from at first w z g).number)) apart.3)
-            (pairs_pick (λ x y. x.number ≢ y.number) m.flags es
-            (pairs_map (λ x y. x.number ≢ y.number) cut later
-            (pairs_weaker (λ x y. x.number ≢ y.number) (λ x y. (cut x).number ≢ (cut y).number) later
-            (λ x y i k ne q. ne (sym (cut_of first at x).number ∙ q ∙ (cut_of first at y).number)) apart.2))))));
-        whole = all_from_in (λ x. IsSome x.returned → Contains entries x) (calls_from from at first calls) (λ x i so.
-            let y = in_filter_map (call_from from at first) x calls i in
-            contains_from_in entries x (elim (call_from_cases from at first y.0 x y.2) [
-              | inl q ↦ subst (λ (z : Call). In z entries) (sym q.2) (j.own q.0 q.1)
-              | inr q ↦
-                  let l = late_facts from at first y.0 (subst (λ (z : Call). IsSome z.returned) q.1 so) in
-                  let there = subst (In y.0) s.2 (in_entries valid y.0 y.1 (ap is_some l.was)) in
-                  elim (in_append y.0 earlier (call ∷ later) there) [
-                    | inl k ↦ elim l.either [
-                      | inl w ↦ absurd (in_time.0 y.0 k (response, returned, w))
-                      | inr f ↦ j.fronts x (subst (λ (z : Call). In z front) (sym q.1)
-                          (in_filter_map_from (front_call from at first) y.0 (cut y.0) earlier k (f q.2)))
-                    ]
-                    | inr k ↦ elim k [
-                      | inl w ↦ absurd (q.0 (ap (λ (z : Call). z.number) w))
-                      | inr w ↦ j.others x (m.whole x
-                          (subst (λ (z : Call). In z es) (sym q.1) (in_map_from cut y.0 later w)) so)
-                    ]
-                  ]
-            ]));
-        in_order = all_from_pairs (λ x y. ReturnsBefore y x → ⊥) entries (j.in_time
-            (λ x i l.
-            let y = from_front x i in
-            in_time.0 y.0 y.1 (response, returned, subst (λ n. at < n) y.2.number l))
-            (λ x t i q l.
-            let y = from_later x i in
-            let u = y.2.returned t q in
-            in_time.1 y.0 y.1 (u.0, u.1, subst (λ n. n < from) (sym u.2) l))
-            (λ x z i k.
-            let y = from_front x i in
-            let w = from_later z k in
-            in_time_cut x z y.0 w.0 y.2 w.2 (in_time.4 y.0 w.0 y.1 w.1))
-            (pairs_filter_map (λ x y. ReturnsBefore y x → ⊥) (λ x y. ReturnsBefore y x → ⊥)
-            (front_call from at first) earlier
-            (λ y w x z i k h f g. in_time_cut x z y w (front_cut from at first y x f)
-            (front_cut from at first w z g) h) in_time.3)
-            (pairs_pick (λ x y. ReturnsBefore y x → ⊥) m.flags es
-            (pairs_map (λ x y. ReturnsBefore y x → ⊥) cut later
-            (pairs_weaker (λ x y. ReturnsBefore y x → ⊥) (λ x y. ReturnsBefore (cut y) (cut x) → ⊥) later
-            (λ x y i k h. in_time_cut (cut x) (cut y) x y (cut_of first at x) (cut_of first at y) h) in_time.2))));
-        replies = j.replies;
-      },
-    )
+-- All calls have a valid order, and from one of them on it is known what the object contains.
+module _ (kind : Kind) (calls : List Call) (call : Call) (response : Return) (first : Option (AnyOp × AnyReply))
+    (order : List ℤ) (stands : Contains calls call) (kinds : All (λ f. kind_of f.op ≡ kind) calls)
+    (returned : call.returned ≡ Some response) (leaves_first : leaves call.op response.reply ≡ Some first)
+    (one_key : All (λ f. key_of f.op ≡ key_of call.op) calls) (valid : IsValidOrder kind calls order) where
+  abbrev from : ℕ
+  from = call.number
 
--- the same, by the number of the first call
+  abbrev at : ℕ
+  at = response.at
+
+  abbrev suffix : List Call
+  suffix = calls_from from at first calls
+
+  call_in : In call calls
+  call_in = in_from_contains calls call stands
+
+  of_kind : (x : Call) → In x calls → kind_of x.op ≡ kind
+  of_kind x i = all_at (λ f. kind_of f.op ≡ kind) calls kinds x i
+
+  -- ---- the order, split at the call
+
+  split : (earlier : List Call) × (later : List Call) × (valid.entries ≡ earlier ++ call ∷ later)
+  split = in_split call valid.entries (in_entries valid call call_in (ap is_some returned))
+
+  abbrev earlier : List Call
+  earlier = split.0
+
+  abbrev later : List Call
+  later = split.1
+
+  in_earlier : (y : Call) → In y earlier → In y calls
+  in_earlier y i = in_calls valid y (subst (In y) (sym split.2) (in_left y earlier (call ∷ later) i))
+
+  in_later : (y : Call) → In y later → In y calls
+  in_later y i = in_calls valid y (subst (In y) (sym split.2) (in_right y earlier (call ∷ later) (inr i)))
+
+  -- no two of the order have one number
+  apart : PairsAt (λ x y. x.number ≢ y.number) earlier call later
+  apart = pairs_at (λ x y. x.number ≢ y.number) earlier call later
+      (subst (Pairs (λ x y. x.number ≢ y.number)) split.2 (numbers_apart valid))
+
+  -- no call of the order returned before an earlier one was invoked
+  on_time : PairsAt (λ x y. ReturnsBefore y x → ⊥) earlier call later
+  on_time = pairs_at (λ x y. ReturnsBefore y x → ⊥) earlier call later
+      (subst (Pairs (λ x y. ReturnsBefore y x → ⊥)) split.2 (in_time_order valid))
+
+  -- what the call does, and the later ones after it
+  step : StepThenReplies call later
+  step = replies_after earlier call later (empty kind) (subst (RepliesAlong (empty kind)) split.2 valid.replies)
+
+  -- the suffix may begin with what the call leaves
+  begins : Begins (on_key (key_of call.op)) kind first step.after
+  begins =
+      let same : response.reply ≡ step.reply =
+      subst (λ (o : Option Return). IfSome o (λ r. r.reply ≡ step.reply)) returned step.agrees in
+      let told = subst (λ (o : Option (Content × AnyReply)). IfSome o
+      (λ p. IfSome (leaves call.op p.1) (λ f. Begins (on_key (key_of call.op)) (kind_of call.op) f p.0))) step.does
+      (tells step.before call.op) in
+      subst (λ k. Begins (on_key (key_of call.op)) k first step.after) (of_kind call call_in)
+      (subst (λ (o : Option (Option (AnyOp × AnyReply))). IfSome o
+      (λ f. Begins (on_key (key_of call.op)) (kind_of call.op) f step.after))
+      (ap (leaves call.op) (sym same) ∙ leaves_first) told)
+
+  -- ---- the calls of the suffix that are not its first
+
+  abbrev cut : Call → Call
+  cut y = call_later first at y
+
+  -- the writes that earlier calls become
+  abbrev front : List Call
+  front = filter_map (front_call from at first) earlier
+
+  from_front : (x : Call) → In x front → (y : Call) × In y earlier × IsCutOf x y × IsFront from at first y x
+  from_front x i =
+      let y = in_filter_map (front_call from at first) x earlier i in
+      (y.0, y.1, front_cut from at first y.0 x y.2, front_facts from at first y.0 x y.2)
+
+  from_later : (x : Call) → In x (map cut later) → (y : Call) × In y later × IsCutOf x y × (x ≡ cut y)
+  from_later x i =
+      let y = in_map cut x later i in
+      (y.0, y.1, subst (λ (z : Call). IsCutOf z y.0) (sym y.2) (cut_of first at y.0), y.2)
+
+  -- some of the later calls are a suffix
+  choice : Chosen kind from at first front (map cut later)
+  choice = chosen kind (key_of call.op) from at first front (map cut later) step.after
+      (λ x i.
+      let y = from_later x i in
+      y.2.key ∙ all_at (λ f. key_of f.op ≡ key_of call.op) calls one_key y.0 (in_later y.0 y.1))
+      (λ x i.
+      let y = from_front x i in
+      let f = y.3 in
+      (f.began, (y.0.number, f.when, f.value, f.write), sym (of_kind y.0 (in_earlier y.0 y.1)) ∙ f.kind))
+      (λ p q k. first_write call.op response.reply p (leaves_first ∙ ap (λ (z : Option (AnyOp × AnyReply)). Some z) q)
+      (of_kind call call_in ∙ k))
+      begins (later_replies first at later step.after step.replies)
+
+  -- the later calls that are in the suffix's order
+  abbrev picked : List Call
+  picked = pick choice.flags (map cut later)
+
+  from_picked : (x : Call) → In x picked → (y : Call) × In y later × IsCutOf x y × (x ≡ cut y)
+  from_picked x i = from_later x (in_pick choice.flags (map cut later) x i)
+
+  -- ---- which calls are in the suffix's order
+
+  -- the first call of the suffix is one of its calls
+  own_known : (p : AnyOp × AnyReply) → first ≡ Some p → In (returned_call from at p) suffix
+  own_known p is = in_filter_map_from (call_from from at first) call (returned_call from at p) calls call_in
+      (call_from_own from at first call p refl is)
+
+  front_known : (x : Call) → In x front → In x suffix
+  front_known x i =
+      let y = from_front x i in
+      in_filter_map_from (call_from from at first) y.0 x calls (in_earlier y.0 y.1)
+      (call_from_other from at first y.0 (apart.before y.0 y.1) y.3.not_over
+      ∙ ap (λ (z : Call). Some z) y.3.is_later)
+
+  picked_known : (x : Call) → In x picked → In x suffix
+  picked_known x i =
+      let y = from_picked x i in
+      in_filter_map_from (call_from from at first) y.0 x calls (in_later y.0 y.1)
+      (call_from_other from at first y.0 (λ q. apart.after y.0 y.1 (sym q))
+      (not_ended from y.0.returned (λ t q l. on_time.after y.0 y.1 (t, q, l)))
+      ∙ ap (λ (z : Call). Some z) (sym y.3))
+
+  -- each call in the order is one of the suffix
+  entry_known : (x : Call) → In x choice.entries → In x suffix
+  entry_known x i = elim (choice.joined.from_where x i) [
+    | inl q ↦ subst (λ (z : Call). In z suffix) (sym q.2) (own_known q.0 q.1)
+    | inr k ↦ elim k [ inl w ↦ front_known x w | inr w ↦ picked_known x w ]
+  ]
+
+  -- a cut of another call that returned, and had not before the first was invoked, is in the order
+  cut_is_entry : (y : Call) → In y calls → y.number ≢ from → ended_before from y.returned ≡ false
+      → IsSome (cut y).returned → In (cut y) choice.entries
+  cut_is_entry y i other not_over so =
+      let late = late_facts from at first y so in
+      let there = subst (In y) split.2 (in_entries valid y i (ap is_some late.was)) in
+      elim (in_append y earlier (call ∷ later) there) [
+        | inl k ↦ elim late.either [
+          | inl w ↦ absurd (on_time.before y k (response, returned, w))
+          | inr f ↦ choice.joined.fronts (cut y)
+              (in_filter_map_from (front_call from at first) y (cut y) earlier k (f not_over))
+        ]
+        | inr k ↦ elim k [
+          | inl w ↦ absurd (other (ap (λ (z : Call). z.number) w))
+          | inr w ↦ choice.joined.others (cut y) (choice.whole (cut y) (in_map_from cut y later w) so)
+        ]
+      ]
+
+  -- each call of the suffix that returned is in the order
+  returned_is_entry : (x : Call) → In x suffix → IsSome x.returned → In x choice.entries
+  returned_is_entry x i so =
+      let y = in_filter_map (call_from from at first) x calls i in
+      elim (call_from_cases from at first y.0 x y.2) [
+        | inl q ↦ subst (λ (z : Call). In z choice.entries) (sym q.2) (choice.joined.own q.0 q.1)
+        | inr q ↦ subst (λ (z : Call). In z choice.entries) (sym q.1)
+            (cut_is_entry y.0 y.1 q.0 q.2 (subst (λ (z : Call). IsSome z.returned) q.1 so))
+      ]
+
+  -- ---- no number is twice in the suffix's order
+
+  front_numbers : Pairs (λ x y. x.number ≢ y.number) front
+  front_numbers = pairs_filter_map (λ x y. x.number ≢ y.number) (λ x y. x.number ≢ y.number)
+      (front_call from at first) earlier
+      (λ y w x z i k ne f g q.
+      ne (sym (front_cut from at first y x f).number ∙ q ∙ (front_cut from at first w z g).number))
+      apart.among_earlier
+
+  picked_numbers : Pairs (λ x y. x.number ≢ y.number) picked
+  picked_numbers = pairs_pick (λ x y. x.number ≢ y.number) choice.flags (map cut later)
+      (pairs_map (λ x y. x.number ≢ y.number) cut later
+      (pairs_weaker (λ x y. x.number ≢ y.number) (λ x y. (cut x).number ≢ (cut y).number) later
+      (λ x y i k ne q. ne (sym (cut_of first at x).number ∙ q ∙ (cut_of first at y).number)) apart.among_later))
+
+  entry_numbers : Pairs (λ x y. x.number ≢ y.number) choice.entries
+  entry_numbers = choice.joined.pairs
+      (λ x i q. let y = from_front x i in apart.before y.0 y.1 (sym y.2.number ∙ q))
+      (λ x i q. let y = from_picked x i in apart.after y.0 y.1 (sym (sym y.2.number ∙ q)))
+      (λ x z i k q.
+      let y = from_front x i in
+      let w = from_picked z k in
+      apart.across y.0 w.0 y.1 w.1 (sym y.2.number ∙ q ∙ w.2.number))
+      front_numbers picked_numbers
+
+  -- ---- in the suffix's order no call returned before an earlier one was invoked
+
+  front_on_time : Pairs (λ x y. ReturnsBefore y x → ⊥) front
+  front_on_time = pairs_filter_map (λ x y. ReturnsBefore y x → ⊥) (λ x y. ReturnsBefore y x → ⊥)
+      (front_call from at first) earlier
+      (λ y w x z i k h f g. in_time_cut x z y w (front_cut from at first y x f) (front_cut from at first w z g) h)
+      on_time.among_earlier
+
+  picked_on_time : Pairs (λ x y. ReturnsBefore y x → ⊥) picked
+  picked_on_time = pairs_pick (λ x y. ReturnsBefore y x → ⊥) choice.flags (map cut later)
+      (pairs_map (λ x y. ReturnsBefore y x → ⊥) cut later
+      (pairs_weaker (λ x y. ReturnsBefore y x → ⊥) (λ x y. ReturnsBefore (cut y) (cut x) → ⊥) later
+      (λ x y i k h. in_time_cut (cut x) (cut y) x y (cut_of first at x) (cut_of first at y) h) on_time.among_later))
+
+  entries_on_time : Pairs (λ x y. ReturnsBefore y x → ⊥) choice.entries
+  entries_on_time = choice.joined.in_time
+      (λ x i l.
+      let y = from_front x i in
+      on_time.before y.0 y.1 (response, returned, subst (λ n. at < n) y.2.number l))
+      (λ x t i q l.
+      let y = from_picked x i in
+      let u = y.2.returned t q in
+      on_time.after y.0 y.1 (u.0, u.1, subst (λ n. n < from) (sym u.2) l))
+      (λ x z i k.
+      let y = from_front x i in
+      let w = from_picked z k in
+      in_time_cut x z y.0 w.0 y.2 w.2 (on_time.across y.0 w.0 y.1 w.1))
+      front_on_time picked_on_time
+
+  -- the suffix that begins with the call has a valid order
+  suffix_valid : (part : List ℤ) × IsValidOrder kind (calls_from call.number response.at first calls) part
+  suffix_valid =
+      let number : Call → ℤ = λ x. pos x.number in (
+        map number choice.entries,
+        record {
+          entries = choice.entries;
+          numbers = refl;
+          known = all_from_in (Contains suffix) choice.entries (λ x i. contains_from_in suffix x (entry_known x i));
+          once = all_from_pairs (λ x y. x ≢ y) (map number choice.entries)
+              (pairs_map (λ x y. x ≢ y) number choice.entries
+              (pairs_weaker (λ x y. x.number ≢ y.number) (λ x y. number x ≢ number y) choice.entries
+              (λ x y i k ne q. ne (same_pos x.number y.number q)) entry_numbers));
+          whole = all_from_in (λ x. IsSome x.returned → Contains choice.entries x) suffix
+              (λ x i so. contains_from_in choice.entries x (returned_is_entry x i so));
+          in_order = all_from_pairs (λ x y. ReturnsBefore y x → ⊥) choice.entries entries_on_time;
+          replies = choice.joined.replies;
+        },
+      )
+
+-- if all calls have a valid order, the suffix that begins with the call of this number has one
 pub start_valid : (kind : Kind) (calls : List Call) (from at : ℕ) (first : Option (AnyOp × AnyReply)) (order : List ℤ)
     → All (λ e. kind_of e.op ≡ kind) calls → IsStart calls from at first → IsValidOrder kind calls order
     → (part : List ℤ) × IsValidOrder kind (calls_from from at first calls) part

@@ -23,7 +23,8 @@ abbrev pub found_by : AnyOp → Option Return → Option (ℕ × Option ℤ)
 found_by op None = None
 found_by op (Some r) = if is_removal op then found_in r.at r.reply else None
 
--- the number of the first call that puts in the value; 0: there is none
+-- The number of the first call that puts in the value; 0: there is none. Then no put counts, since
+-- no call returned before the number 0.
 abbrev pub first_put : ℤ → List Call → ℕ
 first_put v calls =
     option_map_or (λ (e : Call). e.number) (find (λ e. puts_in (int_eq v) e.op) calls) 0
@@ -37,9 +38,9 @@ ahead_before (Some b) op number calls =
 
 -- If a removal found a value in a stack, each put of this value returned before the number from
 -- which on puts count.
-abbrev pub is_settled : Option ℤ → AnyOp → ℕ → List Call → Bool
-is_settled None op from calls = true
-is_settled (Some b) op from calls =
+abbrev pub are_settled : Option ℤ → AnyOp → ℕ → List Call → Bool
+are_settled None op from calls = true
+are_settled (Some b) op from calls =
     if takes_last op
     then list_all (λ e. not (puts_in (int_eq b) e.op) || ended_before from e.returned) calls
     else true
@@ -71,7 +72,7 @@ pub record IsBlocked (number from : ℕ) (calls : List Call) : Type 0 where
   pub at : ℕ
   pub found : Option ℤ
   pub told : found_by removal.op removal.returned ≡ Some (at, found)
-  pub settled : is_settled found removal.op from calls ≡ true
+  pub settled : are_settled found removal.op from calls ≡ true
   pub more : count_by (may_precede (is_value_ahead found removal.op) number at) calls
       < count_by (is_put_ahead (is_value_ahead found removal.op) from
       (ahead_before found removal.op number calls)) calls

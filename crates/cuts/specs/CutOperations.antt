@@ -207,9 +207,9 @@ op_is_settled b from o = not (is_put (int_eq b) o.op o.«end») || is_over from 
 
 -- If a removal found a value in a stack: whether each put of this value returned before this
 -- number. Otherwise it is true.
-abbrev pub are_settled : Option ℤ → AnyOp → ℕ → List Operation → Bool
-are_settled None op from ops = true
-are_settled (Some b) op from ops =
+abbrev pub op_are_settled : Option ℤ → AnyOp → ℕ → List Operation → Bool
+op_are_settled None op from ops = true
+op_are_settled (Some b) op from ops =
     if takes_last op then list_all (op_is_settled b from) ops else true
 
 -- whether an operation took out one of these values, or is a pending removal

@@ -10,10 +10,9 @@ ghost use Rattle.model.specs.Orders.{HasNoValidOrder};
 ghost use Rattle.events.specs.Operations.{calls_of};
 ghost use Rattle.cuts.specs.Ahead.{IsBlocked};
 ghost use Rattle.cuts.specs.Kinds.Containers as containers;
-ghost use Rattle.cuts.specs.CutOperations as cut_operations;
 ghost use Rattle.cuts.specs.CutOperations.{op_ahead_before, op_first_put, op_found, is_put};
-ghost use Rattle.cuts.specs.CutOperations.{op_is_put_ahead, op_is_settled, IsRemoval};
-ghost use Rattle.cuts.specs.CutOperations.{op_may_precede, op_may_take};
+ghost use Rattle.cuts.specs.CutOperations.{op_are_settled, op_is_put_ahead, op_is_settled};
+ghost use Rattle.cuts.specs.CutOperations.{op_may_precede, op_may_take, IsRemoval};
 
 use crate::kinds::containers::{is_removal, is_value_ahead, put_value, takes_first, takes_last};
 use crate::suffix::{is_before, operation_at};
@@ -97,7 +96,8 @@ fn first_put_of(operations: &[Operation], value: i64) -> Option<Operation>
     None
 }
 
-/// Its number; 0: there is none.
+/// Its number; 0: there is none. Then no put counts as ahead: each must have returned before this
+/// number, and no operation returned before the number 0.
 fn first_put(operations: &[Operation], value: i64) -> u32
     ensures { result ≡ op_first_put value operations.now }
 {
@@ -127,8 +127,8 @@ fn is_settled(value: i64, from: u32, operation: &Operation) -> bool
     !puts_value(value, operation) || is_before(operation.end, from)
 }
 
-/// Whether each operation failed, or puts in another value, or returned before this number.
-fn all_settled(operations: &[Operation], value: i64, from: u32) -> bool
+/// Whether each of these operations is settled, as `is_settled` says of one.
+fn are_all_settled(operations: &[Operation], value: i64, from: u32) -> bool
     ensures { result ≡ list_all (op_is_settled value from) operations.now }
 {
     operations.iter().all(|o| is_settled(value, from, o))
@@ -136,11 +136,11 @@ fn all_settled(operations: &[Operation], value: i64, from: u32) -> bool
 
 /// Whether, if the removal found a value in a stack, each put of it returned before this number.
 fn are_settled(operations: &[Operation], removal: Removal, from: u32) -> bool
-    ensures { result ≡ cut_operations.are_settled removal.found removal.op from operations.now }
+    ensures { result ≡ op_are_settled removal.found removal.op from operations.now }
 {
     match removal.found {
         None => true,
-        Some(found) if takes_last(removal.op) => all_settled(operations, found, from),
+        Some(found) if takes_last(removal.op) => are_all_settled(operations, found, from),
         Some(_) => true,
     }
 }

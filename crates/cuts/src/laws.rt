@@ -13,7 +13,7 @@ ghost use Rattle.model.specs.Orders.{Call, Return, IsValidOrder};
 ghost use Rattle.cuts.specs.declared.counting.Counted.{Counted};
 ghost use Rattle.cuts.specs.declared.cutting.Cut.{Cut};
 ghost use Rattle.cuts.specs.Absent.{IsAbsent, calls_without};
-ghost use Rattle.cuts.specs.Ahead.{ahead_before, found_by, is_put_ahead, is_settled, may_precede};
+ghost use Rattle.cuts.specs.Ahead.{ahead_before, found_by, is_put_ahead, are_settled, may_precede};
 ghost use Rattle.cuts.specs.Kinds.Containers.{is_value_ahead};
 ghost use Rattle.cuts.specs.Cells.{cell_calls, entry_calls};
 ghost use Rattle.cuts.specs.Counts.{most_before, set_since, taken_since};
@@ -84,7 +84,7 @@ pub fn ahead_is_bounded()
         → All (λ e. (r : Return) → e.returned ≡ Some r → e.number < r.at) calls
         → Contains calls removal
         → found_by removal.op removal.returned ≡ Some (at, found)
-        → is_settled found removal.op from calls ≡ true
+        → are_settled found removal.op from calls ≡ true
         → IsValidOrder kind calls order
         → count_by (is_put_ahead (is_value_ahead found removal.op) from
         (ahead_before found removal.op removal.number calls)) calls

@@ -64,9 +64,10 @@ is_of_completion h c k e l =
     let m : count (invokes p) c ≡ count (invokes p) (complete all) = ap (count (invokes p)) k.completed in
     omega (arith, a, b, d, f, g, m, l)
 
-pub as_written_lem : (objects : ℕ → Specification) (h : List Event) → IsLinearizableFor objects h
+-- what is linearizable here is linearizable as Herlihy and Wing write it
+pub is_linearizable_as_written : (objects : ℕ → Specification) (h : List Event) → IsLinearizableFor objects h
     → IsLinearizableAsWritten objects h
-as_written_lem objects h lin = record {
+is_linearizable_as_written objects h lin = record {
   completion = lin.completion;
   completes = lin.completes;
   sequence = lin.sequence;

@@ -414,9 +414,9 @@ module _ (objects : ℕ → Specification) (h : List Numbered) (hist : IsHistory
   }
 
 -- a history is linearizable if each object has a valid order, for any specifications
-pub locality_lem : (objects : ℕ → Specification) (h : List Numbered) → IsHistory h
+pub linearizable_from_orders : (objects : ℕ → Specification) (h : List Numbered) → IsHistory h
     → ((x : ℕ) → HasValidOrderOf objects h x) → IsLinearizableFor objects (events h)
-locality_lem objects h hist valid =
+linearizable_from_orders objects h hist valid =
     let each : (x : ℕ) → (es : List ProcessCall) × ValidEntries (objects x) (on x h) es =
     λ x. valid_entries (objects x) (on x h) (valid x).0
     (pairs_filter (λ a b. number_of a < number_of b) (λ e. e.object == x) (calls_in h) (rise h hist)) (valid x).1 in

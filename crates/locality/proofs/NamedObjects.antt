@@ -1,5 +1,5 @@
--- Valid orders of the objects that are called are enough (`named_objects_lem`): an object without calls has the empty
--- order, which is valid.
+-- Valid orders of the objects that are called are enough (`linearizable_from_called_objects`): an object without calls
+-- has the empty order, which is valid.
 use Rattle.std.proofs.Common.{◌≡◌, ℕ, ◌==◌, List, [], ◌∷◌, filter, All, refl, arith, inl}
 use Rattle.std.proofs.lemmas.Bool.{eqb-true}
 use Rattle.model.specs.Specification.{Specification}
@@ -8,7 +8,7 @@ use Rattle.model.specs.Linearizable.{IsLinearizableFor}
 use Rattle.model.specs.Lists.{In}
 use Rattle.model.proofs.Lists.{in_filter, in_filter_passes, all_at}
 use Rattle.locality.specs.Locality.{HasValidOrderOf}
-use Rattle.locality.proofs.Linearization.{locality_lem}
+use Rattle.locality.proofs.Linearization.{linearizable_from_orders}
 
 -- an object without calls has the empty order
 valid_nothing : (object : Specification) → IsValidOrderOf object [] []
@@ -36,7 +36,9 @@ order_of objects h x (call ∷ others) e valid =
     (all_at (λ e. HasValidOrderOf objects h e.object) (calls_in h) valid call
     (in_filter (λ e. e.object == x) call (calls_in h) among))
 
-pub named_objects_lem : (objects : ℕ → Specification) (h : List Numbered) → IsHistory h
+-- a history is linearizable if each object that it calls has a valid order
+pub linearizable_from_called_objects : (objects : ℕ → Specification) (h : List Numbered) → IsHistory h
     → All (λ e. HasValidOrderOf objects h e.object) (calls_in h) → IsLinearizableFor objects (events h)
-named_objects_lem objects h hist valid =
-    locality_lem objects h hist (λ x. order_of objects h x (filter (λ e. e.object == x) (calls_in h)) refl valid)
+linearizable_from_called_objects objects h hist valid =
+    linearizable_from_orders objects h hist
+    (λ x. order_of objects h x (filter (λ e. e.object == x) (calls_in h)) refl valid)

@@ -17,9 +17,9 @@ use Rattle.model.specs.Orders.{Numbered, events, Call, ProcessCall, calls_in, ca
 use Rattle.model.specs.Orders.{IsValidOrderOf}
 use Rattle.model.proofs.Lists.{all_at, all_from_in}
 use Rattle.locality.specs.Locality.{HasValidOrder, HasValidOrderOf}
-use Rattle.locality.proofs.Linearization.{locality_lem}
-use Rattle.locality.proofs.NamedObjects.{named_objects_lem}
-use Rattle.locality.proofs.ValidOrders.{linearizable_has_orders_lem}
+use Rattle.locality.proofs.Linearization.{linearizable_from_orders}
+use Rattle.locality.proofs.NamedObjects.{linearizable_from_called_objects}
+use Rattle.locality.proofs.ValidOrders.{each_object_has_an_order}
 
 -- what an object of this kind contains, as one of all kinds
 abbrev pub among : (k : Kind) → (specification k).Content → Content
@@ -105,9 +105,9 @@ valid_alone k calls order v = record {
 }
 
 -- an order is valid for a kind's own specification exactly if it is so among the contents of all kinds
-pub one_kind_among_all_lem : (k : Kind) (calls : List Call) (order : List ℤ)
+pub valid_alone_iff_among_all : (k : Kind) (calls : List Call) (order : List ℤ)
     → (IsValidOrderOf (specification k) calls order ↔ IsValidOrderOf (any k) calls order)
-one_kind_among_all_lem k calls order = (valid_among k calls order, valid_alone k calls order)
+valid_alone_iff_among_all k calls order = (valid_among k calls order, valid_alone k calls order)
 
 order_alone : (kinds : ℕ → Kind) (h : List Numbered) (x : ℕ) → HasValidOrder kinds h x
     → HasValidOrderOf (λ y. specification (kinds y)) h x
@@ -117,12 +117,12 @@ order_alone kinds h x v = (v.0, valid_alone (kinds x) (calls_on x h) v.0 v.1)
 pub locality_of_kinds : (kinds : ℕ → Kind) (h : List Numbered) → IsHistory h → ((x : ℕ) → HasValidOrder kinds h x)
     → IsLinearizable kinds (events h)
 locality_of_kinds kinds h hist valid =
-    locality_lem (λ x. specification (kinds x)) h hist (λ x. order_alone kinds h x (valid x))
+    linearizable_from_orders (λ x. specification (kinds x)) h hist (λ x. order_alone kinds h x (valid x))
 
 -- a history is linearizable if the calls of each object that it names have a valid order
 pub named_kinds : (kinds : ℕ → Kind) (h : List Numbered) → IsHistory h
     → All (λ e. HasValidOrder kinds h e.object) (calls_in h) → IsLinearizable kinds (events h)
-named_kinds kinds h hist valid = named_objects_lem (λ x. specification (kinds x)) h hist
+named_kinds kinds h hist valid = linearizable_from_called_objects (λ x. specification (kinds x)) h hist
     (all_from_in (λ (e : ProcessCall). HasValidOrderOf (λ y. specification (kinds y)) h e.object) (calls_in h)
     (λ e i. order_alone kinds h e.object
     (all_at (λ (f : ProcessCall). HasValidOrder kinds h f.object) (calls_in h) valid e i)))
@@ -131,6 +131,6 @@ named_kinds kinds h hist valid = named_objects_lem (λ x. specification (kinds x
 pub orders_of_kinds : (kinds : ℕ → Kind) (h : List Numbered) → IsHistory h → IsLinearizable kinds (events h) → (x : ℕ)
     → HasValidOrder kinds h x
 orders_of_kinds kinds h hist lin x =
-    let own : HasValidOrderOf (λ y. specification (kinds y)) h x = linearizable_has_orders_lem
+    let own : HasValidOrderOf (λ y. specification (kinds y)) h x = each_object_has_an_order
     (λ y. specification (kinds y)) h hist lin x in
     (own.0, valid_among (kinds x) (calls_on x h) own.0 own.1)

@@ -190,7 +190,8 @@ module _ (h added : List Event) (sequential : IsWellFormed h) where
     pub to_well_formed : IsWellFormed (h ++ added)
     to_well_formed p = rw (split p) (extended p (by_process p added) refl)
 
-pub completion_in_words_lem : (h added : List Event) → IsWellFormed h → All (λ e. is_invocation e ≡ false) added
+-- responses leave a well-formed history well-formed exactly if each of them answers a pending invocation
+pub well_formed_iff_answers_pending : (h added : List Event) → IsWellFormed h → All (λ e. is_invocation e ≡ false) added
     → (IsWellFormed (h ++ added) ↔ AnswersPending h added)
-completion_in_words_lem h added w r =
+well_formed_iff_answers_pending h added w r =
     (to_answers h added w (recursion_from_All (λ e. is_invocation e ≡ false) added r), to_well_formed h added w)

@@ -262,10 +262,16 @@ module _ (objects : ℕ → Specification) (h : List Numbered) (hist : IsHistory
             ∙ append_assoc (ops_of (filter mine before)) (one.made ∷ ops_of (filter mine after)) own.rest)),
       )
 
-  -- the operations of a process in the sequence are those in the completion
+  -- an operation after these in the line, by its process and its turn there
+  abbrev place : List Ended → Ended → Operation
+  place before one = record {
+    process = one.made.process;
+    turn = length (filter (λ e. e.made.process == one.made.process) before);
+  }
+
+  -- an operation of the line has its place in the completion
   in_completion : (before after : List Ended) (one : Ended) → all.line ≡ before ++ one ∷ after
-      → IsOperation lin.completion
-      (record { process = one.made.process; turn = length (filter (λ e. e.made.process == one.made.process) before) })
+      → IsOperation lin.completion (place before one)
   in_completion before after one whole =
       let process : ℕ = one.made.process in
       let mine : Ended → Bool = λ d. d.made.process == process in
@@ -279,93 +285,98 @@ module _ (objects : ℕ → Specification) (h : List Numbered) (hist : IsHistory
       let more = longer mine before after one (eq-eqb process process refl) in
       omega arith
 
+  -- ---- counts up to an event of the history
+
+  -- the events before one of the history are those of lesser numbers
+  count_before : (test : Event → Bool) (front rest : List Numbered) (event : Numbered) → h ≡ front ++ event ∷ rest
+      → count test (events front) ≡ length (filter (λ m. test m.event && nat_lt m.number event.number) h)
+  count_before test front rest event whole =
+      length_filter_events test front
+      ∙ (ap length (filter_before (λ m. test m.event) front event rest (rw whole at (up h hist)))
+      ∙ ap (λ hs. length (filter (λ m. test m.event && nat_lt m.number event.number) hs)) (sym whole))
+
+  -- before an operation is invoked, its process has invoked at most those before it in the line
+  few_invocations : (before after : List Ended) (one : Ended) → all.line ≡ before ++ one ∷ after
+      → (front rest : List Numbered) (event : Numbered) → h ≡ front ++ event ∷ rest → event.number ≡ number_of one.made
+      → count (invokes one.made.process) (events front) ≤ (place before one).turn
+  few_invocations before after one whole front rest event split number_is =
+      let p : ℕ = one.made.process in
+      let mine : List Ended = filter (λ e. e.made.process == p) before in
+      let cut = turn_of before after one whole in
+      let events_p = count_before (invokes p) front rest event split in
+      let calls_p = invocations_before p event.number h in
+      let part_p : length (filter (λ e. (e.process == p) && nat_lt (number_of e) event.number) (calls_in h))
+      ≡ length (filter (λ e. nat_lt (number_of e) (number_of one.made)) (ops_of mine ++ one.made ∷ cut.0)) =
+      ap length (sym (filter-filter (λ e. nat_lt (number_of e) event.number) (λ e. e.process == p) (calls_in h)))
+      ∙ (ap (λ os. length (filter (λ e. nat_lt (number_of e) event.number) os)) (sym (calls_in-part p h) ∙ cut.1)
+      ∙ ap (λ n. length (filter (λ e. nat_lt (number_of e) n) (ops_of mine ++ one.made ∷ cut.0))) number_is) in
+      let few = below_one (ops_of mine) cut.0 one.made (rw cut.1 at (part_rise h hist p)) in
+      let turn_is = length-map mine (λ (e : Ended). e.made) in
+      omega arith
+
+  -- after an operation returned, its process has the responses of it and of those before it in the line
+  many_responses : (before after : List Ended) (one : Ended) → all.line ≡ before ++ one ∷ after
+      → (front rest : List Numbered) (event : Numbered) → h ≡ front ++ event ∷ rest
+      → (response : Return) → one.made.call.returned ≡ Some response → response.at < event.number
+      → (place before one).turn < count (responds one.made.process) (events front)
+  many_responses before after one whole front rest event split response returned early =
+      let q : ℕ = one.made.process in
+      let mine : List Ended = filter (λ e. e.made.process == q) before in
+      let cut = turn_of before after one whole in
+      let events_q = count_before (responds q) front rest event split in
+      let part_q : length (filter (λ m. responds q m.event && nat_lt m.number event.number) (part q h))
+      ≡ length (filter (λ m. responds q m.event && nat_lt m.number event.number) h) =
+      ap length (responds_in_part q event.number h) in
+      let back_q = responses_before q event.number (part q h) (turn_view h hist q) in
+      let calls_q = ap (λ os. length (filter (λ e. is_back event.number e.call.returned) os)) cut.1 in
+      let own : In one.made (calls_in (part q h)) =
+      queue_op q one (line_queue one (rw whole (in_middle one before after))) in
+      let late = returns_after q (part q h) one.made response (turn_view h hist q) (part_up h hist q) own returned in
+      let many = back_upto event.number (ops_of mine) cut.0 one.made response
+      (rw cut.1 at (one_after_another q (part q h) (turn_view h hist q) (part_up h hist q))) returned late early in
+      let turn_is = length-map mine (λ (e : Ended). e.made) in
+      omega arith
+
+  -- an operation of the line is invoked in the history
+  is_invoked : (before after : List Ended) (one : Ended) → all.line ≡ before ++ one ∷ after
+      → (place before one).turn < count (invokes one.made.process) (events h)
+  is_invoked before after one whole =
+      let p : ℕ = one.made.process in
+      let mine : List Ended = filter (λ e. e.made.process == p) before in
+      let cut = turn_of before after one whole in
+      let all_p = invocations_all p h in
+      let own_p : length (filter (λ o. o.process == p) (calls_in h)) ≡ length (ops_of mine ++ one.made ∷ cut.0) =
+      ap length (sym (calls_in-part p h) ∙ cut.1) in
+      let long_p = length-append (ops_of mine) (one.made ∷ cut.0) in
+      let turn_is = length-map mine (λ (e : Ended). e.made) in
+      omega arith
+
+  -- ---- the order of the line
+
   -- of two in the line the later has not returned before the earlier was invoked
   not_before : (before between after : List Ended) (earlier later : Ended)
       → all.line ≡ before ++ earlier ∷ (between ++ later ∷ after)
       → ReturnsBefore later.made.call earlier.made.call → ⊥
   not_before before between after earlier later whole back =
-      let p : ℕ = earlier.made.process in
-      let q : ℕ = later.made.process in
       let upto : List Ended = before ++ earlier ∷ between in
-      let whole' : all.line ≡ upto ++ later ∷ after = whole
-      ∙ sym (append_assoc before (earlier ∷ between) (later ∷ after)) in
+      let whole' : all.line ≡ upto ++ later ∷ after =
+      whole ∙ sym (append_assoc before (earlier ∷ between) (later ∷ after)) in
       let in_earlier : In earlier all.line = rw whole (in_middle earlier before (between ++ later ∷ after)) in
-      let in_later : In later all.line = rw whole' (in_middle later upto after) in
-      let cut_p = turn_of before (between ++ later ∷ after) earlier whole in
-      let cut_q = turn_of upto after later whole' in
       let call = call_event h earlier.made (line_op earlier in_earlier) in
       let cut = in_split call.0 h call.1 in
-      let front : List Numbered = cut.0 in
-      let moment : ℕ = call.0.number in
-      let rising : Pairs (λ (x y : Numbered). x.number < y.number) (front ++ call.0 ∷ cut.1) =
-      rw cut.2 at (up h hist) in
-      let turn_p : ℕ = length (filter (λ e. e.made.process == p) before) in
-      let turn_q : ℕ = length (filter (λ e. e.made.process == q) upto) in
-      let turn_p_is : length (ops_of (filter (λ e. e.made.process == p) before)) ≡ turn_p =
-      length-map (filter (λ e. e.made.process == p) before) (λ (e : Ended). e.made) in
-      let turn_q_is : length (ops_of (filter (λ e. e.made.process == q) upto)) ≡ turn_q =
-      length-map (filter (λ e. e.made.process == q) upto) (λ (e : Ended). e.made) in
-      -- the invocations of the earlier one's process before its own
-      let events_p : count (invokes p) (events front) ≡ length (filter (λ m. invokes p m.event) front) =
-      length_filter_events (invokes p) front in
-      let lower_p : length (filter (λ m. invokes p m.event) front)
-      ≡ length (filter (λ m. invokes p m.event && nat_lt m.number moment) h) =
-      ap length (filter_before (λ m. invokes p m.event) front call.0 cut.1 rising)
-      ∙ ap (λ hs. length (filter (λ m. invokes p m.event && nat_lt m.number moment) hs)) (sym cut.2) in
-      let calls_p = invocations_before p moment h in
-      let part_p : length (filter (λ e. (e.process == p) && nat_lt (number_of e) moment) (calls_in h))
-      ≡ length (filter (λ e. nat_lt (number_of e) (number_of earlier.made))
-      (ops_of (filter (λ e. e.made.process == p) before) ++ earlier.made ∷ cut_p.0)) =
-      ap length (sym (filter-filter (λ e. nat_lt (number_of e) moment) (λ e. e.process == p) (calls_in h)))
-      ∙ (ap (λ os. length (filter (λ e. nat_lt (number_of e) moment) os)) (sym (calls_in-part p h) ∙ cut_p.1)
-      ∙ ap (λ s. length (filter (λ e. nat_lt (number_of e) s)
-      (ops_of (filter (λ e. e.made.process == p) before) ++ earlier.made ∷ cut_p.0))) call.2) in
-      let few_p = below_one (ops_of (filter (λ e. e.made.process == p) before)) cut_p.0 earlier.made
-      (rw cut_p.1 at (part_rise h hist p)) in
-      -- the responses to the later one's process before that
-      let events_q : count (responds q) (events front) ≡ length (filter (λ m. responds q m.event) front) =
-      length_filter_events (responds q) front in
-      let lower_q : length (filter (λ m. responds q m.event) front)
-      ≡ length (filter (λ m. responds q m.event && nat_lt m.number moment) h) =
-      ap length (filter_before (λ m. responds q m.event) front call.0 cut.1 rising)
-      ∙ ap (λ hs. length (filter (λ m. responds q m.event && nat_lt m.number moment) hs)) (sym cut.2) in
-      let part_q : length (filter (λ m. responds q m.event && nat_lt m.number moment) (part q h))
-      ≡ length (filter (λ m. responds q m.event && nat_lt m.number moment) h) =
-      ap length (responds_in_part q moment h) in
-      let back_q = responses_before q moment (part q h) (turn_view h hist q) in
-      let calls_q : length (filter (λ e. is_back moment e.call.returned) (calls_in (part q h)))
-      ≡ length (filter (λ e. is_back moment e.call.returned)
-      (ops_of (filter (λ e. e.made.process == q) upto) ++ later.made ∷ cut_q.0)) =
-      ap (λ os. length (filter (λ e. is_back moment e.call.returned) os)) cut_q.1 in
-      let late : number_of later.made ≤ back.0.at =
-      returns_after q (part q h) later.made back.0 (turn_view h hist q) (part_up h hist q)
-      (queue_op q later (line_queue later in_later)) back.1 in
-      let number_is = call.2 in
-      let less = back.2 in
-      let many_q = back_upto moment (ops_of (filter (λ e. e.made.process == q) upto)) cut_q.0 later.made back.0
-      (rw cut_q.1 at (one_after_another q (part q h) (turn_view h hist q) (part_up h hist q))) back.1
-      late (omega arith) in
-      -- so the later one precedes the other in the history, and then in the sequence
-      let all_p = invocations_all p h in
-      let own_p : length (filter (λ o. o.process == p) (calls_in h))
-      ≡ length (ops_of (filter (λ e. e.made.process == p) before) ++ earlier.made ∷ cut_p.0) =
-      ap length (sym (calls_in-part p h) ∙ cut_p.1) in
-      let long_p = length-append (ops_of (filter (λ e. e.made.process == p) before)) (earlier.made ∷ cut_p.0) in
-      let first : Operation = record { process = p; turn = turn_p } in
-      let second : Operation = record { process = q; turn = turn_q } in
-      let gap : Moment (events h) second first =
+      let in_between : Moment (events h) (place upto later) (place before earlier) =
       record {
-        front = events front;
+        front = events cut.0;
         rest = events (call.0 ∷ cut.1);
-        whole = ap events cut.2 ∙ map-append (λ (m : Numbered). m.event) front (call.0 ∷ cut.1);
-        returned = omega arith;
-        waiting = omega arith;
-        begun = omega arith;
+        whole = ap events cut.2 ∙ map-append (λ (m : Numbered). m.event) cut.0 (call.0 ∷ cut.1);
+        returned = many_responses upto after later whole' cut.0 cut.1 call.0 cut.2 back.0 back.1 (rw call.2 back.2);
+        waiting = few_invocations before (between ++ later ∷ after) earlier whole cut.0 cut.1 call.0 cut.2 call.2;
+        begun = is_invoked before (between ++ later ∷ after) earlier whole;
       } in
-      let then = moment_from lin.sequence second first
-      (lin.order second first (in_completion upto after later whole')
+      let then = moment_from lin.sequence (place upto later) (place before earlier)
+      (lin.order (place upto later) (place before earlier) (in_completion upto after later whole')
       (in_completion before (between ++ later ∷ after) earlier whole)
-      (precedes_from (events h) second first gap)) in
+      (precedes_from (events h) (place upto later) (place before earlier) in_between)) in
       refuted before between after earlier later then.front then.rest
       (sym then.whole ∙ (all.events_are ∙ (ap ended_events whole' ∙ flat_map-append two_events upto (later ∷ after))))
       then.returned then.waiting
@@ -396,8 +407,8 @@ module _ (objects : ℕ → Specification) (h : List Numbered) (hist : IsHistory
   -- ---- the order of an object
 
   -- each object of a linearizable history has a valid order
-  pub linearizable_has_orders_lem : (x : ℕ) → HasValidOrderOf objects h x
-  linearizable_has_orders_lem x =
+  pub each_object_has_an_order : (x : ℕ) → HasValidOrderOf objects h x
+  each_object_has_an_order x =
       let own : Ended → Bool = λ e. e.made.object == x in
       let es : List Ended = filter own all.line in
       let cs : List Call = map (λ (e : Ended). e.made.call) es in (

@@ -34,7 +34,7 @@ takes_last op = false
 
 -- Which values can be ahead of what a removal found. Of nothing: each value. Of a value in a heap:
 -- each lesser one. In a queue or a stack: each value, but only by certain puts (`ahead_before`,
--- `is_settled`).
+-- `are_settled`).
 abbrev pub is_value_ahead : Option ℤ → AnyOp → ℤ → Bool
 is_value_ahead None op v = true
 is_value_ahead (Some b) Dequeue v = true

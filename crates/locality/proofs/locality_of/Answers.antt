@@ -1,5 +1,5 @@
-use Rattle.locality.proofs.Linearization.{locality_lem}
+use Rattle.locality.proofs.Linearization.{linearizable_from_orders}
 use Rattle.locality.proofs.locality_of.Goals as goal
 
 pub returns : goal.returns
-returns g c = locality_lem g.O.Objects.objects
+returns g c = linearizable_from_orders g.O.Objects.objects

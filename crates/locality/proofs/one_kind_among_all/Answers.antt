@@ -1,5 +1,5 @@
-use Rattle.locality.proofs.OneKind.{one_kind_among_all_lem}
+use Rattle.locality.proofs.OneKind.{valid_alone_iff_among_all}
 use Rattle.locality.proofs.one_kind_among_all.Goals as goal
 
 pub returns : goal.returns
-returns c = one_kind_among_all_lem
+returns c = valid_alone_iff_among_all
