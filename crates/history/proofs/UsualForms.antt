@@ -126,7 +126,7 @@ form_pair k d es text mid after rest n q b c =
     rw (append_assoc (tokens_of d) (entries_tokens es) (close_map ∷ []))
     (form_field d k ts text mid rest n q (both_begin (tokens_of d) ts mid after rest b c))
 
--- one more pair, which is not of the object
+-- Last pairs stay last pairs with one more in front that is not of the object.
 pub other_pair : (k : List ℕ) (ks : List (List ℕ)) (z : ℤ) (text mid after rest : List ℕ) → is_name k ≡ true
     → same_bytes (codes "object") k ≡ false → IsOther k ks
     → text ≡ 44 ∷ 32 ∷ 58 ∷ (k ++ 32 ∷ mid) → BeginWith (leaf (atom (integer z)) ∷ []) mid after
@@ -140,7 +140,7 @@ other_pair k ks z text mid after rest n s o q b r =
       begins = form_pair k (atom (integer z)) r.pairs text mid after rest n q b r.begins;
     }
 
--- the pair of the object
+-- Last pairs stay last pairs with that of the object in front.
 pub object_pair : (n x : ℕ) (text mid after rest : List ℕ) → Some x ≡ short_in (Some n)
     → text ≡ codes ", :object " ++ mid → BeginWith (leaf (atom (integer (pos n))) ∷ []) mid after
     → ReadsLast keys_to_object after 0 rest → ReadsLast operation_keys text x rest
@@ -158,7 +158,7 @@ object_pair n x text mid after rest e q b r =
 differs : (k : List ℕ) → (codes "object" ≡ k → ⊥) → same_bytes (codes "object") k ≡ false
 differs k h = grind (arith, same_bytes_is (codes "object") k, bytes_eq-Decides (codes "object") k)
 
--- one more pair of a key without a meaning, and a value that has no elements
+-- A last pair may have a key without a meaning and a value that has no elements.
 pub note_pair : (k : List ℕ) (a : Atom) (text at_key after_key at_value after_value rest : List ℕ)
     → IsNoneOf k keys_to_index
     → text ≡ codes ", :" ++ at_key → first (58 ∷ at_key) ≡ got (leaf (atom (keyword k))) after_key
