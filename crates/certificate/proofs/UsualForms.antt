@@ -10,7 +10,7 @@ use Rattle.edn_reader.specs.Token.{Token, open_vector, close_vector, open_map, c
 use Rattle.edn_reader.specs.Sound.{BeginWith}
 use Rattle.edn_reader.proofs.Fronts.{both_begin, front_of}
 use Rattle.edn_reader.proofs.UsualFronts.{here, after_one, field, first_field}
-use Rattle.edn.specs.Fields.{object_in}
+use Rattle.edn.specs.Fields.{max_object, object_in}
 use Rattle.certificate.specs.declared.Certificate.{Certificate}
 use Rattle.certificate.specs.UsualForms.{ReadsUsual, numbers_tokens, ReadsOrder}
 use Rattle.certificate.proofs.Writing.{datum_of, datum_fits, datum_denotes, numbers_data}
@@ -85,5 +85,5 @@ usual_is n c text own from_n after_n from_o after_o rest u feed qn bn eo qo bo q
     let front = front_of text rest (datum_of c) u (datum_fits c) begins in
     record { form = datum_of c; front = front.0; utf8 = front.1; own = datum_denotes c is_small }
   where
-    is_small : c.object ≤ 65535
+    is_small : c.object ≤ max_object
     is_small = grind arith

@@ -16,6 +16,7 @@ use Rattle.edn_reader.specs.Text.{between, IsInt64, InProfile, ItemsInProfile, t
 use Rattle.edn_reader.specs.Text as edn
 use Rattle.edn_reader.specs.Laws.{EachSpelled}
 use Rattle.edn_reader.proofs.Joined.{text_spells_it, lines_spell_them}
+use Rattle.edn.specs.Fields.{max_object}
 use Rattle.certificate.specs.Denotes.{reading_with, certificate_of, reading_of, AreDistinct}
 use Rattle.certificate.specs.Lines.{numbers_text, certificate_line, certificate_lines, AreCertificatesInRange}
 use Rattle.certificate.specs.Lines.{SpellsCertificates}
@@ -98,7 +99,8 @@ unfolding numbers_data
 numbers_in_profile [] h = tt
 numbers_in_profile (z ∷ zs) h = (h.0, numbers_in_profile zs h.1)
 
-datum_in_profile : (c : Certificate) → c.object ≤ 65535 → AllByRecursion IsInt64 c.order.items → InProfile (datum_of c)
+datum_in_profile : (c : Certificate) → c.object ≤ max_object → AllByRecursion IsInt64 c.order.items
+    → InProfile (datum_of c)
 unfolding datum_of is_name
 datum_in_profile c small h = (refl, omega arith, (refl, numbers_in_profile c.order.items h, tt))
 
@@ -107,11 +109,11 @@ unfolding numbers_data
 numbers_read [] = refl
 numbers_read (z ∷ zs) = ap (option_map (λ ys. z ∷ ys)) (numbers_read zs)
 
-pub datum_denotes : (c : Certificate) → c.object ≤ 65535 → certificate_of (datum_of c) ≡ Some (reading_of c)
+pub datum_denotes : (c : Certificate) → c.object ≤ max_object → certificate_of (datum_of c) ≡ Some (reading_of c)
 unfolding datum_of
 datum_denotes c small =
     ap (λ b. reading_with (if b then Some c.object else None) (integers_in (items_of (numbers_data c.order.items))))
-    (le-leb c.object 65535 small) ∙ ap (reading_with (Some c.object)) (numbers_read c.order.items)
+    (le-leb c.object max_object small) ∙ ap (reading_with (Some c.object)) (numbers_read c.order.items)
 
 data_of : List Certificate → List Datum
 data_of cs = map datum_of cs

@@ -424,7 +424,7 @@ next_is es fs i next P objects inside is holds =
     subst (P (kind_of_object es next.object))
     (all_at (λ (o : ObjectCalls). calls_of o.ops ≡ calls_on o.object (denoted es)) fs objects.calls next j) its_kind
 
--- one more object of the list has a valid certificate
+-- An object of the list is fine in the history if its calls are fine.
 pub next_fine : (es : List Event) (certificates : List Certificate) (fs : List ObjectCalls) (i : ℕ) (next : ObjectCalls)
     → AreObjects es fs
     → i < length fs → next ≡ get_or fs i next → IsFine next.kind (calls_of next.ops) certificates next.object

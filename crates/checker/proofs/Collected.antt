@@ -25,7 +25,7 @@ collected certificate_of answers = filter_map (λ a. certificate_of a.1) answers
 
 -- ---- the certificates among answers
 
--- each comes from an answer
+-- Each certificate that is collected comes from an answer.
 in_found : {A : Type 0} (certificate_of : A → Option Certificate) (answers : List (ℕ × A)) (c : Certificate)
     → In c (collected certificate_of answers)
     → (a : ℕ × A) × In a answers × (certificate_of a.1 ≡ Some c)
@@ -42,7 +42,7 @@ in_found {A} certificate_of (a ∷ answers) c i = go (certificate_of a.1) refl i
     go None e j f = later (f j)
     go (Some d) e j f = elim j [ inl q ↦ (a, inl refl, e ∙ ap Some (sym q)) | inr k ↦ later (f k) ]
 
--- and each answer that has one gives it
+-- The certificate of each answer that has one is collected.
 found_in_answers : {A : Type 0} (certificate_of : A → Option Certificate) (answers : List (ℕ × A)) (a : ℕ × A)
     (c : Certificate) → In a answers
     → certificate_of a.1 ≡ Some c → In c (collected certificate_of answers)

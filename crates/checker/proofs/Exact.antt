@@ -85,7 +85,7 @@ valid_so_far kind calls order u v =
       },
     )
 
--- so an order with a first fault is not valid
+-- An order with a first fault is not valid.
 pub fault_refutes : (kind : Kind) (calls : List Call) (order : List ℤ) (f : OrderFault) → Rising calls
     → IsFirstFault kind calls order f → IsValidOrder kind calls order → ⊥
 fault_refutes kind calls order (Omitted n) u h v =

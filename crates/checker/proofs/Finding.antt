@@ -29,7 +29,7 @@ use Rattle.model.proofs.Orders.{same_pos}
 index_rises : (a b : ℕ) (z : ℤ) → a ≤ b → ordering_index (int_cmp (pos a) z) ≤ ordering_index (int_cmp (pos b) z)
 index_rises a b z l = grind (arith, ints)
 
--- so operations whose numbers rise can be searched
+-- Operations whose numbers rise can be searched by number.
 pub search_rises : (ops : List Operation) (entry : ℤ) → AllPairs (λ a b. a.number < b.number) ops
     → IsNonDecreasingBy (λ o. ordering_index (int_cmp (pos o.number) entry)) ops
 search_rises ops entry rising i j d l m = elim (cases_order i j) [

@@ -29,7 +29,7 @@ valid_is_not_refused object kind ops order (NoCertificate other) rising valid re
 valid_is_not_refused object kind ops order (StrangeObject other) rising valid refused = absurd refused
 valid_is_not_refused object kind ops order NoMemory rising valid refused = refl
 
--- so a check of it answers that it is valid, if no allocation fails
+-- A check of a valid order answers that it is valid, if no allocation fails.
 pub valid_is_ok : (object : ℕ) (kind : Kind) (ops : List Operation) (order : List ℤ) (answer : Result Unit Refusal)
     → AllPairs (λ a b. a.number < b.number) ops
     → IsValidOrder kind (calls_of ops) order → IfErr answer (RefusesOrder object kind (calls_of ops) order)

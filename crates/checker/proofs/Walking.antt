@@ -95,7 +95,7 @@ after_step calls content after entry call found step =
     ap (λ (o : Option Call). after_call o content) found
     ∙ ap (λ (o : Option (Content × AnyReply)). option_map (λ s. s.0) o) step.possible
 
--- so the order leads to the content
+-- The content after an order is the last one of a walk along it.
 pub along_content : (calls : List Call) (content : Content) (order : List ℤ) (last : Content)
     → Along calls content order last → content_after calls (Some content) order ≡ Some last
 along_content calls content [] last h = ap Some h
@@ -199,19 +199,19 @@ no_fault kind calls order content so_far place (Omitted n) h = h
 
 -- ---- no place before one has a fault
 
--- a fault before place i is one of the first i entries
+-- The call that an order names at a place before place i is named there by its first i entries.
 names_front : (calls : List Call) (order : List ℤ) (i place : ℕ) (entry : ℤ) (call : Call) → place < i
     → HasNumberAt calls order place entry call → HasNumberAt calls (take i order) place entry call
 names_front calls order i place entry call before h =
     record { here = get_front order i place before ∙ h.here; named = h.named }
 
--- and so is the content there
+-- The content at a place before place i is the same in the first i entries.
 content_front : (kind : Kind) (calls : List Call) (order : List ℤ) (i place : ℕ) (content : Content) → place < i
     → content_at kind calls order place ≡ Some content → content_at kind calls (take i order) place ≡ Some content
 content_front kind calls order i place content before h =
     ap (content_after calls (Some (empty kind))) (take-take place i order (omega arith)) ∙ h
 
--- and so is a fault
+-- A fault at a place before place i is also a fault of the first i entries.
 pub fault_in_front : (kind : Kind) (calls : List Call) (order : List ℤ) (i place : ℕ) (fault : OrderFault) → place < i
     → IsFaultAt kind calls order place fault → IsFaultAt kind calls (take i order) place fault
 fault_in_front kind calls order i place (UnknownOperation entry) before h = (get_front order i place before ∙ h.0, h.1)
@@ -247,7 +247,7 @@ fault_in_front kind calls order i place (WrongReply entry gives) before h = (
 )
 fault_in_front kind calls order i place (Omitted n) before h = h
 
--- so none of the entries before place i has a fault
+-- None of the entries before place i has a fault, if these are right so far.
 pub none_before : (kind : Kind) (calls : List Call) (order : List ℤ) (content : Content) (i : ℕ)
     → SoFar kind calls (take i order) content → (place : ℕ) (fault : OrderFault) → place < i
     → IsFaultAt kind calls order place fault → ⊥

@@ -30,7 +30,7 @@ module _ {Said X : Type 0} (said_by : Datum → Option Said) (seen : X → Said)
       let more : map said_by (es ++ d ∷ later) ≡ map (λ x. Some (seen x)) xs = cc in
       is_read es later d xs more none
 
-  -- one more form and one more thing
+  -- One more form is read as one more thing if it says this thing.
   pub push_read : (ds : List Datum) (xs : List X) (d : Datum) (x : X) → AreRead ds xs → said_by d ≡ Some (seen x)
       → AreRead (ds ++ d ∷ []) (xs ++ x ∷ [])
   push_read ds xs d x h own =

@@ -184,7 +184,7 @@ start text u = record {
 -- ---- before an element
 
 module _ {text here : List ℕ} (u : IsUtf8 text) (h : here ≡ skip text) where
-  -- its first token
+  -- The first token of an element leaves the reader midway in it.
   pub first_turn : {cuts : Bool} {r : List ℕ} {old new : Shapes} {kept more : Keep} → old ≡ nothing_open
       → kept ≡ nothing_kept cuts → after_piece old (first here) ≡ Some (new, r)
       → KeepsToken kept (first here) more → Midway cuts text r new more
@@ -254,12 +254,12 @@ module _ {cuts : Bool} {text rest : List ℕ} {now_open : Shapes} {kept : Keep}
         utf8 = p.utf8;
       }
 
-  -- then nothing is open but the text
+  -- If no bracket is open at the end of an element, nothing is open but the text.
   pub whole_open : true ≡ (length now_open.outer == 0) → now_open ≡ nothing_open
   whole_open o = let d = one_form o in sym m.shaped ∙ ap shapes_of d.1
 
   module _ {here : List ℕ} (h : here ≡ skip rest) where
-    -- one token more
+    -- One more token of an element leaves the reader midway in it.
     pub next_turn : {r : List ℕ} {new : Shapes} {more : Keep} → false ≡ (length now_open.outer == 0)
         → after_piece now_open (first here) ≡ Some (new, r) → KeepsToken kept (first here) more
         → Midway cuts text r new more

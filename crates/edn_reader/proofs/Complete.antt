@@ -102,7 +102,7 @@ mutual
         e,
       ) refl
 
-  -- so do those of the elements of a vector, one after another
+  -- The tokens of the elements of a vector, one after another, put these behind the elements that the frame has.
   pub steps_items : (ds : Items) (n : ℕ) (frame : List Datum → Frame) (all : TakesAll frame) (pre : List Datum)
       (fs : List Frame) → ItemsFit n ds → n + length fs ≡ 16
       → steps (items_tokens ds) (at (frame pre) fs) ≡ Some (at (frame (pre ++ items_list ds)) fs)

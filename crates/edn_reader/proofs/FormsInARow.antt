@@ -75,7 +75,7 @@ along_more P Q text mid rest before start d f moves put a =
       place = moves ∙ a.place;
     }
 
--- the same place by another name
+-- The forms in front of a place are also in front of a place that is equal to it.
 pub along_moved : (P : List Datum → Type 0) (text rest other : List ℕ) (start from : ℕ) → other ≡ rest → from ≡ start
     → Along P text rest start → Along P text other from
 along_moved P text rest other start from e s a =

@@ -27,7 +27,7 @@ name_views-append (y ∷ ys) x = ap (λ (r : List (List ℕ)). y.now ∷ r) (nam
 abbrev pub same_text : Bor (List ℕ) → Bor (List ℕ) → Bool
 same_text x y = bytes_eq x.now y.now
 
--- one more name
+-- A set with one more name has the names of a list with this one more at its end.
 pub names_with : {S : Type 0} (s n : HashSet (Bor (List ℕ)) S) (x : List ℕ) (ls ms : List (List ℕ))
     → UpdatesBy same_text (λ l. bytes_eq x l.now) s n true → HasNames s ls → ms ≡ ls ++ x ∷ [] → HasNames n ms
 names_with s n x ls ms u h e k =

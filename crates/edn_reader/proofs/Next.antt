@@ -25,21 +25,30 @@ GapBefore t after = (gap : List ℕ) × IsGap gap × (t ≡ gap ++ after)
 abbrev CommentBefore : List ℕ → List ℕ → Type 0
 CommentBefore t after = (gap : List ℕ) × EndsComment gap × (t ≡ gap ++ after)
 
-gap_by : (c : ℕ) (cs after : List ℕ) (s m : Bool) → is_separator c ≡ s → (c == 59) ≡ m
+-- If skipping the text c ∷ cs leaves a rest, a gap stands before this rest. The Boolean separates is the test whether
+-- the byte c is a separator, and opens the test whether it is a semicolon, which opens a comment. The two implications
+-- say what stands before the rest in cs: outside a comment, and inside one.
+gap_by : (c : ℕ) (cs after : List ℕ) (separates opens : Bool) → is_separator c ≡ separates → (c == 59) ≡ opens
     → (skip cs ≡ after → GapBefore cs after) → (skip_comment cs ≡ after → CommentBefore cs after)
-    → cond s (skip cs) (cond m (skip_comment cs) (c ∷ cs)) ≡ after → GapBefore (c ∷ cs) after
-gap_by c cs after true m hs hm ih jh e = let g = ih e in (c ∷ g.0, inl (hs, g.1), ap (λ (t : List ℕ). c ∷ t) g.2)
-gap_by c cs after false true hs hm ih jh e =
-    let g = jh e in (c ∷ g.0, inr (eqb-true c 59 hm, g.1), ap (λ (t : List ℕ). c ∷ t) g.2)
-gap_by c cs after false false hs hm ih jh e = ([], tt, e)
+    → cond separates (skip cs) (cond opens (skip_comment cs) (c ∷ cs)) ≡ after → GapBefore (c ∷ cs) after
+gap_by c cs after true opens separator semicolon outside inside left =
+    let later = outside left in (c ∷ later.0, inl (separator, later.1), ap (λ (t : List ℕ). c ∷ t) later.2)
+gap_by c cs after false true separator semicolon outside inside left =
+    let later = inside left in (c ∷ later.0, inr (eqb-true c 59 semicolon, later.1), ap (λ (t : List ℕ). c ∷ t) later.2)
+gap_by c cs after false false separator semicolon outside inside left = ([], tt, left)
 
-comment_by : (c : ℕ) (cs after : List ℕ) (m : Bool) → (c == 10) ≡ m → (skip cs ≡ after → GapBefore cs after)
-    → (skip_comment cs ≡ after → CommentBefore cs after)
-    → cond m (skip cs) (skip_comment cs) ≡ after → CommentBefore (c ∷ cs) after
-comment_by c cs after true hm ih jh e =
-    let g = ih e in (c ∷ g.0, inl (eqb-true c 10 hm, g.1), ap (λ (t : List ℕ). c ∷ t) g.2)
-comment_by c cs after false hm ih jh e =
-    let g = jh e in (c ∷ g.0, inr (eqb-false c 10 hm, g.1), ap (λ (t : List ℕ). c ∷ t) g.2)
+-- If skipping the text c ∷ cs from inside a comment leaves a rest, the end of the comment and a gap stand before it.
+-- The Boolean closes is the test whether the byte c is a line feed, which closes a comment. The two implications say
+-- what stands before the rest in cs: outside a comment, and inside one.
+comment_by : (c : ℕ) (cs after : List ℕ) (closes : Bool) → (c == 10) ≡ closes
+    → (skip cs ≡ after → GapBefore cs after) → (skip_comment cs ≡ after → CommentBefore cs after)
+    → cond closes (skip cs) (skip_comment cs) ≡ after → CommentBefore (c ∷ cs) after
+comment_by c cs after true line_feed outside inside left =
+    let later = outside left in
+    (c ∷ later.0, inl (eqb-true c 10 line_feed, later.1), ap (λ (t : List ℕ). c ∷ t) later.2)
+comment_by c cs after false line_feed outside inside left =
+    let later = inside left in
+    (c ∷ later.0, inr (eqb-false c 10 line_feed, later.1), ap (λ (t : List ℕ). c ∷ t) later.2)
 
 mutual
   pub gap_of : (t : List ℕ) (b : ℕ) (bs : List ℕ) → skip t ≡ b ∷ bs → GapBefore t (b ∷ bs)
@@ -164,25 +173,32 @@ string_begins bs None e = tt
 string_begins bs (Some p) e =
     let q = string_is bs p.0 p.1 e in inr (p.0, q.0, refl, q.1, ap (λ (x : List ℕ). 34 ∷ x) q.2)
 
+-- A choice between two results is the first token of a text if each result is where it is chosen.
 if_first : (text : List ℕ) (c : Bool) (x y : Next) → (c ≡ true → FirstIs text x) → FirstIs text y
     → FirstIs text (cond c x y)
 if_first text true x y h k = h refl
 if_first text false x y h k = k
 
+-- The first token that is read is the one that the text begins with. The first byte b is tested for the four marks of
+-- vectors and maps (as_mark) and for a quotation mark (as_string); any other byte begins a word (as_word).
 pub first_is : (t : List ℕ) → FirstIs t (first t)
 unfolding first
 first_is [] = refl
 first_is (b ∷ bs) =
-    let t : List ℕ = b ∷ bs in
-    let m : (n : ℕ) → (b == n) ≡ true → t ≡ n ∷ bs = λ n e. ap (λ (x : ℕ). x ∷ bs) (eqb-true b n e) in
-    let w : FirstIs t (got_word (atom_of (word t)) (after_word t)) = word_begins t (atom_of (word t)) refl in
-    let x : (b == 34) ≡ true → FirstIs t (got_string (string_at bs)) =
+    let text : List ℕ = b ∷ bs in
+    let as_mark : (mark : ℕ) → (b == mark) ≡ true → text ≡ mark ∷ bs =
+    λ mark e. ap (λ (c : ℕ). c ∷ bs) (eqb-true b mark e) in
+    let as_string : (b == 34) ≡ true → FirstIs text (got_string (string_at bs)) =
     λ e. rw (eqb-true b 34 e) (string_begins bs (string_at bs) refl) in
-    if_first t (b == 91) _ _ (m 91)
-    (if_first t (b == 93) _ _ (m 93)
-    (if_first t (b == 123) _ _ (m 123) (if_first t (b == 125) _ _ (m 125) (if_first t (b == 34) _ _ x w))))
+    let as_word : FirstIs text (got_word (atom_of (word text)) (after_word text)) =
+    word_begins text (atom_of (word text)) refl in
+    if_first text (b == 91) _ _ (as_mark 91)
+    (if_first text (b == 93) _ _ (as_mark 93)
+    (if_first text (b == 123) _ _ (as_mark 123)
+    (if_first text (b == 125) _ _ (as_mark 125)
+    (if_first text (b == 34) _ _ as_string as_word))))
 
--- a skipped text, and what comes first in the rest
+-- What is read after what is skipped is the next token of the whole text.
 next_by : (bytes after : List ℕ) (n : Next) → skip bytes ≡ after → FirstIs after n → IsNextOf bytes n
 next_by bytes after end e f = ending_of bytes (e ∙ f)
 next_by bytes after bad e f = tt

@@ -48,7 +48,7 @@ low_more : (b : ℕ) (gap : List ℕ) → b < 128 → EndsLow gap → EndsLow (b
 low_more b gap h (inl e) = inr ([], b, h, ap (λ (x : List ℕ). b ∷ x) e)
 low_more b gap h (inr (front, c, k, e)) = inr (b ∷ front, c, k, ap (λ (x : List ℕ). b ∷ x) e)
 
--- the same of the inside of a comment, which has a last byte
+-- bytes of which the last is ASCII, as the inside of a comment is with the line feed that ends it
 abbrev HasLow : List ℕ → Type 0
 HasLow gap = (front : List ℕ) × (c : ℕ) × (c < 128) × (gap ≡ front ++ c ∷ [])
 

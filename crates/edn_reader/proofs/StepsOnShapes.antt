@@ -11,7 +11,7 @@ use Rattle.edn_reader.specs.Reading.{close_vector_at, close_map_at, takes_key, o
 use Rattle.edn_reader.specs.Shapes.{Shape, a_map, Shapes, has_name, keys_of, shape_of, shape_list, shapes_of, key_in}
 use Rattle.edn_reader.specs.Shapes.{put_in, closed_in, vector_closed, map_closed, waits_for_key, opened, shape_step}
 
--- the same test, of the pairs and of their keys
+-- A map has a key if the list of its keys has it.
 pub has_key_keys : (k : List ℕ) (es : List (List ℕ × Datum)) → has_key k es ≡ has_name k (keys_of es)
 has_key_keys k [] = refl
 has_key_keys k (e ∷ es) = ap (λ (b : Bool). bytes_eq k e.0 || b) (has_key_keys k es)

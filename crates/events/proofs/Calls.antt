@@ -53,7 +53,7 @@ Answered p x es = fails (next_event p es) ≡ false → response_of p x (denoted
 next_own : (n p y : ℕ) (a : Action) (es : List Event) → next_event p (event_at n p y a ∷ es) ≡ Some (event_at n p y a)
 next_own n p y a es = ap (λ b. cond b (Some (event_at n p y a)) (next_event p es)) (eq-eqb p p refl)
 
--- the same if the first event is one of the process
+-- The first event ends the operation of a busy process, if it is an event of this process.
 answered_own : (n p y : ℕ) (a : Action) (es : List Event) (x : ℕ) (op : AnyOp) → MayDo (busy x op) y a
     → Runs p (state_by y a) es → Answered p x (event_at n p y a ∷ es)
 answered_own n p y (Invoke o) es x op may rest = absurd may
@@ -196,6 +196,6 @@ calls_are x (e ∷ es) h =
     ∙ (ap (λ t. calls_first x e (next_event e.process es) ++ t) (calls_are x es (all_run_later e es h))
     ∙ first_calls e.number e.process e.object e.action x es h)
 
--- so are those of proper events
+-- The calls of the operations on an object are the calls on it in what proper events denote.
 pub proper_calls : (es : List Event) → IsProper es → (x : ℕ) → calls_of (operations_on x es) ≡ calls_on x (denoted es)
 proper_calls es h x = calls_are x es (λ p. (idle, runs_from_start es p h))

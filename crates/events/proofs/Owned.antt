@@ -33,7 +33,7 @@ same_object x y op (Ok r) h = h.0
 same_object x y op Fail h = h
 same_object x y op Info h = h
 
--- so its next event is one of the own
+-- The next event of a process that is busy on an own object is its next one among the own events.
 next_owned : (own : ℕ → Bool) (p x : ℕ) (op : AnyOp) (es : List Event) → own x ≡ true → Runs p (busy x op) es
     → next_event p (owned own es) ≡ next_event p es
 next_owned own p x op [] is h = refl

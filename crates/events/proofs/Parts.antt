@@ -165,7 +165,7 @@ operation_returns x (e ∷ es) o at r h i q =
           record { event = g.event; stands = inr g.stands; number = g.number; returns = g.returns; behind = g.behind }
     ]
 
--- and no operation has the number of a return
+-- No operation has the number of a return.
 apart : (x : ℕ) (es : List Event) (o p : Operation) (at : ℕ) (r : AnyReply) → RisingEvents es → Returns es o at r
     → In p (operations_on x es) → p.number ≡ at → ⊥
 apart x es o p at r h f i q =

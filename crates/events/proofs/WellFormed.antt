@@ -49,16 +49,19 @@ own_other p e failed q = go e.action failed
 abbrev pub Answers : ℕ → ℕ → List model.Event → Type 0
 Answers p x s = (s ≡ []) ⊎ ((r : AnyReply) × (rest : List model.Event) × (s ≡ Res p x r ∷ rest) × IsSequential rest)
 
+-- what a busy process leaves, told whether its operation fails
 abbrev pub LeavesBusy : ℕ → ℕ → Bool → List model.Event → Type 0
 LeavesBusy p x true s = IsSequential s
 LeavesBusy p x false s = Answers p x s
 
+-- What the events leave of process p may come after this state of p: in turn if p is idle, an answer first if it is
+-- busy, and nothing if it is closed.
 abbrev pub Leaves : ℕ → State → List Event → Type 0
 Leaves p idle es = IsSequential (own p es)
 Leaves p (busy x op) es = LeavesBusy p x (fails (next_event p es)) (own p es)
 Leaves p closed es = own p es ≡ []
 
--- an invocation that does not fail, and what answers it
+-- An invocation that does not fail and what answers it are sequential.
 invoked : (p x : ℕ) (op : AnyOp) (s : List model.Event) → Answers p x s → IsSequential (Inv p x op ∷ s)
 invoked p x op s (inl e) = subst (λ t. IsSequential (Inv p x op ∷ t)) (sym e) refl
 invoked p x op s (inr a) = subst (λ t. IsSequential (Inv p x op ∷ t)) (sym a.2) (own_match, a.3)
@@ -72,7 +75,7 @@ invoked p x op s (inr a) = subst (λ t. IsSequential (Inv p x op ∷ t)) (sym a.
 abbrev pub event_at : ℕ → ℕ → ℕ → Action → Event
 event_at n p x a = record { number = n; process = p; object = x; action = a }
 
--- whether the next event of a process fails what it does is told by the first one, if it is its own
+-- If the first event is of p, the outstanding operation of p fails exactly if that event is a Fail.
 next_is_own : (n p x : ℕ) (a : Action) (es : List Event) → fails (next_event p (event_at n p x a ∷ es)) ≡ is_fail a
 next_is_own n p x a es = ap (λ b. fails (cond b (Some (event_at n p x a)) (next_event p es))) (eq-eqb p p refl)
 
@@ -83,7 +86,7 @@ own_invocation n p x op = ap (λ b. cond b (Inv p x op ∷ []) []) (eq-eqb p p r
 own_response : (n p x : ℕ) (r : AnyReply) (failed : Bool) → own_first p (event_at n p x (Ok r)) failed ≡ Res p x r ∷ []
 own_response n p x r failed = ap (λ b. cond b (Res p x r ∷ []) []) (eq-eqb p p refl)
 
--- an idle process that invokes
+-- What p leaves from its invocation on is sequential, if what it leaves after that may come while it is busy.
 leaves_invoked : (n p x : ℕ) (op : AnyOp) (es : List Event) → Leaves p (busy x op) es
     → IsSequential (own p (event_at n p x (Invoke op) ∷ es))
 leaves_invoked n p x op es rest =
@@ -94,7 +97,8 @@ leaves_invoked n p x op es rest =
     go true h = h
     go false h = subst (λ t. IsSequential (t ++ own p es)) (sym (own_invocation n p x op)) (invoked p x op (own p es) h)
 
--- a process that does what it may, from its own event on
+-- What p leaves from its own event on may come after a state, if p may do this event in the state and what it leaves
+-- after the event may come after the next state.
 leaves_own : (n p x : ℕ) (a : Action) (es : List Event) (s : State) → MayDo s x a → Leaves p (state_by x a) es
     → Leaves p s (event_at n p x a ∷ es)
 leaves_own n p x (Invoke op) es idle may rest = leaves_invoked n p x op es rest
@@ -118,7 +122,7 @@ leaves_own n p x Info es (busy y op) may rest =
     subst (λ b. LeavesBusy p y b (own p (e ∷ es))) (sym (next_is_own n p x Info es)) (inl (own_cons p e es ∙ rest))
 leaves_own n p x a es closed may rest = absurd may
 
--- and from another's
+-- What p leaves may come after a state of p also with an event of another process in front.
 leaves_other : (p : ℕ) (e : Event) (es : List Event) (s : State) → (e.process == p) ≡ false → Leaves p s es
     → Leaves p s (e ∷ es)
 leaves_other p e es s q rest = go s rest
@@ -135,6 +139,7 @@ leaves_other p e es s q rest = go s rest
         (subst (λ b. LeavesBusy p x b (own p es)) (sym next_same) h)
     go closed h = same ∙ h
 
+-- What events leave of a process that runs through them from a state may come after this state.
 leaves : (p : ℕ) (es : List Event) (s : State) → Runs p s es → Leaves p s es
 leaves p [] idle h = tt
 leaves p [] (busy x op) h = inl refl

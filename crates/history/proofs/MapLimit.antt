@@ -76,7 +76,7 @@ too_many_first ds d small none many = record {
 pub at_any_length : (ds : List Datum) → HasNoHistoryFault ds → IsFaultlessAtAnyLength ds
 at_any_length ds h earlier later d k q f = h earlier later d k q (fault_within earlier d k f)
 
--- and none is on a great object
+-- No form of a faultless history is on an object past the greatest.
 pub small_objects : (ds : List Datum) → HasNoHistoryFault ds → All IsSmall ds
 small_objects ds h = all_from_in IsSmall ds
     (λ d i great. let r = in_split d ds i in h r.0 r.1 d NotAnOperation r.2 (inr great))

@@ -28,11 +28,11 @@ events_moved n k (d ∷ ds) =
     rw (shift_one n k (client_of d), e, events_moved n (k + 1) ds)
     (sym (map-append (shift_event n) (event_of k (client_of d)) (events_of_forms (k + 1) ds)))
 
--- the same forms after n others
+-- The events of forms after n others are those of the forms alone, moved by n.
 events_shift : (n : ℕ) (ds : List Datum) → events_of_forms n ds ≡ map (shift_event n) (events_of_forms 0 ds)
 events_shift n ds = ap (λ k. events_of_forms k ds) (let e : n ≡ n + 0 = omega arith in e) ∙ events_moved n 0 ds
 
--- forms after others
+-- The events of joined forms are those of the first and, moved by their number, those of the others.
 pub events_after : (ds es : List Datum) → events_of_forms 0 (ds ++ es)
     ≡ events_of_forms 0 ds ++ map (shift_event (length ds)) (events_of_forms 0 es)
 events_after ds es =

@@ -89,7 +89,7 @@ no_other_after (Some l) before kind h k = h
 abbrev pub noted_map : code.ClientMap → Function → FirstMap
 noted_map c f = record { map_type = c.map_type; function = f; process = c.process; object = c.object }
 
--- and its event
+-- the event of one more map, with this number and this action
 abbrev pub noted_event : code.ClientMap → ℕ → Action → Event
 noted_event c n a = record { number = n; process = c.process; object = c.object; action = a }
 

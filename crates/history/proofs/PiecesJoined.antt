@@ -26,7 +26,7 @@ joined_cut [] a b = refl
 joined_cut (p ∷ ps) a b =
     rw (joined_cons p ps a (b ∷ []), joined_cut ps a b) (sym (joined_cons p ps (a ++ 10 ∷ b) []))
 
--- one more piece is cut off
+-- Pieces joined by line feeds stay the same text when the last one is cut at a line feed.
 pub piece_more : (ps : List (List ℕ)) (rest a b : List ℕ) (text : List ℕ) → rest ≡ a ++ 10 ∷ b
     → joined_by_feeds (ps ++ rest ∷ []) ≡ text
     → joined_by_feeds ((ps ++ a ∷ []) ++ b ∷ []) ≡ text

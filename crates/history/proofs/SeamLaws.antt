@@ -41,7 +41,7 @@ twice : {V : Type 0} (own old now : Option V) → (now ≡ option_or own old) �
     ≡ option_or own old
 twice own old now h = grind arith
 
--- one more key of the list is taken over
+-- When the first key of a list is taken over, the later keys are what is left to take over.
 pub taken_more : {V : Type 0} (old own now new : ℕ → Option V) (key : ℕ) (later : List ℕ) (k : ℕ)
     → TakesOver now own new key
     → IsTakenOver old own now (key ∷ later) k → IsTakenOver old own new later k

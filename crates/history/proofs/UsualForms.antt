@@ -126,7 +126,7 @@ form_pair k d es text mid after rest n q b c =
     rw (append_assoc (tokens_of d) (entries_tokens es) (close_map ∷ []))
     (form_field d k ts text mid rest n q (both_begin (tokens_of d) ts mid after rest b c))
 
--- one more pair, which is not of the object
+-- Last pairs stay last pairs with one more in front that is not of the object.
 pub other_pair : (k : List ℕ) (ks : List (List ℕ)) (z : ℤ) (text mid after rest : List ℕ) → is_name k ≡ true
     → same_bytes (codes "object") k ≡ false → IsOther k ks
     → text ≡ 44 ∷ 32 ∷ 58 ∷ (k ++ 32 ∷ mid) → BeginWith (leaf (atom (integer z)) ∷ []) mid after
@@ -140,7 +140,7 @@ other_pair k ks z text mid after rest n s o q b r =
       begins = form_pair k (atom (integer z)) r.pairs text mid after rest n q b r.begins;
     }
 
--- the pair of the object
+-- Last pairs stay last pairs with that of the object in front.
 pub object_pair : (n x : ℕ) (text mid after rest : List ℕ) → Some x ≡ short_in (Some n)
     → text ≡ codes ", :object " ++ mid → BeginWith (leaf (atom (integer (pos n))) ∷ []) mid after
     → ReadsLast keys_to_object after 0 rest → ReadsLast operation_keys text x rest
@@ -158,7 +158,7 @@ object_pair n x text mid after rest e q b r =
 differs : (k : List ℕ) → (codes "object" ≡ k → ⊥) → same_bytes (codes "object") k ≡ false
 differs k h = grind (arith, same_bytes_is (codes "object") k, bytes_eq-Decides (codes "object") k)
 
--- one more pair of a key without a meaning, and a value that has no elements
+-- A last pair may have a key without a meaning and a value that has no elements.
 pub note_pair : (k : List ℕ) (a : Atom) (text at_key after_key at_value after_value rest : List ℕ)
     → IsNoneOf k keys_to_index
     → text ≡ codes ", :" ++ at_key → first (58 ∷ at_key) ≡ got (leaf (atom (keyword k))) after_key
@@ -207,13 +207,13 @@ form_with n t f d es =
 abbrev map_with : ℕ → MapType → Function → ℕ → Value → ClientMap
 map_with n t f x v = record { process = n; map_type = t; function = Some f; object = x; value = Some v }
 
--- a map in the usual order is as deep as its value allows, and has no key twice
+-- A map in the usual order is as deep as its value allows, and has no key twice.
 fits_with : (n : ℕ) (t : MapType) (f : Function) (d : Datum) (es : Entries) → DatumFits 15 d
     → LackEach operation_keys es
     → EntriesFit 15 es → DatumFits 16 (form_with n t f d es)
 fits_with n t f d es h l e = grind arith
 
--- it is a client's map
+-- A map in the usual order is a client's map.
 client_is : (n : ℕ) (t : MapType) (f : Function) (x : ℕ) (v : Value) (d : Datum) (es : Entries)
     → object_at (value_at (codes "object") es) ≡ Some x
     → spec.client_of (form_with n t f d es) ≡ Some (client_map (map_with n t f x v) d)
@@ -230,33 +230,46 @@ whole_is es c w text own rest u feed begins fits client value =
     let front = front_of text rest (dictionary es) u fits all in
     record { form = dictionary es; front = front.0; utf8 = front.1; says = (w, client, value) }
 
--- a map in the usual order of its keys is read as its form
-pub usual_is : (n : ℕ) (t : MapType) (f : Function) (x : ℕ) (v : Value)
-    (text own from_n after_n from_t after_t from_f after_f from_v after_v rest : List ℕ) → IsUtf8 text
-    → (text ≡ own) ⊎ (text ≡ 10 ∷ own) → own ≡ codes "{:process " ++ from_n
-    → BeginWith (leaf (atom (integer (pos n))) ∷ []) from_n after_n
-    → after_n ≡ codes ", :type " ++ from_t → BeginWith (leaf (atom (keyword (type_name t))) ∷ []) from_t after_t
-    → after_t ≡ codes ", :f " ++ from_f → BeginWith (leaf (atom (keyword (name_of f))) ∷ []) from_f after_f
-    → after_f ≡ codes ", :value " ++ from_v → ReadsValue from_v v after_v → ReadsLast operation_keys after_v x rest
+-- The text begins with this atom, and this rest follows it.
+abbrev pub ReadsAs : Atom → List ℕ → List ℕ → Type 0
+ReadsAs a text rest = BeginWith (leaf (atom a) ∷ []) text rest
+
+-- The text before begins with the bytes of lead. What follows them is read in this way, and the text after is left.
+pub record Field (before lead : List ℕ) (Reads : List ℕ → List ℕ → Type 0) (after : List ℕ) : Type 0 where
+  pub from : List ℕ
+  pub leads : before ≡ lead ++ from
+  pub reads : Reads from after
+
+-- A map in the usual order of its keys is read as its form. Its text is cut before each key.
+pub usual_is : {n : ℕ} {t : MapType} {f : Function} {x : ℕ} {v : Value}
+    {text own at_type at_f at_value at_last rest : List ℕ} → IsUtf8 text → (text ≡ own) ⊎ (text ≡ 10 ∷ own)
+    → Field own (codes "{:process ") (ReadsAs (integer (pos n))) at_type
+    → Field at_type (codes ", :type ") (ReadsAs (keyword (type_name t))) at_f
+    → Field at_f (codes ", :f ") (ReadsAs (keyword (name_of f))) at_value
+    → Field at_value (codes ", :value ") (λ from after. ReadsValue from v after) at_last
+    → ReadsLast operation_keys at_last x rest
     → ReadsUsual text (record { process = n; map_type = t; function = Some f; object = x; value = Some v }) rest
 unfolding is_name
-usual_is n t f x v text own from_n after_n from_t after_t from_f after_f from_v after_v rest u feed qn bn qt bt qf bf
-    qv value last =
-    let d : Datum = value.form in
+usual_is {n} {t} {f} {x} {v} {text} {own} {at_type} {at_f} {at_value} {at_last} {rest} u feed process type function
+    value last =
+    let d : Datum = value.reads.form in
     let es_v : Entries = entry (codes "value") d last.pairs in
-    let v1 = form_pair (codes "value") d last.pairs after_f from_v after_v rest refl qv value.begins last.begins in
+    let v1 = form_pair (codes "value") d last.pairs at_value value.from at_last rest refl value.leads
+    value.reads.begins last.begins in
     let es_f : Entries = entry (codes "f") (atom (keyword (name_of f))) es_v in
-    let f1 = form_pair (codes "f") (atom (keyword (name_of f))) es_v after_t from_f after_f rest refl qf bf v1 in
+    let f1 = form_pair (codes "f") (atom (keyword (name_of f))) es_v at_f function.from at_value rest refl
+    function.leads function.reads v1 in
     let es_t : Entries = entry (codes "type") (atom (keyword (type_name t))) es_f in
-    let t1 = form_pair (codes "type") (atom (keyword (type_name t))) es_f after_n from_t after_t rest refl qt bt f1 in
+    let t1 = form_pair (codes "type") (atom (keyword (type_name t))) es_f at_type type.from at_f rest refl type.leads
+    type.reads f1 in
     let ts : List Token = entries_tokens es_t ++ close_map ∷ [] in
-    let n1 = first_field (codes "process") (leaf (atom (integer (pos n)))) ts own from_n rest refl qn
-    (both_begin (leaf (atom (integer (pos n))) ∷ []) ts from_n after_n rest bn t1) in
+    let n1 = first_field (codes "process") (leaf (atom (integer (pos n)))) ts own process.from rest refl process.leads
+    (both_begin (leaf (atom (integer (pos n))) ∷ []) ts process.from at_type rest process.reads t1) in
     whole_is (entry (codes "process") (atom (integer (pos n))) es_t) (map_with n t f x v) d text own rest u feed n1
-    (fits_with n t f d last.pairs value.fits last.lack last.fits) (client_is n t f x v d last.pairs last.object_is)
-    value.plain
+    (fits_with n t f d last.pairs value.reads.fits last.lack last.fits)
+    (client_is n t f x v d last.pairs last.object_is) value.reads.plain
 
--- ---- the same with the index and the time first
+-- ---- a map with its index and its time first
 
 abbrev indexed_with : ℤ → ℤ → ℕ → MapType → Function → Datum → Entries
 indexed_with i j n t f d =
@@ -265,46 +278,51 @@ indexed_with i j n t f d =
     (entry (codes "process") (atom (integer (pos n)))
     (entry (codes "f") (atom (keyword (name_of f))) (entry (codes "value") d no_entries)))))
 
--- the same of a map that begins with its index
+-- A map that begins with its index is as deep as its value allows, and has no key twice.
 indexed_fits : (i j : ℤ) (n : ℕ) (t : MapType) (f : Function) (d : Datum) → DatumFits 15 d
     → DatumFits 16 (dictionary (indexed_with i j n t f d))
 indexed_fits i j n t f d h = grind arith
 
--- it is a client's map too
+-- A map that begins with its index is a client's map.
 indexed_client : (i j : ℤ) (n : ℕ) (t : MapType) (f : Function) (v : Value) (d : Datum)
     → spec.client_of (dictionary (indexed_with i j n t f d)) ≡ Some (client_map (map_with n t f 0 v) d)
 indexed_client i j n t f v d =
     rw (type_is t, own_name f) refl
 
--- a map that begins with its index is read as its form
-pub index_first_is : (i j : ℤ) (n : ℕ) (t : MapType) (f : Function) (v : Value)
-    (text own from_i after_i from_j after_j from_t after_t from_n after_n from_f after_f from_v after_v rest : List ℕ)
-    → IsUtf8 text
-    → (text ≡ own) ⊎ (text ≡ 10 ∷ own) → own ≡ codes "{:index " ++ from_i
-    → BeginWith (leaf (atom (integer i)) ∷ []) from_i after_i
-    → after_i ≡ codes ", :time " ++ from_j → BeginWith (leaf (atom (integer j)) ∷ []) from_j after_j
-    → after_j ≡ codes ", :type " ++ from_t → BeginWith (leaf (atom (keyword (type_name t))) ∷ []) from_t after_t
-    → after_t ≡ codes ", :process " ++ from_n → BeginWith (leaf (atom (integer (pos n))) ∷ []) from_n after_n
-    → after_n ≡ codes ", :f " ++ from_f → BeginWith (leaf (atom (keyword (name_of f))) ∷ []) from_f after_f
-    → after_f ≡ codes ", :value " ++ from_v → ReadsValue from_v v after_v → after_v ≡ codes "}" ++ rest
+-- A map that begins with its index and its time is read as its form. Its text is cut before each key.
+pub index_first_is : {i j : ℤ} {n : ℕ} {t : MapType} {f : Function} {v : Value}
+    {text own at_time at_type at_process at_f at_value at_end rest : List ℕ}
+    → IsUtf8 text → (text ≡ own) ⊎ (text ≡ 10 ∷ own)
+    → Field own (codes "{:index ") (ReadsAs (integer i)) at_time
+    → Field at_time (codes ", :time ") (ReadsAs (integer j)) at_type
+    → Field at_type (codes ", :type ") (ReadsAs (keyword (type_name t))) at_process
+    → Field at_process (codes ", :process ") (ReadsAs (integer (pos n))) at_f
+    → Field at_f (codes ", :f ") (ReadsAs (keyword (name_of f))) at_value
+    → Field at_value (codes ", :value ") (λ from after. ReadsValue from v after) at_end
+    → at_end ≡ codes "}" ++ rest
     → ReadsUsual text (record { process = n; map_type = t; function = Some f; object = 0; value = Some v }) rest
 unfolding is_name
-index_first_is i j n t f v text own from_i after_i from_j after_j from_t after_t from_n after_n from_f after_f from_v
-    after_v rest u feed qi bi qj bj qt bt qn bn qf bf qv value q =
-    let d : Datum = value.form in
-    let end : BeginWith (close_map ∷ []) after_v rest = here after_v rest close_map q in
+index_first_is {i} {j} {n} {t} {f} {v} {text} {own} {at_time} {at_type} {at_process} {at_f} {at_value} {at_end} {rest}
+    u feed index time type process function value ends =
+    let d : Datum = value.reads.form in
+    let end : BeginWith (close_map ∷ []) at_end rest = here at_end rest close_map ends in
     let es_v : Entries = entry (codes "value") d no_entries in
-    let v1 = form_pair (codes "value") d no_entries after_f from_v after_v rest refl qv value.begins end in
+    let v1 = form_pair (codes "value") d no_entries at_value value.from at_end rest refl value.leads
+    value.reads.begins end in
     let es_f : Entries = entry (codes "f") (atom (keyword (name_of f))) es_v in
-    let f1 = form_pair (codes "f") (atom (keyword (name_of f))) es_v after_n from_f after_f rest refl qf bf v1 in
+    let f1 = form_pair (codes "f") (atom (keyword (name_of f))) es_v at_f function.from at_value rest refl
+    function.leads function.reads v1 in
     let es_n : Entries = entry (codes "process") (atom (integer (pos n))) es_f in
-    let n1 = form_pair (codes "process") (atom (integer (pos n))) es_f after_t from_n after_n rest refl qn bn f1 in
+    let n1 = form_pair (codes "process") (atom (integer (pos n))) es_f at_process process.from at_f rest refl
+    process.leads process.reads f1 in
     let es_t : Entries = entry (codes "type") (atom (keyword (type_name t))) es_n in
-    let t1 = form_pair (codes "type") (atom (keyword (type_name t))) es_n after_j from_t after_t rest refl qt bt n1 in
+    let t1 = form_pair (codes "type") (atom (keyword (type_name t))) es_n at_type type.from at_process rest refl
+    type.leads type.reads n1 in
     let es_j : Entries = entry (codes "time") (atom (integer j)) es_t in
-    let j1 = form_pair (codes "time") (atom (integer j)) es_t after_i from_j after_j rest refl qj bj t1 in
+    let j1 = form_pair (codes "time") (atom (integer j)) es_t at_time time.from at_type rest refl time.leads
+    time.reads t1 in
     let ts : List Token = entries_tokens es_j ++ close_map ∷ [] in
-    let i1 = first_field (codes "index") (leaf (atom (integer i))) ts own from_i rest refl qi
-    (both_begin (leaf (atom (integer i)) ∷ []) ts from_i after_i rest bi j1) in
+    let i1 = first_field (codes "index") (leaf (atom (integer i))) ts own index.from rest refl index.leads
+    (both_begin (leaf (atom (integer i)) ∷ []) ts index.from at_time rest index.reads j1) in
     whole_is (indexed_with i j n t f d) (map_with n t f 0 v) d text own rest u feed i1
-    (indexed_fits i j n t f d value.fits) (indexed_client i j n t f v d) value.plain
+    (indexed_fits i j n t f d value.reads.fits) (indexed_client i j n t f v d) value.reads.plain

@@ -44,7 +44,7 @@ stops_for_memory h (Faulty (HistoryMaps g)) es (a, ds, spells, first) d short =
 stops_for_memory h (Faulty (CertificateText e)) es f d short = absurd f
 stops_for_memory h (Faulty (CertificateForms g)) es f d short = absurd f
 
--- the same of a text of certificates
+-- A text of certificates with a faulty form has the failure that belongs to this fault.
 pub stopped_forms : (c : List ℕ) (f : CertFault) (s : TextFailure)
     → certificate_texts.IsCertTextFault c (Forms f)
     → IsTextFailureOf (CertificateForms f) s → IsCertificatesFault c s

@@ -95,7 +95,7 @@ answered objects i o reason (Ok r) lt is e none part shown why_not refused = λ 
 )
 answered objects i o reason (Err x) lt is e none part shown why_not refused = tt
 
--- it is not that the reason is of another object
+-- A check of a reason on its own object does not answer that the reason is of another one.
 pub own_number : (objects : List ObjectCalls) (o : ObjectCalls) (x : ℕ) (answer : Result ReasonAnswer AllocError)
     → o.object ≡ x
     → IfOk answer (λ r. r ≡ OtherObject → x ≢ o.object)

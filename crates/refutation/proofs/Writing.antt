@@ -15,7 +15,7 @@ use Rattle.edn_reader.specs.Datum.{Datum, entries_of, items_of, DatumFits, Items
 use Rattle.edn_reader.specs.Text.{text_of}
 use Rattle.edn_reader.specs.Laws.{EachSpelled}
 use Rattle.edn_reader.proofs.Joined.{lines_spell_them}
-use Rattle.edn.specs.Fields.{same_bytes, value_at}
+use Rattle.edn.specs.Fields.{max_object, same_bytes, value_at}
 use Rattle.cuts.specs.declared.keeping.Values.{Values}
 use Rattle.cuts.specs.declared.keeping.Values.TheVariants.{All, Only}
 use Rattle.cuts.specs.declared.cutting.Cut.{Cut}
@@ -255,9 +255,10 @@ basis_read (Search trial) t = search_read trial.first trial.steps t
 basis_read (Counting c) t = count_read c.counted c.from t
 basis_read (Ahead number from) t = ahead_read (from == 0) number from refl t.0 t.1
 
-datum_denotes : (r : Reason) → r.object ≤ 65535 → IsTypedReason r → reason_in (datum_of r)
-    ≡ Some (reason_seen r)
-datum_denotes r small t = rw (le-leb r.object 65535 small, cuts_read [] r.cuts.items t.0, basis_read r.basis t.1)
+datum_denotes : (r : Reason) → r.object ≤ max_object → IsTypedReason r
+    → reason_in (datum_of r) ≡ Some (reason_seen r)
+datum_denotes r small t =
+    rw (le-leb r.object max_object small, cuts_read [] r.cuts.items t.0, basis_read r.basis t.1)
 
 -- ---- the lines
 

@@ -136,7 +136,7 @@ module _ {kind : Kind} {items : List Operation} {floors return_floors : List ℕ
           (λ a b. let f = t.floors_right.below to.at k a b.0 (inl refl) in omega arith)
     ])
 
-    -- and so is a place whose call is
+    -- The place at hand is dead if its call was invoked after the least return.
     pub dead_too_late : (o : Operation) → as_call o ≡ call_at items to.at → to.window.least < 4294967295
         → to.window.least < o.number → IsDeadAt (length items) (call_at items) (places ls) here.content to.at
     dead_too_late o eo small late =

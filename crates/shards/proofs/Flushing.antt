@@ -51,7 +51,7 @@ count_same ws i w v l is same s = elim (cases_eq s i) [
   | inr ne ↦ at_others (λ x. x.count) 0 ws i v s ne
 ]
 
--- the same lines were written
+-- Maps that are taken into files are also taken into files with the same texts and tables.
 written_same : (count : ℕ) (d : Divider) (maps : List SpelledMap) (a b : Files) → ((s : ℕ) → b.texts s ≡ a.texts s)
     → ((s : ℕ) → b.tables s ≡ a.tables s) → AreMapsTaken count d maps a → AreMapsTaken count d maps b
 written_same count d maps a b texts tables t = record {

@@ -81,7 +81,7 @@ counts_pushed old new x one pushed at counts more h own others = record {
     none : In x old.large.items → ⊥
     none i = let l = (h.large x).0 (contains_from_in old.large.items x i) in omega (arith, l, there)
 
--- the same numbers
+-- A tally of some numbers is also a tally of numbers that are equal to them.
 pub tally_same : (t : Tally) (counts more : ℕ → ℕ) → IsTally t counts → ((y : ℕ) → more y ≡ counts y)
     → IsTally t more
 tally_same t counts more h same = record {

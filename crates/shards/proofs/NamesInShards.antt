@@ -26,7 +26,7 @@ upper_is q r count l =
     let some : 0 < count = omega (arith, l) in
     rw (← add-mod-mod q r count) (upper_with q (r % count) count l (mod_below r count some))
 
--- the same of a number with any number of names
+-- A number is found again from its shard and its name in the shard, for any number of names.
 named_back : (most count x : ℕ) → x / most < count
     → ((((x / most + x % most) % count + (count - x % most % most % count)) % count) * most + x % most % most) ≡ x
 named_back most count x l =

@@ -118,7 +118,7 @@ same_op name m n r = rw (r.function, r.value)
 same_reply : (name : ℕ → ℕ) (m n : ClientMap) → IsRenamed name m n → reply_in n ≡ reply_in m
 same_reply name m n r = rw (r.function, r.value)
 
--- the same action
+-- A map and its renamed map have the same action.
 pub same_action : (name : ℕ → ℕ) (m n : ClientMap) → IsRenamed name m n → action_of n.type n ≡ action_of m.type m
 same_action name m n r =
     let op = same_op name m n r in

@@ -25,7 +25,7 @@ values_same a b q = grind arith
 pub values_in_same : (a b : Option Value) → option_eq eq-value.it a b ≡ true → a ≡ b
 values_in_same a b q = grind (arith, values_same)
 
--- and so are functions
+-- Functions that are found equal are the same.
 pub functions_in_same : (a b : Option Function) → option_eq function_eq.it a b ≡ true → a ≡ b
 functions_in_same None None q = refl
 functions_in_same (Some f) (Some g) q = ap Some (same_true the_type (search rules) f g q)

@@ -18,7 +18,7 @@ use Rattle.events.proofs.ProcessRuns.{State, idle, state_by, MayDo, Runs, runs_f
 use Rattle.shards.specs.Shards.{said, AreRenumbered, DenoteLinearizable}
 use Rattle.shards.proofs.Proper.{proper_of_kinds, proper_from}
 
--- the same events, one by one
+-- the events of two lists say the same, one by one
 abbrev pub AreSame : List Event → List Event → Type 0
 AreSame es fs = AllZip (λ e f. said e ≡ said f) es fs
 

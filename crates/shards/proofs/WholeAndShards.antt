@@ -27,13 +27,13 @@ calls_kept has x es own proper =
     ∙ (ap calls_of (operations_owned has x es own (λ p. (idle, runs_from_start es p proper)))
     ∙ proper_calls es proper x)
 
--- and the same kind
+-- An object has the same kind among the events on objects with it.
 kind_kept : (has : ℕ → Bool) (x : ℕ) (es : List Event) → has x ≡ true → kind_of_object (events_on has es) x
     ≡ kind_of_object es x
 kind_kept has x [] own = refl
 kind_kept has x (e ∷ es) own = grind (arith, nat_tests, kind_kept has x es own)
 
--- so it has a valid order among them where it has one among all
+-- An object that has a valid order among all events has one among the events on objects with it.
 order_kept : (has : ℕ → Bool) (x : ℕ) (es : List Event) → has x ≡ true → IsProper es → OrderedAt es x
     → OrderedAt (events_on has es) x
 order_kept has x es own proper =

@@ -83,7 +83,7 @@ not_below n (j ∷ js) l i = elim (in_append l (journal_lines n j) (lines_in (n 
   | inr k ↦ let h = not_below (n + 1) js l k in omega arith
 ]
 
--- those of one client
+-- The lines of one client among all lines are those of its journal.
 lines_at : (n : ℕ) (js : List (List AnyEvent)) (k : ℕ)
     → filter (λ l. l.event.process == n + k) (lines_in n js) ≡ journal_lines (n + k) (get_or js k [])
 lines_at n [] k = refl
@@ -103,7 +103,7 @@ lines_at n (j ∷ js) (suc k) =
     (λ l i. ne_eqb l.event.process (n + suc k) (λ e. let h = of_client n None j l i in absurd (omega arith))) in
     rw (filter-append P (journal_lines n j) (lines_in (n + 1) js), own, there) (lines_at (n + 1) js k)
 
--- where those of each client rise, and no number is of two clients, no number stands twice
+-- If the numbers of each client rise, and none is of two clients, no number stands twice.
 apart : (n : ℕ) (js : List (List AnyEvent))
     → ((k : ℕ) → Pairs (λ a b. number_in a < number_in b) (journal_lines (n + k) (get_or js k [])))
     → ((a b : Line) → In a (lines_in n js) → In b (lines_in n js) → number_in a ≡ number_in b
@@ -119,17 +119,17 @@ apart n (j ∷ js) up same =
     (apart (n + 1) js
     (λ k. let there : n + suc k ≡ (n + 1) + k = omega arith in
     subst (λ (m : ℕ). Pairs (λ a b. number_in a < number_in b) (journal_lines m (get_or js k []))) there (up (suc k)))
-    (λ a b i k. same a b (behind a i) (behind b k)))
+    (λ a b i k. same a b (after_here a i) (after_here b k)))
     (λ a b i k e. omega
-    (arith, of_client n None j a i, not_below (n + 1) js b k, same a b (before a i) (behind b k) e))
+    (arith, of_client n None j a i, not_below (n + 1) js b k, same a b (before a i) (after_here b k) e))
   where
     before : (a : Line) → In a (journal_lines n j) → In a (lines_in n (j ∷ js))
     before a i = in_left a (journal_lines n j) (lines_in (n + 1) js) i
 
-    behind : (a : Line) → In a (lines_in (n + 1) js) → In a (lines_in n (j ∷ js))
-    behind a i = in_right a (journal_lines n j) (lines_in (n + 1) js) i
+    after_here : (a : Line) → In a (lines_in (n + 1) js) → In a (lines_in n (j ∷ js))
+    after_here a i = in_right a (journal_lines n j) (lines_in (n + 1) js) i
 
--- sorted, they rise
+-- Lines with different numbers, sorted so that none falls, rise strictly.
 sorted_rises : {X : Type 0} (n : X → ℕ) (xs ys : List X) → AllPairs (λ a b. n a ≢ n b) xs → IsPermutation xs ys
     → IsNonDecreasingBy n ys → AllPairs (λ a b. n a < n b) ys
 sorted_rises {X = X} n xs ys distinct p up i j d low high =

@@ -49,7 +49,7 @@ module _ {O R : Type 0} (op_in : O → AnyOp) (reply_in : R → AnyReply) (r : R
   past : (c : ℕ) → length r.journals ≤ c → journals_in op_in reply_in r c ≡ []
   past c high = ap (map (event_in op_in reply_in)) (get_or_past r.journals c [] high)
 
-  -- so no line is of a client past the last
+  -- No line is of a client past the last.
   pub clients_low : (n : ℕ) → length r.journals < n → (ls : List Line) → AreLinesOf (journals_in op_in reply_in r) ls
       → All (λ l. l.event.process < n) ls
   clients_low n few ls are = all_from_in (λ (l : Line). l.event.process < n) ls (λ l i. low l i)

@@ -57,7 +57,7 @@ apart os n i h k d l s = go (ranked (get_or os k d).object n) (cases_order k i)
 -- ---- one claim
 
 module _ (objects : List ObjectCalls) (limit : ℕ) (e : Claim) (old : List (ℕ × Decision)) where
-  -- it is on none of the objects
+  -- A claim on none of the objects changes no decision.
   pub not_there : (i : ℕ)
       → IsPartitionPoint (λ o. nat_cmp o.object (claim_object e) ≡ Less)
       (λ o. nat_cmp o.object (claim_object e) ≡ Greater)
@@ -76,7 +76,7 @@ module _ (objects : List ObjectCalls) (limit : ℕ) (e : Claim) (old : List (ℕ
   is_own k n own number is eq =
       sym (ap (λ (o : ObjectCalls). o.object) is ∙ ranked (get_or objects k own).object n Equal (sym eq) ∙ number)
 
-  -- it is on the object at this place
+  -- A claim on the object at a place changes the decision at this place.
   pub taken : (at : ℕ) (own : ObjectCalls) (n m : ℕ) (between next : Decision)
       → AllPairs (λ a b. a.object < b.object) objects → at < length objects
       → length old ≡ length objects → own ≡ get_or objects at own → claim_object e ≡ own.object
@@ -136,7 +136,7 @@ as_many objects answers e =
     sym (length-map answers (λ (a : ℕ × Decision). a.0)) ∙ ap length e
     ∙ length-map objects (λ (o : ObjectCalls). o.object)
 
--- as many answers as objects
+-- There are as many answers as objects.
 pub same_length : (objects : List ObjectCalls) (claims : List Claim) (limit : ℕ) (answers : List (ℕ × Decision))
     → AreDecided objects claims limit answers → length answers ≡ length objects
 same_length objects claims limit answers h = as_many objects answers h.numbers

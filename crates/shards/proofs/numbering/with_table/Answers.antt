@@ -14,7 +14,7 @@ numbered : (c : In_ok-renumber)
 numbered c =
     c.in_ok-renumber.ensures.numbered ∙ rw (c.deref.ensures.value, c.events-events.ensures.events)
 
--- and these fit
+-- The numbers that were read fit the table and the history.
 fitting : (c : In_ok-renumber) → FitsTable c.in_ok-numbers.numbers.items c.args.table.now c.args.history
 fitting c =
     let value = c.deref.ensures.value in
