@@ -253,58 +253,89 @@ module _ {S O R : Type 0} (content : S → Content) (op_in : O → AnyOp) (reply
 
   -- ---- a client's first step
 
+  -- a client that has not come takes its two slots out
+  module _ {state : State (Slot S O R) DeskView} (rule : DeskRule state) (id : ℕ) (me : Me (Slot S O R) DeskView)
+      (is_client : me.0.role ≡ role.Client) (at : get_elem? state.views id ≡ some me.0)
+      (is : me.0.own ≡ own.Absent) (going : me.0.ended ≡ false) where
+    -- the number of the client
+    abbrev client_known : ℕ
+    client_known = me.0.number
+
+    -- the slots without that of the client's journal
+    abbrev homes_between : List (maybe.Option (Slot S O R))
+    homes_between = set state.homes (journal_slot client_known) maybe.none
+
+    -- The client is not there yet.
+    was_absent : rule.world.stage client_known ≡ absent
+    was_absent =
+        let ok = mine rule id is_client at in subst (λ o. OwnCallAgrees o (rule.world.stage client_known)) is ok.own
+
+    -- The slot of the client's journal is empty.
+    journal_home : get_elem? state.homes (journal_slot client_known) ≡ some (some slot.Nothing)
+    journal_home =
+        let ok = mine rule id is_client at in (rule.tied.journals client_known ok.small).at_first was_absent
+
+    -- The slot of the client's requests and answers is empty, also when that of its journal is out.
+    call_home : get_elem? homes_between (call_slot client_known) ≡ some (some slot.Nothing)
+    call_home =
+        let ok = mine rule id is_client at in
+        let call : get_elem? state.homes (call_slot client_known) ≡ some (some slot.Nothing) =
+        subst (CallAt content op_in reply_in (get_elem? state.homes (call_slot client_known))) was_absent
+        (rule.tied.calls client_known ok.small) in
+        set_else state.homes (journal_slot client_known) (call_slot client_known) maybe.none (λ e. omega arith) ∙ call
+
+    -- what the rule asks of the world after the client has come
+    after_beginning : After rule me.0 (with_own own.Idle me.0)
+        (set state.words (row_place client_known) (get_or state.words (row_place client_known) 0))
+        (set homes_between (call_slot client_known) maybe.none)
+    after_beginning =
+        let world : World = rule.world in
+        let client : ℕ = me.0.number in
+        let ok = mine rule id is_client at in
+        let was : world.stage client ≡ absent = was_absent in
+        let found : ℕ = get_or state.words (row_place client) 0 in
+        let word : found ≡ row_word (world.stage client) = rule.tied.rows client ok.small in
+        record {
+          world = staged world client idle;
+          holders = rule.holders;
+          come = come_after clients world client idle (rule.makers.numbers id me.0 at is_client) rule.come;
+          sound = sound_coming kinds quota world client was rule.sound;
+          -- the words and the slots agree with the new world
+          tied = tied_coming client found idle ok.small (λ e. absurd (cc)) (ok.ended ∙ going) (word ∙ ap row_word was)
+              (λ home. tt) rule.tied;
+          leave = row_leaves world client idle (ap request_of was);
+          -- the other clients keep what they know
+          others = λ another other. later_gone world world.clock client idle world.done another (λ p e. absurd cc)
+              (λ p e. absurd cc) refl other;
+          -- the client has come, and has no call yet
+          own = seat_unanswered world world.clock client idle world.done kinds me.0 own.Idle me.0.done
+              (λ p e. absurd cc) (λ p e. absurd cc) (λ p a e. absurd cc) refl ok.done
+              (covers_own kinds world client me.0 own.Absent is ok) ok;
+        }
+
   -- the first step of a client keeps the rule: it takes its two slots out
   pub begin_keeps_rule : (slots id client : ℕ) (me : Me (Slot S O R) DeskView) → me.0.role ≡ role.Client
       → me.0.number ≡ client
       → client < max_clients → me.0.own ≡ own.Absent → me.0.held ≡ held.Free → me.0.ended ≡ false
       → Allows DeskRule slots id me (row_place client) (λ f. f)
       (play.begins content op_in reply_in (step slots (row_place client) 0 0 maybe.none) me)
-  begin_keeps_rule slots id client me is_client number low is free going state rule deep at small =
-      let world : World = rule.world in
-      let found : ℕ = get_or state.words (row_place client) 0 in
-      let ok = subst (λ z. SeatAgrees kinds world z me.0) number (mine rule id is_client at) in
-      let was : world.stage client ≡ absent = subst (λ o. OwnCallAgrees o (world.stage client)) is ok.own in
-      let word : found ≡ row_word (world.stage client) = rule.tied.rows client low in
-      let numbered : client < clients = subst (λ z. z < clients) number (rule.makers.numbers id me.0 at is_client) in
-      let world' : World = staged world client idle in
+  begin_keeps_rule slots id client me is_client number low is free going =
+      subst
+      (λ z. Allows DeskRule slots id me (row_place z) (λ f. f)
+      (play.begins content op_in reply_in (step slots (row_place z) 0 0 maybe.none) me)) number
+      (λ state rule deep at small.
+      let here : ℕ = me.0.number in
       let view' : DeskView = with_own own.Idle me.0 in
-      -- the client's two slots are at home
-      let homes : List (maybe.Option (Slot S O R)) = set state.homes (journal_slot client) maybe.none in
-      let journal : get_elem? state.homes (journal_slot client) ≡ some (some slot.Nothing) =
-      (rule.tied.journals client low).at_first was in
-      let call : get_elem? state.homes (call_slot client) ≡ some (some slot.Nothing) =
-      subst (CallAt content op_in reply_in (get_elem? state.homes (call_slot client))) was
-      (rule.tied.calls client low) in
-      let call' : get_elem? homes (call_slot client) ≡ some (some slot.Nothing) =
-      set_else state.homes (journal_slot client) (call_slot client) maybe.none (λ e. omega arith) ∙ call in
-      let after : After rule me.0 view' (set state.words (row_place client) found)
-      (set homes (call_slot client) maybe.none) =
-      record {
-        world = world';
-        holders = rule.holders;
-        come = come_after clients world client idle numbered rule.come;
-        sound = sound_coming kinds quota world client was rule.sound;
-        -- the words and the slots agree with the new world
-        tied = tied_coming client found idle low (λ e. absurd (cc)) (ok.ended ∙ going) (word ∙ ap row_word was)
-            (λ home. tt) rule.tied;
-        leave = row_leaves world client idle (ap request_of was);
-        -- the other clients keep what they know
-        others = λ another other. later_gone world world.clock client idle world.done another (λ p e. absurd cc)
-            (λ p e. absurd cc) refl (λ e. other (e ∙ sym number));
-        -- the client has come, and has no call yet
-        own = subst (λ z. SeatAgrees kinds world' z view') (sym number)
-            (seat_unanswered world world.clock client idle world.done kinds me.0 own.Idle me.0.done (λ p e. absurd cc)
-            (λ p e. absurd cc) (λ p a e. absurd cc) refl ok.done (covers_own kinds world client me.0 own.Absent is ok)
-            ok);
-      } in
-      let told : play.begins content op_in reply_in (step slots (row_place client) 0 0 maybe.none) me found
-      (view', (call_slot client, slot.Nothing) ∷ (journal_slot client, slot.Nothing) ∷ me.1) =
+      let after = after_beginning rule id me is_client at is going in
+      let told : play.begins content op_in reply_in (step slots (row_place here) 0 0 maybe.none) me
+      (get_or state.words (row_place here) 0)
+      (view', (call_slot here, slot.Nothing) ∷ (journal_slot here, slot.Nothing) ∷ me.1) =
       λ client' place.
-      let same : client ≡ client' = omega arith in
+      let same : here ≡ client' = omega arith in
       ap (λ (z : ℕ). (view', (call_slot z, slot.Nothing) ∷ (journal_slot z, slot.Nothing) ∷ me.1)) same in (
         view',
-        chain (takes (journal_slot client) slot.Nothing) (takes (call_slot client) slot.Nothing),
-        (journal, call'),
+        chain (takes (journal_slot here) slot.Nothing) (takes (call_slot here) slot.Nothing),
+        (journal_home rule id me is_client at is going, call_home rule id me is_client at is going),
         kept_after rule id view' at is_client alike after,
         told,
-      )
+      ))

@@ -164,57 +164,55 @@ module _ {S O R : Type 0} (content : S → Content) (op_in : O → AnyOp) (reply
       let is = rule.tied.clock in
       omega arith
 
-  -- drawing keeps the rule, where the object of the request is there in each state
-  draws_where : (slots id i : ℕ) (me : Me (Slot S O R) DeskView) (sent : Request O) (more : List (ℕ × Slot S O R))
-      → me.0.role ≡ role.Client
-      → me.0.own ≡ own.Idle → me.0.ended ≡ false → me.1 ≡ (i, slot.Request sent) ∷ more
-      → ((state : State (Slot S O R) DeskView) → DeskRule state → get_elem? state.views id ≡ some me.0
-      → sent.object < length kinds)
-      → kind_of (op_in sent.op) ≡ kind_at kinds sent.object → length me.0.done < quota
-      → Allows DeskRule slots id me clock_place (λ x. (x + 1) % 2 ^ 64)
-      (play.draws content op_in reply_in (step slots clock_place 1 0 maybe.none) me)
-  draws_where slots id i me sent more is_client is going carried on fits few state rule deep at small =
-      let world : World = rule.world in
-      let client : ℕ = me.0.number in
-      let found : ℕ = get_or state.words clock_place 0 in
-      let ok = mine rule id is_client at in
-      let over = ok.done in
-      let was : world.stage client ≡ idle = subst (λ o. OwnCallAgrees o (world.stage client)) is ok.own in
-      let ticket : found ≡ world.clock = rule.tied.clock in
-      let few' : calls_made (world.done client) None < quota =
-      subst (λ z. calls_made z None < quota) over (omega arith) in
-      -- the client goes on to the call that is drawn
-      let request : AnyRequest = request_in op_in (record sent { ticket = found }) in
-      let stage : Stage = drawn request in
-      let dones : ℕ → List AnyDone = changed world.done client (world.done client) in
-      let same : (d : ℕ) → d ≢ client → dones d ≡ world.done d = changed_else world.done client (world.done client) in
-      let view' : DeskView = with_own (own.Drawn request) me.0 in
-      let unpicked : NotPicked (world.stage client) = λ q e. absurd cc in
-      let unposted : NotPosted (world.stage client) = λ q e. absurd cc in
-      let unanswered : NotAnswered (world.stage client) = λ q a e. absurd cc in
-      let after : After rule me.0 view' (set state.words clock_place ((found + 1) % 2 ^ 64)) state.homes = record {
-        world = ticked world client stage (world.done client);
-        holders = rule.holders;
-        come = come_after clients world client stage (rule.makers.numbers id me.0 at is_client) rule.come;
-        sound = sound_called kinds quota world client request ok.small was few' (on state rule at) fits ticket
-            rule.sound;
-        -- the words and the slots agree with the new world
-        tied = tied_clock client ((found + 1) % 2 ^ 64) stage (world.done client) (λ e. absurd (cc)) (ok.ended ∙ going)
-            (ap row_word was) (λ home. tt) (more_by_one state rule) rule.tied;
-        leave = gone_leaves world (world.clock + 1) client stage dones (ok.ended ∙ going) same;
-        -- the other clients keep what they know
-        others = λ another other. later_gone world (world.clock + 1) client stage dones another unpicked unposted
-            (same another other) other;
-        -- the own call has its ticket
-        own = seat_unanswered world (world.clock + 1) client stage dones kinds me.0 (own.Drawn request) me.0.done
-            unpicked unposted unanswered refl (over ∙ sym (changed_here world.done client (world.done client)))
-            (covers_own kinds world client me.0 own.Idle is ok) ok;
-      } in
-      let told : play.draws content op_in reply_in (step slots clock_place 1 0 maybe.none) me found (view', me.1) =
-      λ i' sent' more' carried'. ap
-      (λ (z : Request O). (with_own (own.Drawn (request_in op_in (record z { ticket = found }))) me.0, me.1))
-      (ap (request_carried sent) (sym carried ∙ carried')) in
-      (view', keeps, tt, kept_after rule id view' at is_client alike after, told)
+  -- a client that has no call draws the ticket of the request that it has in hand
+  module _ {state : State (Slot S O R) DeskView} (rule : DeskRule state) (id : ℕ) (me : Me (Slot S O R) DeskView)
+      (sent : Request O) (is_client : me.0.role ≡ role.Client) (at : get_elem? state.views id ≡ some me.0)
+      (is : me.0.own ≡ own.Idle) (going : me.0.ended ≡ false) where
+    -- the ticket that is drawn
+    abbrev ticket_drawn : ℕ
+    ticket_drawn = get_or state.words clock_place 0
+
+    -- the request with its ticket
+    abbrev request_drawn : AnyRequest
+    request_drawn = request_in op_in (record sent { ticket = ticket_drawn })
+
+    -- what the rule asks of the world after the ticket was drawn
+    after_drawing : sent.object < length kinds → kind_of (op_in sent.op) ≡ kind_at kinds sent.object
+        → length me.0.done < quota
+        → After rule me.0 (with_own (own.Drawn request_drawn) me.0)
+        (set state.words clock_place ((ticket_drawn + 1) % 2 ^ 64)) state.homes
+    after_drawing on fits few =
+        let world : World = rule.world in
+        let client : ℕ = me.0.number in
+        let ok = mine rule id is_client at in
+        let over = ok.done in
+        let was : world.stage client ≡ idle = subst (λ o. OwnCallAgrees o (world.stage client)) is ok.own in
+        let few' : calls_made (world.done client) None < quota =
+        subst (λ z. calls_made z None < quota) over (omega arith) in
+        let stage : Stage = drawn request_drawn in
+        let dones : ℕ → List AnyDone = changed world.done client (world.done client) in
+        let same : (d : ℕ) → d ≢ client → dones d ≡ world.done d = changed_else world.done client (world.done client) in
+        let unpicked : NotPicked (world.stage client) = λ q e. absurd cc in
+        let unposted : NotPosted (world.stage client) = λ q e. absurd cc in
+        let unanswered : NotAnswered (world.stage client) = λ q a e. absurd cc in
+        record {
+          world = ticked world client stage (world.done client);
+          holders = rule.holders;
+          come = come_after clients world client stage (rule.makers.numbers id me.0 at is_client) rule.come;
+          sound = sound_called kinds quota world client request_drawn ok.small was few' on fits rule.tied.clock
+              rule.sound;
+          -- the words and the slots agree with the new world
+          tied = tied_clock client ((ticket_drawn + 1) % 2 ^ 64) stage (world.done client) (λ e. absurd (cc))
+              (ok.ended ∙ going) (ap row_word was) (λ home. tt) (more_by_one state rule) rule.tied;
+          leave = gone_leaves world (world.clock + 1) client stage dones (ok.ended ∙ going) same;
+          -- the other clients keep what they know
+          others = λ another other. later_gone world (world.clock + 1) client stage dones another unpicked unposted
+              (same another other) other;
+          -- the own call has its ticket
+          own = seat_unanswered world (world.clock + 1) client stage dones kinds me.0 (own.Drawn request_drawn)
+              me.0.done unpicked unposted unanswered refl (over ∙ sym (changed_here world.done client (world.done client)))
+              (covers_own kinds world client me.0 own.Idle is ok) ok;
+        }
 
   -- drawing keeps the rule, where the object of the request is there
   pub draw_keeps_rule : (slots id i : ℕ) (me : Me (Slot S O R) DeskView) (sent : Request O)
@@ -223,8 +221,15 @@ module _ {S O R : Type 0} (content : S → Content) (op_in : O → AnyOp) (reply
       → sent.object < length kinds → kind_of (op_in sent.op) ≡ kind_at kinds sent.object → length me.0.done < quota
       → Allows DeskRule slots id me clock_place (λ x. (x + 1) % 2 ^ 64)
       (play.draws content op_in reply_in (step slots clock_place 1 0 maybe.none) me)
-  draw_keeps_rule slots id i me sent more is_client is going carried on fits few =
-      draws_where slots id i me sent more is_client is going carried (λ state rule at. on) fits few
+  draw_keeps_rule slots id i me sent more is_client is going carried on fits few state rule deep at small =
+      let found : ℕ = get_or state.words clock_place 0 in
+      let view' : DeskView = with_own (own.Drawn (request_in op_in (record sent { ticket = found }))) me.0 in
+      let after = after_drawing rule id me sent is_client at is going on fits few in
+      let told : play.draws content op_in reply_in (step slots clock_place 1 0 maybe.none) me found (view', me.1) =
+      λ i' sent' more' carried'. ap
+      (λ (z : Request O). (with_own (own.Drawn (request_in op_in (record z { ticket = found }))) me.0, me.1))
+      (ap (request_carried sent) (sym carried ∙ carried')) in
+      (view', keeps, tt, kept_after rule id view' at is_client alike after, told)
 
   -- ---- posting the request
 
