@@ -39,7 +39,7 @@ module _ {Said X : Type 0} (said_by : Datum → Option Said) (seen : X → Said)
       ∙ ap (λ o. map (λ y. Some (seen y)) xs ++ o ∷ []) own
       ∙ sym (map-append (λ y. Some (seen y)) xs (x ∷ []))
 
-  -- if the next form is such a thing too, so are the forms up to it
+  -- If the next form is read as a thing, the forms up to it are read as the things so far and this one.
   pub next_read : (fs : List Form) (i : ℕ) (f : Form) (xs : List X) (x : X) → i < length fs → f ≡ get_or fs i f
       → AreRead (views (take i fs)) xs → said_by (view f) ≡ Some (seen x)
       → AreRead (views (take (i + 1) fs)) (xs ++ x ∷ [])

@@ -228,7 +228,7 @@ part_skip old new ds d h none ignored same =
 
 -- ---- no maps
 
--- what is kept is the same by other functions
+-- What is kept of forms by two functions is also kept by functions that are equal to these.
 pub seen_same : (old new : ℕ → Option Process) (was now : ℕ → Option Kind) (ds : List Datum) → IsSeenBy old was ds
     → ((p : ℕ) → new p ≡ old p) → ((x : ℕ) → now x ≡ was x) → IsSeenBy new now ds
 seen_same old new was now ds h same_processes same_kinds = record {

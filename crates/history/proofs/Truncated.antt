@@ -36,7 +36,7 @@ plain_of_truncated o = refl
 
 -- ---- the map
 
--- a map with another value, of which the same is kept
+-- A client's map stays one if its value is replaced by one of which the same is kept.
 another : (p : Option ℕ) (t : Option MapType) (f : Option (List ℕ)) (x : Option ℕ) (v w : Datum) (c : code.ClientMap)
     → plain_value v ≡ plain_value w
     → IsClient (Some c) (client_with p t f x v) → IsClient (Some c) (client_with p t f x w)
@@ -49,7 +49,7 @@ another (Some p) (Some t) (Some f) (Some x) v w c e (u, q, k) =
     )
 another p t f x v w c e h = absurd cc
 
--- a map with another value is no client's map either
+-- A map that is no client's map stays none with any other value.
 no_other : (p : Option ℕ) (t : Option MapType) (f : Option (List ℕ)) (x : Option ℕ) (v w : Datum)
     → client_with p t f x v ≡ None → client_with p t f x w ≡ None
 no_other p t f x v w e = grind arith
