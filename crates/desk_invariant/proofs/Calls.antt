@@ -176,7 +176,7 @@ module _ {S O R : Type 0} (content : S → Content) (op_in : O → AnyOp) (reply
     abbrev request_drawn : AnyRequest
     request_drawn = request_in op_in (record sent { ticket = ticket_drawn })
 
-    -- what the rule asks of the world after the ticket was drawn
+    -- The world after the ticket was drawn is as the rule asks.
     after_drawing : sent.object < length kinds → kind_of (op_in sent.op) ≡ kind_at kinds sent.object
         → length me.0.done < quota
         → After rule me.0 (with_own (own.Drawn request_drawn) me.0)
@@ -210,7 +210,8 @@ module _ {S O R : Type 0} (content : S → Content) (op_in : O → AnyOp) (reply
               (same another other) other;
           -- the own call has its ticket
           own = seat_unanswered world (world.clock + 1) client stage dones kinds me.0 (own.Drawn request_drawn)
-              me.0.done unpicked unposted unanswered refl (over ∙ sym (changed_here world.done client (world.done client)))
+              me.0.done unpicked unposted unanswered
+              refl (over ∙ sym (changed_here world.done client (world.done client)))
               (covers_own kinds world client me.0 own.Idle is ok) ok;
         }
 
@@ -369,7 +370,7 @@ module _ {S O R : Type 0} (content : S → Content) (op_in : O → AnyOp) (reply
     MayTake = AllowsIn content op_in reply_in kinds clients quota state id me (row_place client_known)
         (λ f. either (eqb f answered_word) 0 f) (play.takes_answer content op_in reply_in try_to_take me)
 
-    -- the word of the row is that of the call's stage
+    -- The word of the client's row is that of its call's stage.
     word_there : found_there ≡ row_word (rule.world.stage client_known)
     word_there = let ok = mine rule id is_client at in rule.tied.rows client_known ok.small
 
@@ -388,7 +389,7 @@ module _ {S O R : Type 0} (content : S → Content) (op_in : O → AnyOp) (reply
       abbrev view_taken : DeskView
       view_taken = after_take request (answer_in reply_in given) log_there me.0
 
-      -- the client's own entries in the log are its calls that are over, and this one
+      -- The client's own entries in the log are its calls that are over, and this one.
       calls_there : entries_of_client client_known log_there
           ≡ served request.object client_known me.0.done
           ++ logged_on request.object client_known request (answer_in reply_in given)
@@ -416,7 +417,7 @@ module _ {S O R : Type 0} (content : S → Content) (op_in : O → AnyOp) (reply
           seat_gone world world.clock client stage_taken world.done kinds (after_meet object log_there me.0)
           (own.Taken request (answer_in reply_in given)) me.0.done unpicked unposted refl ok.done covers seat
 
-      -- the world after the answer was taken
+      -- The world after the answer was taken is as the rule asks.
       after_taking : request.object < max_objects
           → After rule me.0 view_taken (set state.words (row_place client_known) 0)
           (set state.homes (call_slot client_known) maybe.none)
@@ -443,7 +444,7 @@ module _ {S O R : Type 0} (content : S → Content) (op_in : O → AnyOp) (reply
             own = taker_agrees low;
           }
 
-      -- what the client is told of the answer and the log
+      -- The client is told of the answer and of the log.
       taken_told : IsTaken me (view_taken, (call_slot client_known, slot.Answer given) ∷ me.1) client_known request
           given log_there
       taken_told =
