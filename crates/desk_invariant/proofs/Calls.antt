@@ -389,6 +389,18 @@ module _ {S O R : Type 0} (content : S → Content) (op_in : O → AnyOp) (reply
       abbrev view_taken : DeskView
       view_taken = after_take request (answer_in reply_in given) log_there me.0
 
+      -- the client with its slots after the answer was taken
+      abbrev me_taken : Me (Slot S O R) DeskView
+      me_taken = (view_taken, (call_slot client_known, slot.Answer given) ∷ me.1)
+
+      -- The request of the client is in no hand, since it is answered.
+      not_picked : NotPicked (rule.world.stage client_known)
+      not_picked q e = absurd cc
+
+      -- The request of the client is not in its row, since it is answered.
+      not_posted : NotPosted (rule.world.stage client_known)
+      not_posted q e = absurd cc
+
       -- The client's own entries in the log are its calls that are over, and this one.
       calls_there : entries_of_client client_known log_there
           ≡ served request.object client_known me.0.done
@@ -412,10 +424,8 @@ module _ {S O R : Type 0} (content : S → Content) (op_in : O → AnyOp) (reply
           saw kinds world client object me.0 log_there low (starts_same log_there) whole ok in
           let covers =
           covers_taken world client me.0 request (answer_in reply_in given) log_there is (omega arith) calls_there ok in
-          let unpicked : NotPicked (world.stage client) = λ q e. absurd cc in
-          let unposted : NotPosted (world.stage client) = λ q e. absurd cc in
           seat_gone world world.clock client stage_taken world.done kinds (after_meet object log_there me.0)
-          (own.Taken request (answer_in reply_in given)) me.0.done unpicked unposted refl ok.done covers seat
+          (own.Taken request (answer_in reply_in given)) me.0.done not_picked not_posted refl ok.done covers seat
 
       -- The world after the answer was taken is as the rule asks.
       after_taking : request.object < max_objects
@@ -425,28 +435,25 @@ module _ {S O R : Type 0} (content : S → Content) (op_in : O → AnyOp) (reply
           let world : World = rule.world in
           let client : ℕ = client_known in
           let ok = mine rule id is_client at in
-          let unpicked : NotPicked (world.stage client) = λ q e. absurd cc in
-          let unposted : NotPosted (world.stage client) = λ q e. absurd cc in
           record {
             world = staged world client stage_taken;
             holders = rule.holders;
             come = come_after clients world client stage_taken (rule.makers.numbers id me.0 at is_client) rule.come;
-            sound = sound_staged kinds quota world client stage_taken unpicked (λ q e. absurd (cc))
+            sound = sound_staged kinds quota world client stage_taken not_picked (λ q e. absurd (cc))
                 (ap request_of (sym was)) (λ e. absurd (cc)) (λ y. ap (served_now y client) (sym was)) rule.sound;
             -- the words and the slots agree with the new world
             tied = tied_row client 0 stage_taken world.hand world.log maybe.none ok.small (λ y _. refl)
                 (λ e. absurd (cc)) (ap request_of (sym was)) refl tt rule.tied;
             leave = row_leaves world client stage_taken (ap request_of was);
             -- the other clients keep what they know
-            others = λ another other. later_gone world world.clock client stage_taken world.done another unpicked
-                unposted refl other;
+            others = λ another other. later_gone world world.clock client stage_taken world.done another not_picked
+                not_posted refl other;
             -- the own call has its answer
             own = taker_agrees low;
           }
 
       -- The client is told of the answer and of the log.
-      taken_told : IsTaken me (view_taken, (call_slot client_known, slot.Answer given) ∷ me.1) client_known request
-          given log_there
+      taken_told : IsTaken me me_taken client_known request given log_there
       taken_told =
           let ok = mine rule id is_client at in
           record {
@@ -460,15 +467,11 @@ module _ {S O R : Type 0} (content : S → Content) (op_in : O → AnyOp) (reply
 
       -- A hit tells what the step promises, by whichever names the call and the row have, and is no miss.
       hit_told : found_there ≡ answered_word
-          → play.takes_answer content op_in reply_in try_to_take me found_there
-          (view_taken, (call_slot client_known, slot.Answer given) ∷ me.1)
+          → play.takes_answer content op_in reply_in try_to_take me found_there me_taken
       hit_told hit d q own_row here waiting =
           let same : request ≡ q = ap (request_known request) (sym is ∙ waiting) in
-          let t = subst (λ (z : ℕ × AnyRequest). IsTaken me (
-            view_taken,
-            (call_slot client_known, slot.Answer given)
-                ∷ me.1,
-          ) z.0 z.1 given log_there) (λ i. (own_row i, same i)) taken_told in
+          let t = subst (λ (z : ℕ × AnyRequest). IsTaken me me_taken z.0 z.1 given log_there)
+          (λ i. (own_row i, same i)) taken_told in
           ((λ _. (given, log_there, t.hand, t.legal, t.begins, t.calls)), λ miss. absurd (miss hit))
 
       -- The table allows the try if the answer is in its slot.

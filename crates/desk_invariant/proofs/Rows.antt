@@ -282,6 +282,10 @@ module _ {S O R : Type 0} (content : S → Content) (op_in : O → AnyOp) (reply
       abbrev view_picked : DeskView
       view_picked = after_pick object log row (request_in op_in sent) me.0
 
+      -- the client with its slots after it has picked the request up
+      abbrev me_picked : Me (Slot S O R) DeskView
+      me_picked = (view_picked, (call_slot row, slot.Request sent) ∷ me.1)
+
       -- The row goes on with its call when its request is picked up.
       picking_goes_on : GoesOn rule.world row (request_in op_in sent) stage_picked rule.world.log
       picking_goes_on = record {
@@ -344,7 +348,7 @@ module _ {S O R : Type 0} (content : S → Content) (op_in : O → AnyOp) (reply
           }
 
       -- The client is told of the request.
-      picked_told : IsPickedUp me (view_picked, (call_slot row, slot.Request sent) ∷ me.1) object row log sent
+      picked_told : IsPickedUp me me_picked object row log sent
       picked_told =
           let world : World = rule.world in
           let client : ℕ = me.0.number in
@@ -365,16 +369,12 @@ module _ {S O R : Type 0} (content : S → Content) (op_in : O → AnyOp) (reply
 
       -- A hit tells what the step promises, by whichever names the pass and the row have, and is no miss.
       hit_told : found_there ≡ 1 + object
-          → play.picks content op_in reply_in try_to_pick me found_there
-          (view_picked, (call_slot row, slot.Request sent) ∷ me.1)
+          → play.picks content op_in reply_in try_to_pick me found_there me_picked
       hit_told hit object' row' log' holding' place =
           let same_object : object ≡ object' = one_object holding holding' in
           let same_row : row ≡ row' = omega arith in
-          let t = subst (λ (z : ℕ × ℕ × List AnyEntry). IsPickedUp me (
-            view_picked,
-            (call_slot row, slot.Request sent)
-                ∷ me.1,
-          ) z.0 z.1 z.2 sent) (λ i. (same_object i, same_row i, one_log holding holding' i)) picked_told in (
+          let t = subst (λ (z : ℕ × ℕ × List AnyEntry). IsPickedUp me me_picked z.0 z.1 z.2 sent)
+          (λ i. (same_object i, same_row i, one_log holding holding' i)) picked_told in (
             (λ _. (sent, t.for_object, t.of_kind, t.hand, t.put_back_here, t.own_one)),
             λ miss. absurd (miss (hit ∙ ap (λ z. 1 + z) same_object)),
           )
