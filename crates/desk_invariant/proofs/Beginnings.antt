@@ -83,6 +83,17 @@ module _ {S O R : Type 0} (content : S → Content) (op_in : O → AnyOp) (reply
 
   -- ---- the first state
 
+  -- The maker's view, which is the only one, is true of the initial world.
+  opening_seats : (lists : List TableId) (j : ℕ) (v : DeskView)
+      → get_elem? (first_maker kinds lists ∷ []) j ≡ some v → ViewAgrees kinds lists initial_world (λ _. 0) j v
+  opening_seats lists j v e =
+      let a = only (first_maker kinds lists) v j e in
+      let seen : (x : ℕ) → StartsWith [] (seen_of (first_maker kinds lists) x) =
+      λ x. ([], ap (λ z. z ++ []) (sym (get_or-replicate_same [] max_objects x))) in
+      let received : (x : ℕ) → StartsWith [] (received_of (first_maker kinds lists) x) = λ x. ([], refl) in
+      let left = All-nil (HasLeft initial_world) in
+      subst (λ z. ViewAgrees kinds lists initial_world (λ _. 0) j z) a.1 (grind arith)
+
   -- the rule holds of a table with words 0, the cores of all objects in their slots, and the view of the maker alone
   pub opening_keeps_rule : (lists : List TableId) (words : List ℕ) (slots : List (Slot S O R))
       → length kinds < 1 + max_objects → clients < 1 + max_clients → quota < 1 + max_calls
@@ -118,14 +129,7 @@ module _ {S O R : Type 0} (content : S → Content) (op_in : O → AnyOp) (reply
         at_last = λ e. absurd (cc);
       };
     };
-    -- the only view is the maker's
-    seats = λ j v e.
-        let a = only (first_maker kinds lists) v j e in
-        let seen : (x : ℕ) → StartsWith [] (seen_of (first_maker kinds lists) x) =
-        λ x. ([], ap (λ z. z ++ []) (sym (get_or-replicate_same [] max_objects x))) in
-        let received : (x : ℕ) → StartsWith [] (received_of (first_maker kinds lists) x) = λ x. ([], refl) in
-        let left = All-nil (HasLeft initial_world) in
-        subst (λ z. ViewAgrees kinds lists initial_world (λ _. 0) j z) a.1 (grind arith);
+    seats = opening_seats lists;
     makers = record {
       made = λ j v e is i u f.
           let a = only (first_maker kinds lists) v j e in
@@ -185,7 +189,7 @@ module _ {S O R : Type 0} (content : S → Content) (op_in : O → AnyOp) (reply
               × (world.holder b.request.object ≡ Some view.made));
         }
 
-    -- the view of the client that is made is true
+    -- The view of the client that is made is true.
     made_seat : ViewAgrees kinds rule.lists rule.world seats_then seat_made client_made
     made_seat =
         let old = rule.seats id view at in
@@ -200,7 +204,7 @@ module _ {S O R : Type 0} (content : S → Content) (op_in : O → AnyOp) (reply
           maker_lists = λ f. absurd (cc);
         }
 
-    -- the view of each client that was made before is true still
+    -- The views of the earlier clients are true still.
     earlier_seat : (j : ℕ) (u : DeskView) → get_elem? state.views j ≡ some u
         → ViewAgrees kinds rule.lists rule.world seats_then j u
     earlier_seat j u h =
@@ -212,7 +216,7 @@ module _ {S O R : Type 0} (content : S → Content) (op_in : O → AnyOp) (reply
         (changed_else rule.seat_of view.made seat_made u.number (not_new f) ∙ sits, knows) in
         assumption seat
 
-    -- the views of the maker, of the earlier clients and of the one that is made are true
+    -- The views of the maker, of the earlier clients and of the one that is made are true.
     seats_made : (j : ℕ) (u : DeskView) → get_elem? (set state.views id maker_then ++ client_made ∷ []) j ≡ some u
         → ViewAgrees kinds rule.lists rule.world seats_then j u
     seats_made j u e = elim (at_end (set state.views id maker_then) client_made u j e) [
@@ -284,7 +288,7 @@ module _ {S O R : Type 0} (content : S → Content) (op_in : O → AnyOp) (reply
         (rule.tied.calls client_known ok.small) in
         set_else state.homes (journal_slot client_known) (call_slot client_known) maybe.none (λ e. omega arith) ∙ call
 
-    -- what the rule asks of the world after the client has come
+    -- The world after the client has come is as the rule asks.
     after_beginning : After rule me.0 (with_own own.Idle me.0)
         (set state.words (row_place client_known) (get_or state.words (row_place client_known) 0))
         (set homes_between (call_slot client_known) maybe.none)

@@ -176,7 +176,7 @@ module _ {S O R : Type 0} (content : S → Content) (op_in : O → AnyOp) (reply
     abbrev request_drawn : AnyRequest
     request_drawn = request_in op_in (record sent { ticket = ticket_drawn })
 
-    -- what the rule asks of the world after the ticket was drawn
+    -- The world after the ticket was drawn is as the rule asks.
     after_drawing : sent.object < length kinds → kind_of (op_in sent.op) ≡ kind_at kinds sent.object
         → length me.0.done < quota
         → After rule me.0 (with_own (own.Drawn request_drawn) me.0)
@@ -210,7 +210,8 @@ module _ {S O R : Type 0} (content : S → Content) (op_in : O → AnyOp) (reply
               (same another other) other;
           -- the own call has its ticket
           own = seat_unanswered world (world.clock + 1) client stage dones kinds me.0 (own.Drawn request_drawn)
-              me.0.done unpicked unposted unanswered refl (over ∙ sym (changed_here world.done client (world.done client)))
+              me.0.done unpicked unposted unanswered
+              refl (over ∙ sym (changed_here world.done client (world.done client)))
               (covers_own kinds world client me.0 own.Idle is ok) ok;
         }
 
@@ -369,7 +370,7 @@ module _ {S O R : Type 0} (content : S → Content) (op_in : O → AnyOp) (reply
     MayTake = AllowsIn content op_in reply_in kinds clients quota state id me (row_place client_known)
         (λ f. either (eqb f answered_word) 0 f) (play.takes_answer content op_in reply_in try_to_take me)
 
-    -- the word of the row is that of the call's stage
+    -- The word of the client's row is that of its call's stage.
     word_there : found_there ≡ row_word (rule.world.stage client_known)
     word_there = let ok = mine rule id is_client at in rule.tied.rows client_known ok.small
 
@@ -388,7 +389,19 @@ module _ {S O R : Type 0} (content : S → Content) (op_in : O → AnyOp) (reply
       abbrev view_taken : DeskView
       view_taken = after_take request (answer_in reply_in given) log_there me.0
 
-      -- the client's own entries in the log are its calls that are over, and this one
+      -- the client with its slots after the answer was taken
+      abbrev me_taken : Me (Slot S O R) DeskView
+      me_taken = (view_taken, (call_slot client_known, slot.Answer given) ∷ me.1)
+
+      -- The request of the client is in no hand, since it is answered.
+      not_picked : NotPicked (rule.world.stage client_known)
+      not_picked q e = absurd cc
+
+      -- The request of the client is not in its row, since it is answered.
+      not_posted : NotPosted (rule.world.stage client_known)
+      not_posted q e = absurd cc
+
+      -- The client's own entries in the log are its calls that are over, and this one.
       calls_there : entries_of_client client_known log_there
           ≡ served request.object client_known me.0.done
           ++ logged_on request.object client_known request (answer_in reply_in given)
@@ -411,12 +424,10 @@ module _ {S O R : Type 0} (content : S → Content) (op_in : O → AnyOp) (reply
           saw kinds world client object me.0 log_there low (starts_same log_there) whole ok in
           let covers =
           covers_taken world client me.0 request (answer_in reply_in given) log_there is (omega arith) calls_there ok in
-          let unpicked : NotPicked (world.stage client) = λ q e. absurd cc in
-          let unposted : NotPosted (world.stage client) = λ q e. absurd cc in
           seat_gone world world.clock client stage_taken world.done kinds (after_meet object log_there me.0)
-          (own.Taken request (answer_in reply_in given)) me.0.done unpicked unposted refl ok.done covers seat
+          (own.Taken request (answer_in reply_in given)) me.0.done not_picked not_posted refl ok.done covers seat
 
-      -- the world after the answer was taken
+      -- The world after the answer was taken is as the rule asks.
       after_taking : request.object < max_objects
           → After rule me.0 view_taken (set state.words (row_place client_known) 0)
           (set state.homes (call_slot client_known) maybe.none)
@@ -424,28 +435,25 @@ module _ {S O R : Type 0} (content : S → Content) (op_in : O → AnyOp) (reply
           let world : World = rule.world in
           let client : ℕ = client_known in
           let ok = mine rule id is_client at in
-          let unpicked : NotPicked (world.stage client) = λ q e. absurd cc in
-          let unposted : NotPosted (world.stage client) = λ q e. absurd cc in
           record {
             world = staged world client stage_taken;
             holders = rule.holders;
             come = come_after clients world client stage_taken (rule.makers.numbers id me.0 at is_client) rule.come;
-            sound = sound_staged kinds quota world client stage_taken unpicked (λ q e. absurd (cc))
+            sound = sound_staged kinds quota world client stage_taken not_picked (λ q e. absurd (cc))
                 (ap request_of (sym was)) (λ e. absurd (cc)) (λ y. ap (served_now y client) (sym was)) rule.sound;
             -- the words and the slots agree with the new world
             tied = tied_row client 0 stage_taken world.hand world.log maybe.none ok.small (λ y _. refl)
                 (λ e. absurd (cc)) (ap request_of (sym was)) refl tt rule.tied;
             leave = row_leaves world client stage_taken (ap request_of was);
             -- the other clients keep what they know
-            others = λ another other. later_gone world world.clock client stage_taken world.done another unpicked
-                unposted refl other;
+            others = λ another other. later_gone world world.clock client stage_taken world.done another not_picked
+                not_posted refl other;
             -- the own call has its answer
             own = taker_agrees low;
           }
 
-      -- what the client is told of the answer and the log
-      taken_told : IsTaken me (view_taken, (call_slot client_known, slot.Answer given) ∷ me.1) client_known request
-          given log_there
+      -- The client is told of the answer and of the log.
+      taken_told : IsTaken me me_taken client_known request given log_there
       taken_told =
           let ok = mine rule id is_client at in
           record {
@@ -459,15 +467,11 @@ module _ {S O R : Type 0} (content : S → Content) (op_in : O → AnyOp) (reply
 
       -- A hit tells what the step promises, by whichever names the call and the row have, and is no miss.
       hit_told : found_there ≡ answered_word
-          → play.takes_answer content op_in reply_in try_to_take me found_there
-          (view_taken, (call_slot client_known, slot.Answer given) ∷ me.1)
+          → play.takes_answer content op_in reply_in try_to_take me found_there me_taken
       hit_told hit d q own_row here waiting =
           let same : request ≡ q = ap (request_known request) (sym is ∙ waiting) in
-          let t = subst (λ (z : ℕ × AnyRequest). IsTaken me (
-            view_taken,
-            (call_slot client_known, slot.Answer given)
-                ∷ me.1,
-          ) z.0 z.1 given log_there) (λ i. (own_row i, same i)) taken_told in
+          let t = subst (λ (z : ℕ × AnyRequest). IsTaken me me_taken z.0 z.1 given log_there)
+          (λ i. (own_row i, same i)) taken_told in
           ((λ _. (given, log_there, t.hand, t.legal, t.begins, t.calls)), λ miss. absurd (miss hit))
 
       -- The table allows the try if the answer is in its slot.

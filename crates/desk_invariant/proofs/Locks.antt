@@ -166,7 +166,7 @@ module _ {S O R : Type 0} (content : S → Content) (op_in : O → AnyOp) (reply
           seat_held kinds world client object (Some client) me.0 (held.Pass object log_there) me.0.back (me.0.won + 1)
           in_rows ok now
 
-      -- the holder of each object is a client that has not ended
+      -- The holder of each object is a client that has not ended.
       winner_going : (y d : ℕ) → world_won.holder y ≡ Some d → (d < clients) × (rule.world.ended d ≡ false)
       winner_going y d =
           let ok = mine rule id is_client at in
@@ -177,7 +177,7 @@ module _ {S O R : Type 0} (content : S → Content) (op_in : O → AnyOp) (reply
           let low = rule.makers.numbers id me.0 at is_client in
           (omega arith, ap rule.world.ended (sym same) ∙ (ok.ended ∙ going))) (λ y _. rule.holders y d) y
 
-      -- what the rule asks of the world after the object was won
+      -- The world after the object was won is as the rule asks.
       after_winning : After rule me.0 view_won (set state.words object (1 + me.0.number))
           (set state.homes object maybe.none)
       after_winning = record {
@@ -283,7 +283,7 @@ module _ {S O R : Type 0} (content : S → Content) (op_in : O → AnyOp) (reply
         subst (λ (z : List Kind × List TableId × List AnyEntry). CoreFits content op_in reply_in (kind_at z.0 object)
         (get_elem? z.1 object) core z.2) (λ i. (ok.kinds_are i, lists_are i, sym pass.logged i)) fits
 
-    -- what the rule asks of the world after the release
+    -- The world after the release is as the rule asks.
     after_releasing : After rule me.0 (after_release object log me.0) (set state.words object 0)
         (set state.homes object (some (slot.Core core)))
     after_releasing =

@@ -282,7 +282,11 @@ module _ {S O R : Type 0} (content : S → Content) (op_in : O → AnyOp) (reply
       abbrev view_picked : DeskView
       view_picked = after_pick object log row (request_in op_in sent) me.0
 
-      -- the row goes on with its call
+      -- the client with its slots after it has picked the request up
+      abbrev me_picked : Me (Slot S O R) DeskView
+      me_picked = (view_picked, (call_slot row, slot.Request sent) ∷ me.1)
+
+      -- The row goes on with its call when its request is picked up.
       picking_goes_on : GoesOn rule.world row (request_in op_in sent) stage_picked rule.world.log
       picking_goes_on = record {
         from = inl was;
@@ -291,7 +295,7 @@ module _ {S O R : Type 0} (content : S → Content) (op_in : O → AnyOp) (reply
         grow = λ y. starts_same (rule.world.log y);
       }
 
-      -- another client does not hold the object of the request
+      -- No other client holds the object of the request in the row.
       not_of_another : (another : ℕ) → another ≢ me.0.number → (p : AnyRequest)
           → rule.world.holder p.object ≡ Some another → rule.world.stage row ≢ posted p
       not_of_another another other p e f =
@@ -318,7 +322,7 @@ module _ {S O R : Type 0} (content : S → Content) (op_in : O → AnyOp) (reply
           (held.Hand object log row (request_in op_in sent)) view_picked.back
           (other_rows world me.0.number row stage_picked me.0.back ok.back) ok now
 
-      -- the world after the request was picked up
+      -- The world after the request was picked up is as the rule asks.
       after_picking : After rule me.0 view_picked (set state.words (row_place row) picked_word)
           (set state.homes (call_slot row) maybe.none)
       after_picking =
@@ -343,8 +347,8 @@ module _ {S O R : Type 0} (content : S → Content) (op_in : O → AnyOp) (reply
             own = picker_agrees;
           }
 
-      -- what the client is told of the request
-      picked_told : IsPickedUp me (view_picked, (call_slot row, slot.Request sent) ∷ me.1) object row log sent
+      -- The client is told of the request.
+      picked_told : IsPickedUp me me_picked object row log sent
       picked_told =
           let world : World = rule.world in
           let client : ℕ = me.0.number in
@@ -365,16 +369,12 @@ module _ {S O R : Type 0} (content : S → Content) (op_in : O → AnyOp) (reply
 
       -- A hit tells what the step promises, by whichever names the pass and the row have, and is no miss.
       hit_told : found_there ≡ 1 + object
-          → play.picks content op_in reply_in try_to_pick me found_there
-          (view_picked, (call_slot row, slot.Request sent) ∷ me.1)
+          → play.picks content op_in reply_in try_to_pick me found_there me_picked
       hit_told hit object' row' log' holding' place =
           let same_object : object ≡ object' = one_object holding holding' in
           let same_row : row ≡ row' = omega arith in
-          let t = subst (λ (z : ℕ × ℕ × List AnyEntry). IsPickedUp me (
-            view_picked,
-            (call_slot row, slot.Request sent)
-                ∷ me.1,
-          ) z.0 z.1 z.2 sent) (λ i. (same_object i, same_row i, one_log holding holding' i)) picked_told in (
+          let t = subst (λ (z : ℕ × ℕ × List AnyEntry). IsPickedUp me me_picked z.0 z.1 z.2 sent)
+          (λ i. (same_object i, same_row i, one_log holding holding' i)) picked_told in (
             (λ _. (sent, t.for_object, t.of_kind, t.hand, t.put_back_here, t.own_one)),
             λ miss. absurd (miss (hit ∙ ap (λ z. 1 + z) same_object)),
           )
@@ -453,7 +453,7 @@ module _ {S O R : Type 0} (content : S → Content) (op_in : O → AnyOp) (reply
       (me : Me (Slot S O R) DeskView) (log : List AnyEntry) (request : AnyRequest) (is_client : me.0.role ≡ role.Client)
       (at : get_elem? state.views id ≡ some me.0) (holding : me.0.held ≡ held.Hand object log row request)
       (on : request.object ≡ object) where
-    -- what the client's view tells of the request in hand
+    -- The client has the request in hand before it puts it back.
     hand_before : IsHand kinds rule.world me.0.number object log row request
     hand_before = hand_of (mine rule id is_client at) holding
 
@@ -461,7 +461,7 @@ module _ {S O R : Type 0} (content : S → Content) (op_in : O → AnyOp) (reply
     abbrev view_put_back : DeskView
     view_put_back = after_put_back object log row request me.0
 
-    -- the row goes on with its call
+    -- The row goes on with its call when its request is put back.
     putting_back_goes_on : GoesOn rule.world row request (posted request) rule.world.log
     putting_back_goes_on =
         let was : rule.world.stage row ≡ picked request = hand_before.picked_up in
@@ -472,7 +472,7 @@ module _ {S O R : Type 0} (content : S → Content) (op_in : O → AnyOp) (reply
           grow = λ y. starts_same (rule.world.log y);
         }
 
-    -- The request was not in its row, and is there once the client has put it back.
+    -- The request was not in its row before.
     not_there : NotPosted (rule.world.stage row)
     not_there p e = let was = hand_before.picked_up in absurd cc
 
@@ -496,7 +496,7 @@ module _ {S O R : Type 0} (content : S → Content) (op_in : O → AnyOp) (reply
         seat_row world row request stage world.log putting_back_goes_on kinds hands client me.0 (held.Pass object log)
         view_put_back.back in_rows ok now
 
-    -- the world after the request was put back
+    -- The world after the request was put back is as the rule asks.
     after_putting_back : (sent : Request O) → request_in op_in sent ≡ request
         → After rule me.0 view_put_back (set state.words (row_place row) (1 + object))
         (set state.homes (call_slot row) (some (slot.Request sent)))
@@ -624,7 +624,7 @@ module _ {S O R : Type 0} (content : S → Content) (op_in : O → AnyOp) (reply
         ∙ ap (λ z. z ++ entries_answered) hand.logged in
         (hand.inside, hand.holds, empty, long, hand.only)
 
-    -- the longer log is legal in the world
+    -- The longer log is legal in the world.
     legal_there : IsLegalLog (kind_at kinds object) (rule.world.log object ++ entries_answered)
     legal_there =
         let ok = mine rule id is_client at in
@@ -632,7 +632,7 @@ module _ {S O R : Type 0} (content : S → Content) (op_in : O → AnyOp) (reply
         subst (λ (z : List Kind × List AnyEntry). IsLegalLog (kind_at z.0 object) (z.1 ++ entries_answered))
         (λ i. (ok.kinds_are i, sym hand.logged i)) legal
 
-    -- what the rule asks of the world after the answer
+    -- The world after the answer is as the rule asks.
     after_answering : After rule me.0 (after_answer row object (log ++ entries_answered) me.0)
         (set state.words (row_place row) answered_word)
         (set state.homes (call_slot row) (some (slot.Answer given)))

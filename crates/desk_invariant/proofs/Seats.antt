@@ -227,59 +227,72 @@ unmade_stays world world' client later unmade =
     let (away, none_done, going, nothing) = unmade in
     (later.own own.Absent away, later.done ∙ none_done, later.ended ∙ going, λ x h. nothing x (later.holds x h))
 
--- after a step to world' of the client whose view becomes view', each view is true
-seats_after : (kinds : List Kind) (lists : List TableId) (clients : ℕ) (world world' : World) (seat_of : ℕ → ℕ)
-    (views : List DeskView) (id : ℕ) (view view' : DeskView)
-    → get_elem? views id ≡ some view → view.role ≡ role.Client → Alike view view' → HasOneMaker clients views
-    → ((j : ℕ) (u : DeskView) → get_elem? views j ≡ some u → ViewAgrees kinds lists world seat_of j u)
-    → KeepsEnded world world' → ((c : ℕ) → c ≢ view.number → Later world world' c)
-    → SeatAgrees kinds world' view.number view'
-    → (j : ℕ) (u : DeskView) → get_elem? (set views id view') j ≡ some u → ViewAgrees kinds lists world' seat_of j u
-seats_after kinds lists clients world world' seat_of views id view view' at is_client alike makers before leave others
-    ok j u e =
-    let old = before id view at in
-    let here = old.client is_client in
-    let next : 1 + view.number ≢ view.number = λ h. omega arith in
-    let logs = (others (1 + view.number) next).logs in
-    -- a client that is not made yet is not the one of the step
-    let is_made : (c : ℕ) (z : DeskView) (i : ℕ) → get_elem? views i ≡ some z → z.role ≡ role.Maker → z.made ≤ c
-    → c ≢ view.number =
-    λ c z i g is l same. let low = (makers.made i z g is id view at).0 is_client in omega arith in
-    elim (at_set views id j view' u e) [
-      -- the view of the client of the step
-      | inl t ↦ subst (λ (z : ℕ × DeskView). ViewAgrees kinds lists world' seat_of z.0 z.1)
-          (λ i. (sym t.0 i, t.1 i)) record {
-            seen = ok.seen;
-            received = λ x. subst (λ z. StartsWith (world'.log x) (get_or z x [])) (sym alike.received)
-                (starts_longer (world'.log x) (world.log x) (received_of view x) (logs x) (old.received x));
-            left = subst (All (HasLeft world')) (sym alike.left) (left_stays world world' view.left leave old.left);
-            client = λ _. (
-              ap seat_of alike.number ∙ here.0,
-              subst (λ z. SeatAgrees kinds world' z view') (sym alike.number) ok,
-            );
-            unmade = λ is c l.
-                let is' : view.role ≡ role.Maker = sym alike.role ∙ is in
-                let l' : view.made ≤ c = subst (λ z. z ≤ c) alike.made l in
-                unmade_stays world world' c (others c (is_made c view id at is' l')) (old.unmade is' c l');
-            maker_kinds = λ is. ok.kinds_are;
-            lists_are = λ is. alike.lists ∙ old.lists_are is_client;
-            maker_lists = λ is. alike.lists ∙ old.lists_are is_client;
-          }
-      -- any other view
-      | inr t ↦ let b = before j u t.1 in record {
-        seen = λ x. starts_longer (world'.log x) (world.log x) (seen_of u x) (logs x) (b.seen x);
-        received = λ x. starts_longer (world'.log x) (world.log x) (received_of u x) (logs x) (b.received x);
+-- one client has made a step to world', and its view becomes view'
+module _ (kinds : List Kind) (lists : List TableId) (clients : ℕ) (world world' : World) (seat_of : ℕ → ℕ)
+    (views : List DeskView) (id : ℕ) (view view' : DeskView) (at : get_elem? views id ≡ some view)
+    (is_client : view.role ≡ role.Client) (alike : Alike view view') (makers : HasOneMaker clients views)
+    (before : (j : ℕ) (u : DeskView) → get_elem? views j ≡ some u → ViewAgrees kinds lists world seat_of j u)
+    (leave : KeepsEnded world world') (others : (c : ℕ) → c ≢ view.number → Later world world' c) where
+  -- Each log begins with what it was.
+  logs_begin : (x : ℕ) → StartsWith (world'.log x) (world.log x)
+  logs_begin =
+      let next : 1 + view.number ≢ view.number = λ h. omega arith in (others (1 + view.number) next).logs
+
+  -- A client that is not made yet is not the one of the step.
+  is_made : (c : ℕ) (z : DeskView) (i : ℕ) → get_elem? views i ≡ some z → z.role ≡ role.Maker → z.made ≤ c
+      → c ≢ view.number
+  is_made c z i g is l same = let low = (makers.made i z g is id view at).0 is_client in omega arith
+
+  -- The view of the client of the step is true.
+  own_view_after : SeatAgrees kinds world' view.number view' → ViewAgrees kinds lists world' seat_of id view'
+  own_view_after ok =
+      let old = before id view at in
+      record {
+        seen = ok.seen;
+        received = λ x. subst (λ z. StartsWith (world'.log x) (get_or z x [])) (sym alike.received)
+            (starts_longer (world'.log x) (world.log x) (received_of view x) (logs_begin x) (old.received x));
+        left = subst (All (HasLeft world')) (sym alike.left) (left_stays world world' view.left leave old.left);
+        client = λ _. (
+          ap seat_of alike.number ∙ (old.client is_client).0,
+          subst (λ z. SeatAgrees kinds world' z view') (sym alike.number) ok,
+        );
+        unmade = λ is c l.
+            let is' : view.role ≡ role.Maker = sym alike.role ∙ is in
+            let l' : view.made ≤ c = subst (λ z. z ≤ c) alike.made l in
+            unmade_stays world world' c (others c (is_made c view id at is' l')) (old.unmade is' c l');
+        maker_kinds = λ is. ok.kinds_are;
+        lists_are = λ is. alike.lists ∙ old.lists_are is_client;
+        maker_lists = λ is. alike.lists ∙ old.lists_are is_client;
+      }
+
+  -- Any other view is true still.
+  other_view_after : (j : ℕ) (u : DeskView) → j ≢ id → get_elem? views j ≡ some u
+      → ViewAgrees kinds lists world' seat_of j u
+  other_view_after j u away e =
+      let b = before j u e in
+      let here = (before id view at).client is_client in
+      record {
+        seen = λ x. starts_longer (world'.log x) (world.log x) (seen_of u x) (logs_begin x) (b.seen x);
+        received = λ x. starts_longer (world'.log x) (world.log x) (received_of u x) (logs_begin x) (b.received x);
         left = left_stays world world' u.left leave b.left;
         client = λ is.
             let (sits, seat) = b.client is in
-            let other : u.number ≢ view.number = λ g. t.0 (sym sits ∙ (ap seat_of g ∙ here.0)) in
+            let other : u.number ≢ view.number = λ g. away (sym sits ∙ (ap seat_of g ∙ here.0)) in
             (sits, seat_stays kinds world world' u.number u leave (others u.number other) seat);
-        unmade = λ is c l. unmade_stays world world' c (others c (is_made c u j t.1 is l)) (b.unmade is c l);
+        unmade = λ is c l. unmade_stays world world' c (others c (is_made c u j e is l)) (b.unmade is c l);
         maker_kinds = b.maker_kinds;
         lists_are = b.lists_are;
         maker_lists = b.maker_lists;
       }
-    ]
+
+  -- Each view is true after the step.
+  seats_after : SeatAgrees kinds world' view.number view'
+      → (j : ℕ) (u : DeskView) → get_elem? (set views id view') j ≡ some u → ViewAgrees kinds lists world' seat_of j u
+  seats_after ok j u e = elim (at_set views id j view' u e) [
+    | inl t ↦ subst (λ (z : ℕ × DeskView). ViewAgrees kinds lists world' seat_of z.0 z.1)
+        (λ i. (sym t.0 i, t.1 i)) (own_view_after ok)
+    | inr t ↦ other_view_after j u t.0 t.1
+  ]
 
 -- at this place was a view with the same role, number and count of clients made
 record IsLike (views : List DeskView) (j : ℕ) (view : DeskView) : Type 0 where
