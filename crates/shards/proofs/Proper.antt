@@ -1,5 +1,6 @@
 -- The events of a proper list that are on some objects alone are proper. Numbers rise, invocations are of the kind of
--- their object, and each process runs as before, but is idle while its operation is on another object.
+-- their object, and each process runs as before, but is idle while its operation is on another object. In the lemmas p
+-- is a process, s its state, x an object, a an action, and es are events.
 use Rattle.std.proofs.lemmas.Bool.Decides.{nat_tests}
 use Rattle.std.proofs.Common.{arith, ◌≡◌, ℕ, ◌==◌, ◌<◌, Bool, true, false, cond, inl, inr, List, [], ◌∷◌, ◌++◌, Option}
 use Rattle.std.proofs.Common.{Some, None, AllPairs, refl, ap, sym, ◌∙◌, subst, append_assoc}

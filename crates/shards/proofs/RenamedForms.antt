@@ -1,5 +1,6 @@
 -- The forms of a shard say what those of the full history on its objects say, of these objects by their names there:
--- they have no fault where the full history has none, and denote the same events, renamed.
+-- they have no fault where the full history has none, and denote the same events, renamed. In the lemmas m is a map of
+-- the full history, n the same in its shard, k the number of an event, and a an action.
 use Rattle.std.proofs.Common.{arith, ◌≡◌, ℕ, ◌+◌, ◌==◌, Bool, inl, inr, List, [], ◌∷◌, ◌++◌, All, filter, length, map}
 use Rattle.std.proofs.Common.{Option, Some, None, refl, ap, sym, ◌∙◌}
 use Rattle.std.specs.List.{AllZip, cons_option}

@@ -1,5 +1,6 @@
 -- One map more is taken: the lines of its shard grow by it, and the others stay. And what is found at a map is found
--- among all maps of its piece, of which it is one.
+-- among all maps of its piece, of which it is one. In the lemmas d is a form, c the client's map that it is, m the map
+-- with its text, and s a shard.
 use Rattle.std.proofs.Common.{◌≡◌, ◌≢◌, ℕ, zero, suc, ◌+◌, ◌/◌, ◌<◌, ◌≤◌, ◌==◌, decimal, inl, inr, Bool, true, false}
 use Rattle.std.proofs.Common.{List, [], ◌∷◌, ◌++◌, All, filter, length, get_or, take, drop, Some, None, refl, ap, sym}
 use Rattle.std.proofs.Common.{◌∙◌, append_assoc, zero-add, arith}

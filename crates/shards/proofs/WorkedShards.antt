@@ -1,6 +1,7 @@
 -- The worked events. Each shard has one enqueue or nothing, and so is proper, and linearizable by the order of its one
 -- call: so a proper full history is linearizable. Where a process invokes twice before a response, the full history is
--- neither.
+-- neither. In the lemmas p is a process, n and m are the numbers of an invocation and its response, x is an object, v a
+-- value.
 use Rattle.std.proofs.Common.{◌≡◌, ℕ, ℤ, pos, ◌==◌, ◌<◌, Bool, true, false, cond, List, [], ◌∷◌}
 use Rattle.std.proofs.Common.{filter, Some, lit<, refl, sym, subst, arith}
 use Rattle.std.proofs.lemmas.Bool.{eqb-true}
