@@ -18,8 +18,9 @@ pub record Leaves (IsOutput : Status → List ℕ → Type 0) (sent_before : Opt
       × IsOutput status out × (number ≡ status_number status) × Appends sent_before sent out
   -- unless the exit status says that the output failed, the sink has not
   pub usable : number ≢ status_number Failed → broken ≡ false
-  -- the sink failed, and a beginning of the lines was written
+  -- if it says so, the sink failed
   pub failed : number ≡ status_number Failed → broken ≡ true
+  -- and a prefix of such lines was written
   pub front : number ≡ status_number Failed → (status : Status) × (out : List ℕ)
       × IsOutput status out × WritesPrefix sent_before sent out
 

@@ -1,5 +1,5 @@
 //! The program's logic: it does what a command line asks for, on sources and sinks, with threads.
-//! The commands that need neither are in `history_commands`.
+//! The commands on a history that start no thread are in `history_commands`.
 #![tactic(auto)]
 
 mod checking;

@@ -55,7 +55,7 @@ pub fn perform<R: Threads + Wait + Sync, S: Sink>(
 {
     match line {
         // The program does `Check` and `Verify` by `perform_over`. These two branches are for a
-        // caller that has both texts in memory.
+        // caller that has both texts in memory; this repository has none.
         Line::Check { workers, .. } => check_bytes(rt, alloc, first, second, *workers, sink),
         Line::Search {
             steps,

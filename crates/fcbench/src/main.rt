@@ -116,8 +116,8 @@ fn is_divided(status: u8) -> bool {
     status == Status::Yes.number() || status == Status::Undecided.number()
 }
 
-/// Divides a history into shards in a folder that has none. If it is not divided, nothing of it is
-/// left there.
+/// Divides a history into shards in a folder that has none. If it is not divided, its files are
+/// removed as far as that is possible, and there is no file `shards`.
 fn split<R: Host>(rt: &R, line: &SplitLine) -> io::Result<u8> {
     let (history, name) = (line.history.as_str(), line.folder.as_str());
     let shards = line.shards;
