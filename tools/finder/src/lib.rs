@@ -48,7 +48,7 @@ pub use kinds::{
 };
 pub use lexer::{Lexer, Token, TokenKind, ends_word};
 pub use places::{Places, PlacesFault};
-pub use reader::{LONGEST, read_history, read_history_from};
+pub use reader::{LONGEST, count_returned, read_history, read_history_from};
 pub use reasons::{
     Facts, FirstEvent, FirstOperation, FoundReason, Lost, LostValue, Pattern, Sentence, Shown,
     Trial, Undone,
