@@ -20,6 +20,10 @@ def prints(lines, ends):
     return f"printf '%s' '{lines}'; {ends}"
 
 
+# Two operations that overlap, of which nobody looks at what they did.
+ONLY_PUT = worked_rows.lines(
+    worked_rows.invoke(0, "enqueue", 1, 0), worked_rows.invoke(1, "enqueue", 2, 0), worked_rows.ok(0, "enqueue", 1, 0), worked_rows.ok(1, "enqueue", 2, 0),
+)
 # In place of the verifier: a script, and the status that judge and draw end with.
 VERIFIERS = {
     "true": ("exec true", 70),
@@ -165,6 +169,7 @@ def strict_judgements(program, report):
     good = finder(program, "orders", 'cat "$evidence"', worked_rows.order(0, 2))
     for name, text, status, env in (
         ("no two operations overlap", apart, 3, {}),
+        ("no reply depends on the order", ONLY_PUT, 3, {}),
         ("the same, by a finder that says nothing", apart, 3, {"FCBENCH_FINDER": good}),
         ("the same, by one that finds nothing", apart, 3, {"FCBENCH_FINDER": bad}),
         ("operations that overlap", together, 0, {}),

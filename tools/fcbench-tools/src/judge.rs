@@ -13,7 +13,7 @@ use crate::status::Status;
 use crate::system::ignore_sigterm;
 use crate::terminal::copy_shortened;
 use ::import::{Names, with_names};
-use finder::{OVERLAP, SILENT_PUTS, count_returned, read_history, read_history_from};
+use finder::{OF_A_YES, SILENT_PUTS, count_returned, read_history, read_history_from};
 use pages::{Asked, Fault, Verdict, fault_lines};
 use std::fmt::Write as _;
 use std::fs::{self, File};
@@ -73,10 +73,10 @@ fn run(
     Ok(Judgement { answer: answer?, summary })
 }
 
-/// Whether a warning is printed. Little overlap matters only with a yes; puts without replies only
+/// Whether a warning is printed. That no race can show matters only with a yes; puts without replies only
 /// without one, since a correct store may then get a no.
 fn warns(warning: &str, is_yes: bool) -> bool {
-    !warning.contains(if is_yes { SILENT_PUTS } else { OVERLAP })
+    !warning.contains(if is_yes { SILENT_PUTS } else { OF_A_YES })
 }
 
 /// Prints the summary of a history, if it is asked for, and what is suspicious in it in any case.

@@ -23,6 +23,7 @@ mod history;
 mod kinds;
 mod lexer;
 mod maps;
+mod order_dependence;
 mod orders;
 mod places;
 mod reader;
@@ -54,4 +55,4 @@ pub use reasons::{
     Trial, Undone,
 };
 pub use search::TryFirst;
-pub use statistics::{OVERLAP, SILENT_PUTS, Statistics, warnings};
+pub use statistics::{OF_A_YES, SILENT_PUTS, Statistics, warnings};
