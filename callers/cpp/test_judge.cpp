@@ -73,7 +73,7 @@ static void a_buffer_too_small() {
     want(status == FCBENCH_YES && needed == yes_lines.size(), "the status is right, and how long the lines are");
     want(std::memcmp(out, "yes: 2 ope------", 16) == 0, "the lines are cut, and nothing is written after the buffer");
     int calls = 0;
-    const auto whole = fcbench::Answer::of([&](std::uint8_t *lines, std::size_t capacity, std::size_t *length) {
+    const auto whole = fcbench::Answer::of(fcbench::Function::Judge, [&](std::uint8_t *lines, std::size_t capacity, std::size_t *length) {
         calls++;
         return fcbench_judge(fcbench::bytes_of(queue), queue.size(), FCBENCH_STEPS, lines, capacity, length);
     }, 10);

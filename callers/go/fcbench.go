@@ -95,7 +95,7 @@ func JudgeInto(history []byte, steps uint32, out []byte) (Verdict, int) {
 	text, length := bytesOf(history)
 	at, room := bytesOf(out)
 	status := C.fcbench_judge(text, length, C.uint32_t(steps), at, room, &needed)
-	return Verdict(status), int(needed)
+	return judging.answered(uint32(status), out, int(needed))
 }
 
 // Check judges a history by certificates.
@@ -106,7 +106,7 @@ func Check(history, certificates string) Answer {
 		var needed C.size_t
 		at, room := bytesOf(out)
 		status := C.fcbench_check(text, length, orders, count, at, room, &needed)
-		return Verdict(status), int(needed)
+		return checking.answered(uint32(status), out, int(needed))
 	})
 }
 
@@ -117,7 +117,7 @@ func Find(history string) Answer {
 		var needed C.size_t
 		at, room := bytesOf(out)
 		status := C.fcbench_find(text, length, at, room, &needed)
-		return Verdict(status), int(needed)
+		return finding.answered(uint32(status), out, int(needed))
 	})
 }
 
@@ -134,7 +134,7 @@ func RefuteWithSteps(history, reasons string, steps uint32) Answer {
 		var needed C.size_t
 		at, room := bytesOf(out)
 		status := C.fcbench_refute(text, length, why, count, C.uint32_t(steps), at, room, &needed)
-		return Verdict(status), int(needed)
+		return refuting.answered(uint32(status), out, int(needed))
 	})
 }
 
@@ -146,6 +146,6 @@ func Verify(history, evidence string) Answer {
 		var needed C.size_t
 		at, room := bytesOf(out)
 		status := C.fcbench_verify(text, length, claims, count, C.FCBENCH_STEPS, at, room, &needed)
-		return Verdict(status), int(needed)
+		return judging.answered(uint32(status), out, int(needed))
 	})
 }

@@ -90,11 +90,13 @@ _BEGINNINGS = {
         Verdict.UNDECIDED: ["{:object ", "; object ", ""],
     },
 }
-# A line that only a NO has.
+# A line that only a NO has; of find, one that no YES has.
 _OF_A_NO = {
     "judge": re.compile(rb"^; object \d+: impossible$", re.M),
     "verify": re.compile(rb"^; object \d+: impossible$", re.M),
+    "check": re.compile(rb"^no: ", re.M),
     "refute": re.compile(rb"^not linearizable: object ", re.M),
+    "find": re.compile(rb"^(?!.*, :order ).+$", re.M),
 }
 
 
@@ -106,10 +108,10 @@ def _verdict(name, status, lines, needed):
     """The verdict of a status, if the lines fit it, as far as there was room for them: by the table of docs/commands.md."""
     beginnings = _BEGINNINGS[name].get(status, [])
     begins = any(needed >= len(it) and lines.startswith(it.encode()[: len(lines)]) and bool(it or not needed) for it in beginnings)
-    of_a_no = _OF_A_NO.get(name)
-    is_whole = len(lines) == needed
-    has_no = of_a_no is not None and bool(of_a_no.search(lines))
-    if not begins or is_whole and (lines[-1:] not in (b"", b"\n") or of_a_no is not None and has_no != (status == Verdict.NO)):
+    is_whole, is_ended = len(lines) == needed, lines[-1:] in (b"", b"\n")
+    has_no = bool(_OF_A_NO[name].search(lines))
+    says_so = status != Verdict.YES or not has_no if name == "find" else has_no == (status == Verdict.NO)
+    if not begins or is_whole and not (is_ended and says_so):
         raise NoAnswer(f"fcbench_{name}: the status {status} and these lines are of no answer: {lines[:200]!r}")
     return Verdict(status)
 

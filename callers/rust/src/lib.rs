@@ -7,8 +7,10 @@
 //! ```
 #![warn(missing_docs)]
 
+mod fits;
 pub mod recorder;
 
+use fits::Function;
 use std::fmt::{self, Display};
 
 /// The program's default number of steps: 1,000,000. For a judgement: 1,000,000, or 100 for each operation of the
@@ -81,13 +83,14 @@ pub enum Verdict {
 }
 
 impl Verdict {
-    fn of(status: u32) -> Verdict {
-        match status {
+    fn of(status: u32) -> Option<Verdict> {
+        Some(match status {
             0 => Verdict::Yes,
             1 => Verdict::No,
             2 => Verdict::Malformed,
-            _ => Verdict::Undecided,
-        }
+            3 => Verdict::Undecided,
+            _ => return None,
+        })
     }
 }
 
@@ -155,7 +158,7 @@ pub fn judge_with_steps(history: impl AsRef<[u8]>, steps: u32) -> Answer {
 #[must_use]
 pub fn judge_into(history: &[u8], steps: u32, out: &mut [u8]) -> (Verdict, usize) {
     // SAFETY: each pointer is of a slice that is lent for the call, with its length.
-    answered(out, |at, capacity, needed| unsafe {
+    answered(Function::Judge, out, |at, capacity, needed| unsafe {
         c::fcbench_judge(history.as_ptr(), history.len(), steps, at, capacity, needed)
     })
 }
@@ -171,7 +174,7 @@ pub fn check(history: impl AsRef<[u8]>, certificates: impl AsRef<[u8]>) -> Answe
 pub fn check_into(history: &[u8], certificates: &[u8], out: &mut [u8]) -> (Verdict, usize) {
     let (orders, length) = (certificates.as_ptr(), certificates.len());
     // SAFETY: as above.
-    answered(out, |at, capacity, needed| unsafe {
+    answered(Function::Check, out, |at, capacity, needed| unsafe {
         c::fcbench_check(history.as_ptr(), history.len(), orders, length, at, capacity, needed)
     })
 }
@@ -185,7 +188,7 @@ pub fn find(history: impl AsRef<[u8]>) -> Answer {
 #[must_use]
 pub fn find_into(history: &[u8], out: &mut [u8]) -> (Verdict, usize) {
     // SAFETY: as above.
-    answered(out, |at, capacity, needed| unsafe {
+    answered(Function::Find, out, |at, capacity, needed| unsafe {
         c::fcbench_find(history.as_ptr(), history.len(), at, capacity, needed)
     })
 }
@@ -206,7 +209,7 @@ pub fn refute_with_steps(history: impl AsRef<[u8]>, reasons: impl AsRef<[u8]>, s
 pub fn refute_into(history: &[u8], reasons: &[u8], steps: u32, out: &mut [u8]) -> (Verdict, usize) {
     let (first, length) = (reasons.as_ptr(), reasons.len());
     // SAFETY: as above.
-    answered(out, |at, capacity, needed| unsafe {
+    answered(Function::Refute, out, |at, capacity, needed| unsafe {
         c::fcbench_refute(history.as_ptr(), history.len(), first, length, steps, at, capacity, needed)
     })
 }
@@ -228,15 +231,29 @@ pub fn verify_with_steps(history: impl AsRef<[u8]>, evidence: impl AsRef<[u8]>, 
 pub fn verify_into(history: &[u8], evidence: &[u8], steps: u32, out: &mut [u8]) -> (Verdict, usize) {
     let (first, length) = (evidence.as_ptr(), evidence.len());
     // SAFETY: as above.
-    answered(out, |at, capacity, needed| unsafe {
+    answered(Function::Verify, out, |at, capacity, needed| unsafe {
         c::fcbench_verify(history.as_ptr(), history.len(), first, length, steps, at, capacity, needed)
     })
 }
 
-fn answered(out: &mut [u8], call: impl FnOnce(*mut u8, usize, *mut usize) -> u32) -> (Verdict, usize) {
+/// # Panics
+///
+/// If the lines do not fit the status: then the library is not libfcbench, or not as it was built.
+fn answered(
+    function: Function,
+    out: &mut [u8],
+    call: impl FnOnce(*mut u8, usize, *mut usize) -> u32,
+) -> (Verdict, usize) {
     let mut needed = 0;
     let status = call(out.as_mut_ptr(), out.len(), &mut needed);
-    (Verdict::of(status), needed)
+    let lines = &out[..needed.min(out.len())];
+    match Verdict::of(status).filter(|_| function.fits(status, lines, needed)) {
+        Some(verdict) => (verdict, needed),
+        None => {
+            let lines = String::from_utf8_lossy(lines);
+            panic!("the library gave no answer to {function:?}: status {status} and these lines: {lines:?}")
+        }
+    }
 }
 
 /// Calls with more room until all lines fit.
