@@ -45,6 +45,16 @@ def run(main, *arguments):
         fail(f"not built: {error}")
 
 
+def hold():
+    """Lets a signal wait while something begins or ends that must not outlive the script."""
+    signal.pthread_sigmask(signal.SIG_BLOCK, SIGNALS)
+
+
+def let_go():
+    """Lets the signals come, also those that waited."""
+    signal.pthread_sigmask(signal.SIG_UNBLOCK, SIGNALS)
+
+
 def files_in(top, folder, *left_out):
     """Returns the paths, from `top`, of the files of a folder, and of the folders in it except those with these names."""
 
@@ -114,31 +124,39 @@ def in_turn(made):
 @contextlib.contextmanager
 def work_folder(prefix):
     """Makes a folder among the temporary ones, and removes it at the end. What was ended may write there for a moment longer."""
+    hold()
     folder = tempfile.mkdtemp(prefix=prefix)
     try:
+        let_go()
         # rt runs what it built as another user.
         os.chmod(folder, 0o711)
         yield folder
     finally:
+        hold()
         for _ in range(100):
             shutil.rmtree(folder, ignore_errors=True)
             if not os.path.exists(folder):
                 break
             time.sleep(0.1)
+        let_go()
 
 
 @contextlib.contextmanager
 def started(words, **how):
     """Starts a program in a group of its own, and ends the group if the program is still at work at the end."""
-    with subprocess.Popen(words, start_new_session=True, **how) as program:
+    hold()
+    with subprocess.Popen(words, start_new_session=True, preexec_fn=let_go, **how) as program:
         try:
+            let_go()
             yield program
         finally:
+            hold()
             if program.poll() is None:
                 os.killpg(program.pid, signal.SIGTERM)
                 program.wait()
                 with contextlib.suppress(ProcessLookupError):
                     os.killpg(program.pid, signal.SIGKILL)
+            let_go()
 
 
 def files_of_tools(top):
