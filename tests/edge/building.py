@@ -61,7 +61,8 @@ def put_elsewhere_built(made, path):
     with open(f"{out}.sha256") as file:
         record = file.read()
     put_foreign(made, path)
-    made.write(f"{path}.sha256", sums(os.path.dirname(out), [os.path.basename(out)]) + re.sub(r"\w{64}(?=  \w+/)", "0" * 64, record.partition("\n")[2]))
+    other_code = re.sub(r"\w{64}(?=  \w+/)", "0" * 64, record.partition("\n")[2])
+    made.write(f"{path}.sha256", sums(os.path.dirname(out), [os.path.basename(out)]) + other_code)
 
 
 # What is done to a checkout in which all is built; what is called then; and the code of which the answer is.
@@ -124,7 +125,7 @@ def no_old_program(program, report):
         report.holds(f"building: {what}: 70, and no old program", is_well, ran)
         report.holds(f"building: {what}: it is not proved", made.run("crates/build", "--is-proved").returncode != 0)
     made.of_kit("ci.first", "")
-    report.equal("building: after a change meanwhile it is proved again", (0, "verifier  3\n: split h into\n".replace("\n:", ":")), made.answer("split", "h", "into"))
+    report.equal("building: after a change meanwhile it is proved again", (0, "verifier  3: split h into\n"), made.answer("split", "h", "into"))
 
 
 def another_logic_unproved(program, report):
@@ -178,9 +179,9 @@ def library_by_content(program, report):
     for number, (changed, change, calls) in enumerate(
         (
             ("nothing", lambda made: None, set()),
-            ("a source of the proved half", lambda made: put_old(made, "crates/embedding/src/mark", "2"), {"ci", "lib", "join"}),
+            ("a source of the proved half", lambda made: put_old(made, "crates/embedding/src/mark", "2"), {"ci", "build", "join"}),
             ("a source of the finder", lambda made: put_old(made, "tools/finder/src/mark", "2"), {"cargo", "join"}),
-            ("the proved half", lambda made: made.write(f"{out}/libembedding.a", "foreign"), {"ci", "lib"}),
+            ("the proved half", lambda made: made.write(f"{out}/libembedding.a", "foreign"), {"ci", "build"}),
             ("the finder's half", lambda made: made.write("tools/target/release/libfcbench_c.a", "foreign"), {"cargo"}),
             ("the library", lambda made: made.write(f"{out}/libfcbench.so", "foreign"), {"join"}),
         )
@@ -255,7 +256,8 @@ def side_by_side(program, report):
             first.communicate()
         os.close(end_of_first)
         report.equal(f"building: {script} twice at once", (0, 0), (first.returncode, second.returncode))
-        report.equal(f"building: {script} twice at once, what the second says", f"fcbench: waiting for another run, which builds {made.top}/{path}\n", said)
+        waits = f"fcbench: waiting for another run, which builds {made.top}/{path}\n"
+        report.equal(f"building: {script} twice at once, what the second says", waits, said)
         report.equal(f"building: {script} twice at once, what is called", [call], [it for it in made.calls() if it == call])
         left = [name for name in os.listdir(os.path.dirname(f"{made.top}/{path}")) if name.endswith(".new")]
         report.equal(f"building: {script} twice at once, what is left", ([], []), (left, os.listdir(made.temporary)))
@@ -284,6 +286,8 @@ def ended_by_a_signal(program, report):
                 os.close(os.open(never, os.O_RDWR))
                 ran.wait()
             report.equal(f"building: {name.name} during {call}", (True, 128 + name, []), (is_well, ran.returncode, os.listdir(made.temporary)))
+            is_proved = made.run("crates/build", "--is-proved").returncode == 0
+            report.holds(f"building: {name.name} during {call} leaves nothing that is proved", not is_proved)
 
 
 def odd_surroundings(program, report):
