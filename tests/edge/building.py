@@ -291,13 +291,16 @@ def ended_by_a_signal(program, report):
 
 
 def odd_surroundings(program, report):
-    """CDPATH, and a TMPDIR whose name is a pattern, change nothing."""
+    """CDPATH, a standard input that is closed, and a TMPDIR whose name is a pattern change nothing."""
     made = checkout(program, "odd")
     how = {**made.line("fcbench")[1], "cwd": os.path.dirname(made.top), "capture_output": True}
     how["env"]["CDPATH"] = f".:{made.top}/crates"
     for words in (("checkout/fcbench", "check", "h", "c"), ("checkout/install", "prefix")):
         ran = subprocess.run(["bash", *words], stdin=subprocess.DEVNULL, **how)
         report.equal(f"building: {words[0]} with CDPATH", 0, ran.returncode, ran)
+    shutil.rmtree(f"{made.top}/crates/fcbench/out")
+    ran = subprocess.run(["bash", "-c", "exec checkout/fcbench check h c <&-"], **how)
+    report.equal("building: ./fcbench without standard input", answers("1"), (ran.returncode, ran.stdout))
     shutil.rmtree(f"{made.top}/crates/fcbench/out")
     os.mkdir(f"{program.folder}/tmp[1]")
     for words in (("crates/build", "--unproved"), ("crates/build",), ("tools/build",), ("callers/build",)):
