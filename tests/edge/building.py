@@ -8,7 +8,7 @@ import signal
 import subprocess
 import sys
 
-from .running import OF_TOOLS, ROOT
+from .running import EXAMPLES, OF_TOOLS, ROOT
 from .stub_checkout import LOGIC, Checkout
 from .words import COMMANDS
 
@@ -383,6 +383,9 @@ def nothing_to_prove(program, report):
     ran = run("search", "/dev/stdin", input="")
     is_well = (ran.returncode, ran.stdout) == (70, "") and "no first answer" in ran.stderr and "NOT PROVED YET" not in ran.stderr
     report.holds("building: ./fcbench reads a pipe once", is_well and "proving and building" in ran.stderr, ran)
+    with open(f"{EXAMPLES}/overlapping.history.edn") as file:
+        ran = run("--quick", "search", "/dev/stdin", stdin=file)
+    report.holds("building: ./fcbench --quick reads standard input", ran.returncode == 0 and ":order [" in ran.stderr, ran)
     ran = run("--version")
     is_well = (ran.returncode, ran.stderr) == (0, "") and ran.stdout.startswith("fcbench ")
     report.holds("building: ./fcbench --version proves nothing", is_well, ran)
