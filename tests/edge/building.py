@@ -100,6 +100,22 @@ def builds_of(made):
     return made.calls()
 
 
+def unproved_by_content(program, report):
+    """The unproved program is current in the same way."""
+    made = checkout(program, "unproved")
+    out = "crates/fcbench/out/unproved"
+    for changed, change, calls in (
+        ("that it is missing", lambda: None, ["try"]),
+        ("nothing", lambda: None, []),
+        ("a source with an old time", lambda: put_old(made, "crates/fcbench/src/mark", "2"), ["try"]),
+        ("the program, to a script", lambda: put_foreign(made, out), ["try"]),
+        ("the program, to one with a record", lambda: put_elsewhere_built(made, out), ["try"]),
+    ):
+        change()
+        ran = made.run("crates/build", "--unproved")
+        report.equal(f"building: the unproved program, after a change of {changed}", (0, calls), (ran.returncode, made.calls()), ran)
+
+
 def no_old_program(program, report):
     """If the verifier cannot be proved, ./fcbench ends with 70 and a message, and starts no old program."""
     old = lambda made: made.write("crates/fcbench/src/mark", "2")  # noqa: E731
@@ -392,6 +408,7 @@ def nothing_to_prove(program, report):
 
 
 PARTS = (
-    proved_by_content, no_old_program, another_logic_unproved, find_that_fails, tools_by_content, library_by_content, installed_into_checkout,
-    words_of_help, quick_after_the_proof, side_by_side, ended_by_a_signal, odd_surroundings, without_the_kit, nothing_to_prove,
+    proved_by_content, unproved_by_content, no_old_program, another_logic_unproved, find_that_fails, tools_by_content, library_by_content,
+    installed_into_checkout, words_of_help, quick_after_the_proof, side_by_side, ended_by_a_signal, odd_surroundings, without_the_kit,
+    nothing_to_prove,
 )
