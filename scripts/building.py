@@ -167,9 +167,9 @@ def files_of_tools(top):
 
 
 def build_by_cargo(package, name, text):
-    """Has cargo build a package of the tools, tools/target/release/NAME, if it is missing or was built of other sources: from nothing, of a copy
+    """Has cargo build a package of the tools, tools/out/NAME, if it is missing or was built of other sources: from nothing, of a copy
     of the sources. Says this text first."""
-    made = f"{TOP}/tools/target/release/{name}"
+    made = f"{TOP}/tools/out/{name}"
     if is_current(made, sums(TOP, files_of_tools(TOP))):
         return
     if not shutil.which("cargo"):

@@ -165,7 +165,7 @@ def find_that_fails(program, report):
 
 def tools_by_content(program, report):
     """The tools are current if they and their code are what they were when they were built, and cargo builds them in no other place."""
-    tools = "tools/target/release/fcbench-tools"
+    tools = "tools/out/fcbench-tools"
     for number, (changed, change, code) in enumerate(
         (
             ("nothing", lambda made: None, "1"),
@@ -198,7 +198,7 @@ def library_by_content(program, report):
             ("a source of the proved half", lambda made: put_old(made, "crates/embedding/src/mark", "2"), {"ci", "build", "join"}),
             ("a source of the finder", lambda made: put_old(made, "tools/finder/src/mark", "2"), {"cargo", "join"}),
             ("the proved half", lambda made: made.write(f"{out}/libembedding.a", "foreign"), {"ci", "build"}),
-            ("the finder's half", lambda made: made.write("tools/target/release/libfcbench_c.a", "foreign"), {"cargo"}),
+            ("the finder's half", lambda made: made.write("tools/out/libfcbench_c.a", "foreign"), {"cargo"}),
             ("the library", lambda made: made.write(f"{out}/libfcbench.so", "foreign"), {"join"}),
         )
     ):
@@ -253,7 +253,7 @@ def quick_after_the_proof(program, report):
 
 def side_by_side(program, report):
     """Of two builds at the same moment one waits for the other, and builds nothing then. A build waits for a lock that is held."""
-    for script, path, call in (("crates/build", "crates/fcbench/out/fcbench", "ci"), ("tools/build", "tools/target/release/fcbench-tools", "cargo")):
+    for script, path, call in (("crates/build", "crates/fcbench/out/fcbench", "ci"), ("tools/build", "tools/out/fcbench-tools", "cargo")):
         made = checkout(program, f"beside_{call}")
         begun, go_on = f"{made.kit}/begun", f"{made.kit}/go_on"
         os.mkfifo(begun)
@@ -329,8 +329,8 @@ def not_built(program):
     """The folder of a repository whose tools are built, by cargo, and whose verifier is not."""
     made = checkout(program, "not_built")
     shutil.rmtree(f"{made.top}/tools")
-    shutil.copytree(f"{ROOT}/tools", f"{made.top}/tools", ignore=shutil.ignore_patterns("target"))
-    keep(program.tools, f"{made.top}/tools/target/release/fcbench-tools", sums(made.top, files_of_tools(made.top)))
+    shutil.copytree(f"{ROOT}/tools", f"{made.top}/tools", ignore=shutil.ignore_patterns("target", "out"))
+    keep(program.tools, f"{made.top}/tools/out/fcbench-tools", sums(made.top, files_of_tools(made.top)))
     return made.top
 
 
