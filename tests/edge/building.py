@@ -31,12 +31,14 @@ def checkout(program, name):
 
 
 def proved_checkout(program, name):
-    """The same, with all built of the code `1`."""
-    made = checkout(program, name)
-    made.run("callers/build")
-    made.run("tools/build")
-    made.calls()
-    return made
+    """The same, with all built of the code `1`: a copy of one, since a record names no folder."""
+    built = f"{program.folder}/built"
+    if not os.path.exists(built):
+        first = Checkout(built)
+        first.run("callers/build")
+        first.run("tools/build")
+        first.calls()
+    return Checkout(f"{program.folder}/{name}", like=built)
 
 
 def answers(code):
