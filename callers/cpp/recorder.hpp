@@ -201,9 +201,9 @@ public:
         static_assert(is_value, "a reply is an integer, a std::optional of one, or fcbench::Value, and neither a pointer nor a bool: "
                                 "give the number of your element");
         if constexpr (is_value) {
+            Value value(reply); // if it throws, no ticket is drawn, and the call is outstanding as before
             const std::uint64_t ticket = ended();
             const Event &call = events_.back();
-            Value value(reply);
             end(ticket, "ok", value.is_nil() && is_put(call.function) ? call.value : std::move(value));
         }
     }

@@ -206,6 +206,19 @@ static void a_journal_that_is_not_handed_in() {
     static_assert(!std::is_copy_constructible_v<fcbench::Journal>, "a copy would take calls with it");
 }
 
+// A reply that no history can have is refused before its ticket is drawn: the call is outstanding as before, and is then pending.
+static void a_reply_that_no_history_can_have() {
+    fcbench::Recorder recorder(false);
+    std::vector<fcbench::Journal> journals;
+    journals.push_back(recorder.journal());
+    const std::string said = message_of([&] { journals[0].call("dequeue", std::nullopt, [] { return UINT64_MAX; }); });
+    want(said == "a number does not fit in 64 bits with sign: 18446744073709551615", "a reply past 64 bits with sign", said);
+    const std::string text = recorder.history(journals);
+    want(text == "{:process 0, :type :invoke, :f :dequeue, :value nil, :object 0}\n"
+                 "{:process 0, :type :info, :f :dequeue, :value nil, :object 0}\n",
+         "a call whose reply was refused", text);
+}
+
 // The reply of a function that puts a value in is its argument, also where the call gives nothing.
 static void replies_of_calls_that_give_nothing() {
     fcbench::Recorder recorder;
@@ -423,6 +436,7 @@ int main(int count, char **words) {
     replies_of_calls_that_give_nothing();
     a_reply_that_is_not_the_argument();
     a_reply_that_is_not_given();
+    a_reply_that_no_history_can_have();
     calls_that_are_known_when_they_returned();
     overlap();
     calls_that_give_a_bool();

@@ -1,6 +1,7 @@
 // The example of docs/embedding.md without the library: two threads share a register, and what they did is written to a file.
 #include "recorder.hpp"
 #include <fstream>
+#include <iostream>
 
 int main() {
     std::atomic<int> shared, missing(2); // your object, here a register
@@ -24,5 +25,9 @@ int main() {
     std::thread other(work, 1);
     work(0);
     other.join();
-    std::ofstream("register.history.edn") << recorder.history(journals);
+    std::ofstream file("register.history.edn");
+    if (!(file << recorder.history(journals)).flush()) { // as on a full disk
+        std::cerr << "register.history.edn cannot be written\n";
+        return 1;
+    }
 }

@@ -66,8 +66,8 @@ int main() {
         const std::string history = recorder.history(journals);
         const fcbench::Answer answer = fcbench::judge(history);
         if (!answer.is_yes() || answer.lines().rfind("yes: 402 operations", 0) != 0) {
-            std::ofstream("queue.history.edn") << history;
-            std::cerr << answer.lines();
+            std::ofstream file("queue.history.edn");
+            std::cerr << ((file << history).flush() ? "" : "queue.history.edn cannot be written\n") << answer.lines();
             return 1;
         }
     }

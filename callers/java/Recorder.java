@@ -1,4 +1,5 @@
 import java.util.ArrayList;
+import java.util.Collections;
 import java.util.Comparator;
 import java.util.HashMap;
 import java.util.HashSet;
@@ -139,6 +140,11 @@ public final class Recorder {
         throw new IllegalStateException(value + " is no argument or reply: give a number, a pair, a boolean or null, or use run");
     }
 
+    /** An argument or a reply that its owner may change later, as it is now. */
+    private static Object copied(Object value) {
+        return value instanceof List ? Collections.unmodifiableList(new ArrayList<>((List<?>) value)) : value;
+    }
+
     /** A number that looks drawn, for each ticket. */
     private static long mixed(long ticket) {
         return ticket * 0x9E3779B97F4A7C15L >>> 32;
@@ -204,9 +210,10 @@ public final class Recorder {
             if (isPending) {
                 gaveUp();
             }
+            Object own = copied(argument);
             isPending = true;
             long ticket = tickets.getAndIncrement();
-            events.add(new Event(ticket, process, object, "invoke", function, argument));
+            events.add(new Event(ticket, process, object, "invoke", function, own));
             if (yields && mixed(ticket) % CALLS_TO_A_YIELD == 0) {
                 Thread.yield();
             }
@@ -219,10 +226,11 @@ public final class Recorder {
 
         /** Like returned, if it is known only now what the call was: its invocation is written with this function and argument. */
         public void returnedAs(String function, Object argument, Object reply) {
+            Object own = copied(argument);
             end("ok", reply);
             Event call = events.get(events.size() - 2);
             call.function = function;
-            call.value = argument;
+            call.value = own;
             events.get(events.size() - 1).function = function;
         }
 
@@ -240,15 +248,16 @@ public final class Recorder {
             process = processes.getAndIncrement();
         }
 
-        /** The ticket of a return is drawn first. */
+        /** Only the reply is copied before the ticket of a return is drawn. */
         private void end(String kind, Object reply) {
             if (!isPending) {
                 throw new IllegalStateException("no call is outstanding");
             }
+            Object own = copied(reply);
             long ticket = tickets.getAndIncrement();
             Event call = events.get(events.size() - 1);
             boolean isArgument = kind.equals("info") || kind.equals("ok") && (reply == null || reply == NOT_GIVEN) && call.isPut();
-            events.add(new Event(ticket, process, call.object, kind, call.function, isArgument ? call.value : reply));
+            events.add(new Event(ticket, process, call.object, kind, call.function, isArgument ? call.value : own));
             isPending = false;
         }
 

@@ -247,6 +247,22 @@ public final class RecorderTest {
         want(answer.lines.get(0).equals("yes: 11 operations, 4 objects"), "sets, counters and locks", answer.lines);
     }
 
+    /** An argument and a reply are those of the moment of the call, even if their owner changes them later. */
+    private static void listsThatChangeLater() throws Exception {
+        Recorder recorder = new Recorder(false);
+        Recorder.Journal journal = recorder.journal();
+        List<Long> pair = new ArrayList<>(List.of(1L, 1L));
+        journal.run("assoc", pair, () -> {});
+        pair.set(1, 2L);
+        journal.run("assoc", pair, () -> {});
+        journal.callOn(1, "cas", pair, () -> pair);
+        journal.invoke(1, "cas", pair);
+        journal.returnedAs("cas", pair, pair);
+        pair.set(1, 9L);
+        String text = recorder.history(List.of(journal));
+        want(text.split("\\[1 1]", -1).length == 2 && text.split("\\[1 2]", -1).length == 6, "lists that change later", text);
+    }
+
     private static String messageOf(Runnable act) {
         try {
             act.run();
@@ -303,6 +319,7 @@ public final class RecorderTest {
         callsThatAreKnownWhenTheyReturned();
         refusals();
         overlap();
+        listsThatChangeLater();
         setsCountersAndLocks();
         rightQueues(runs);
         races(runs);

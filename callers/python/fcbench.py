@@ -7,6 +7,7 @@ A text is bytes or a str. The library is the file that FCBENCH_SO names, or libf
 import ctypes
 import enum
 import os
+import re
 import typing
 
 # As many steps as the program takes if it is given none: 1,000,000; of a judgement 100 for each operation of the object if that is more.
@@ -62,55 +63,120 @@ def _library():
 
 _C = _library()
 
+# What the first line of an answer with a verdict may begin with; "": there may be no line.
+_VERIFIED = {
+    Verdict.YES: ["yes: "],
+    Verdict.NO: ["; object "],
+    Verdict.MALFORMED: ["malformed history: "],
+    Verdict.UNDECIDED: ["; object ", "malformed evidence: ", "out of memory\n"],
+}
+_BEGINNINGS = {
+    "judge": _VERIFIED,
+    "verify": _VERIFIED,
+    "check": {
+        Verdict.YES: ["yes: "],
+        Verdict.NO: ["no: "],
+        Verdict.MALFORMED: ["malformed history: ", "malformed certificates: "],
+        Verdict.UNDECIDED: ["out of memory\n"],
+    },
+    "refute": {
+        Verdict.NO: ["not linearizable: object ", "object "],
+        Verdict.MALFORMED: ["malformed history: ", "malformed reasons: "],
+        Verdict.UNDECIDED: ["object ", "out of memory\n", ""],
+    },
+    "find": {
+        Verdict.YES: ["{:object ", ""],
+        Verdict.MALFORMED: ["malformed history: "],
+        Verdict.UNDECIDED: ["{:object ", "; object ", ""],
+    },
+}
+# A line that only a NO has.
+_OF_A_NO = {
+    "judge": re.compile(rb"^; object \d+: impossible$", re.M),
+    "verify": re.compile(rb"^; object \d+: impossible$", re.M),
+    "refute": re.compile(rb"^not linearizable: object ", re.M),
+}
+
+
+class NoAnswer(Exception):
+    """Status and lines are of no answer: the library is not libfcbench, or not as it was built."""
+
+
+def _verdict(name, status, lines, needed):
+    """The verdict of a status, if the lines fit it, as far as there was room for them: by the table of docs/commands.md."""
+    beginnings = _BEGINNINGS[name].get(status, [])
+    begins = any(needed >= len(it) and lines.startswith(it.encode()[: len(lines)]) and bool(it or not needed) for it in beginnings)
+    of_a_no = _OF_A_NO.get(name)
+    is_whole = len(lines) == needed
+    has_no = of_a_no is not None and bool(of_a_no.search(lines))
+    if not begins or is_whole and (lines[-1:] not in (b"", b"\n") or of_a_no is not None and has_no != (status == Verdict.NO)):
+        raise NoAnswer(f"fcbench_{name}: the status {status} and these lines are of no answer: {lines[:200]!r}")
+    return Verdict(status)
+
 
 def _bytes(text):
+    if not isinstance(text, (str, bytes, bytearray, memoryview)):
+        raise TypeError(f"a text is a str or bytes, and not {type(text).__name__}")
     return text.encode() if isinstance(text, str) else bytes(text)
+
+
+def _limit(steps):
+    """A number of steps, which C takes as 32 bits without a sign."""
+    if isinstance(steps, bool) or not isinstance(steps, int) or not 0 <= steps <= STEPS:
+        raise ValueError(f"steps are a number from 0 to {STEPS}, and not {steps!r}")
+    return steps
+
+
+def _into(name, words, capacity):
+    """The verdict, the lines as far as there is room for them, and how long they are."""
+    out, needed = ctypes.create_string_buffer(capacity), ctypes.c_size_t()
+    status = getattr(_C, f"fcbench_{name}")(*words, out, capacity, ctypes.byref(needed))
+    lines = out.raw[: min(needed.value, capacity)]
+    return _verdict(name, status, lines, needed.value), lines, needed.value
+
+
+def _whole(name, *words):
+    """Calls with more room until all lines fit."""
+    capacity = CAPACITY
+    while True:
+        verdict, lines, needed = _into(name, words, capacity)
+        if needed <= capacity:
+            return Answer(verdict, lines.decode())
+        capacity = needed
 
 
 def judge_into(history, steps, capacity):
     """The verdict, the lines as far as there is room for them, and how long they are."""
-    text, out, needed = _bytes(history), ctypes.create_string_buffer(capacity), ctypes.c_size_t()
-    status = _C.fcbench_judge(text, len(text), steps, out, capacity, ctypes.byref(needed))
-    return Verdict(status), out.raw[: min(needed.value, capacity)], needed.value
-
-
-def _whole(call, *words):
-    """Calls with more room until all lines fit."""
-    capacity = CAPACITY
-    while True:
-        out, needed = ctypes.create_string_buffer(capacity), ctypes.c_size_t()
-        status = call(*words, out, capacity, ctypes.byref(needed))
-        if needed.value <= capacity:
-            return Answer(Verdict(status), out.raw[: needed.value].decode())
-        capacity = needed.value
+    text = _bytes(history)
+    return _into("judge", (text, len(text), _limit(steps)), capacity)
 
 
 def judge(history, steps=STEPS):
     """Judges a history: certificates are found, or a reason why there are none. The last search takes at most this many steps for each object."""
     text = _bytes(history)
-    return _whole(_C.fcbench_judge, text, len(text), steps)
+    return _whole("judge", text, len(text), _limit(steps))
 
 
 def check(history, certificates):
     """Judges a history by certificates."""
     text, orders = _bytes(history), _bytes(certificates)
-    return _whole(_C.fcbench_check, text, len(text), orders, len(orders))
+    return _whole("check", text, len(text), orders, len(orders))
 
 
 def find(history):
     """Finds certificates: if it is a yes, the lines are their text."""
     text = _bytes(history)
-    return _whole(_C.fcbench_find, text, len(text))
+    return _whole("find", text, len(text))
 
 
 def refute(history, reasons, steps=STEPS):
     """Checks reasons why a history is not linearizable. It never answers YES. The search of a part takes at most this many steps."""
     text, why = _bytes(history), _bytes(reasons)
-    return _whole(_C.fcbench_refute, text, len(text), why, len(why), steps)
+    return _whole("refute", text, len(text), why, len(why), _limit(steps))
 
 
 def verify(history, evidence, steps=STEPS):
     """Checks evidence from any source, and judges a history by what it shows. A search for which it names no number of steps takes at most
     this many."""
     text, claims = _bytes(history), _bytes(evidence)
-    return _whole(_C.fcbench_verify, text, len(text), claims, len(claims), steps)
+    return _whole("verify", text, len(text), claims, len(claims), _limit(steps))

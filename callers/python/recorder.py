@@ -100,6 +100,11 @@ def check_call(function, argument):
         raise ValueError(f"{argument!r} cannot be the argument of {function}, which is {SHAPES[ARGUMENTS[function]]}")
 
 
+def copied(value):
+    """An argument or a reply that its owner may change later, as it is now."""
+    return tuple(value) if isinstance(value, list) else value
+
+
 def written_reply(function, argument, reply):
     """What a history has for this reply: the argument, if the call says no more than that it took place."""
     if reply is True and function in SILENT:
@@ -141,6 +146,7 @@ class Journal:
     def invoke(self, function, argument, number=0):
         """Call it just before a call, if `call` does not suit, as in asynchronous code. Then call one of returned, failed and gave_up;
         if there is none before the next invoke, it is gave_up."""
+        argument = copied(argument)
         check_call(function, argument)
         if self.is_pending:
             self.gave_up()
@@ -152,11 +158,13 @@ class Journal:
 
     def returned(self, reply=NotGiven):
         """Call it just after the call returned, with its reply, which may be None. Only functions whose reply is known need none."""
+        reply = copied(reply)
         ticket, function, argument, number = self._ended()
         self._end(ticket, "ok", function, written_reply(function, argument, reply), number)
 
     def returned_as(self, function, argument, reply):
         """Like `returned`, if it is known only now what the call was: its invocation is written with this function and argument."""
+        argument, reply = copied(argument), copied(reply)
         check_call(function, argument)
         ended = self._ended()
         self.events[-1] = (*self.events[-1][:3], function, argument, ended[3])
@@ -175,7 +183,7 @@ class Journal:
         self.process = next(self.recorder.processes)
 
     def _ended(self):
-        """The ticket of a return is drawn first."""
+        """The ticket of a return, which is drawn before what follows."""
         if not self.is_pending:
             raise ValueError("no call is outstanding")
         return next(self.recorder.tickets), *self.events[-1][3:]

@@ -304,6 +304,27 @@ class Queues(unittest.TestCase):
         self.assertEqual(text, wanted)
         self.assertTrue(fcbench.judge(text).is_yes())
 
+    def test_lists_that_change_later(self):
+        """An argument and a reply are those of the moment of the call, even if their owner changes them later."""
+        recorder = Recorder(False)
+        journal, stored = recorder.journal(), {}
+        pair = [1, 1]
+        for value in (1, 2):
+            pair[1] = value
+            journal.call("assoc", pair, lambda: stored.update([pair]))
+            journal.call("get", 1, lambda: stored[1])
+        journal.call("write", 3, lambda: None, 1)
+        pair[:] = 3, 4
+        journal.call("cas", pair, lambda: pair, 1)
+        journal.invoke("cas", (0, 0), 1)
+        journal.returned_as("cas", pair, pair)
+        pair[:] = 9, 9
+        text = recorder.history([journal])
+        self.assertEqual(text.count("[1 1]"), 1)
+        self.assertEqual(text.count("[1 2]"), 1)
+        self.assertEqual(text.count("[3 4]"), 4)
+        self.assertNotIn("9", text)
+
     def test_overlap(self):
         """Of five calls the second and third overlap, and the fourth and the one that is pending."""
         recorder = Recorder()

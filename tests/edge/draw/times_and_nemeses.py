@@ -130,6 +130,22 @@ def nemesis_room(program, report):
     report.equal("draw: nemesis: lines for 60 marks", 1, len(after))
 
 
+def of_many_nemeses(program, count):
+    """A history in which nemeses begin so many things, none of which ends."""
+    return program.write(f"nemeses.{count}.edn", OVERLAPPING + "".join(f"{{:process :nemesis, :type :info, :f :start-{it}}}\n" for it in range(count)))
+
+
+def many_nemeses(program, report):
+    """A page of many things that nemeses began has as many instructions for each as one of half of them, by count, and has no more than 40 bands in a line,
+    the last of which says how many are left."""
+    few, many = (program.instructions("draw", of_many_nemeses(program, count)) for count in (4_000, 8_000))
+    report.holds("draw: 8,000 nemeses take less than 2.5 times what 4,000 take", many < 2.5 * few, (few, many))
+    page = program.run("draw", "nemeses.8000.edn").out.decode()
+    report.holds("draw: the page of 8,000 nemeses is short", len(page) < 200_000, len(page))
+    bands = re.findall(r'<g class="band"><title>([^<]*)</title>', page)
+    report.holds("draw: 40 bands in each line, and the last has the others", re.fullmatch(r"\d+ more faults of nemeses", bands[39]), bands[:41])
+
+
 def named_pages(program, report):
     """With the table of names that import wrote, the page and the lines of judge on it use these names for values, keys, processes and objects."""
     names = f"{program.folder}/names.edn"
@@ -221,4 +237,4 @@ def accessible_bars(program, report):
     report.equal("draw: links", [], page.lost_links())
 
 
-PARTS = (timed_pages, timed_ticks, nemesis_room, named_pages, named_events, named_keys, named_first_events, accessible_bars)
+PARTS = (timed_pages, timed_ticks, nemesis_room, many_nemeses, named_pages, named_events, named_keys, named_first_events, accessible_bars)

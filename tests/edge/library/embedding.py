@@ -301,6 +301,10 @@ def without_the_library(program, report):
     done(report, "C++: it writes a history", [f"{folder}/to_file"], FOLDER=folder)
     judge = [dispatcher(program), "judge", f"{folder}/register.history.edn"]
     done(report, "C++: and the program judges it", judge, "yes: 403 operations, 1 objects\n")
+    os.remove(f"{folder}/register.history.edn")
+    os.symlink("/dev/full", f"{folder}/register.history.edn")
+    ran = subprocess.run([f"{folder}/to_file"], cwd=folder, capture_output=True, text=True)
+    report.equal("embedding: C++: on a full disk", (1, "register.history.edn cannot be written\n"), (ran.returncode, ran.stderr))
     for reply, status in (("static_cast<int *>(nullptr)", 1), ("true", 1), ("7", 0)):
         source = program.write("no_reply.cpp", NO_REPLY.replace("REPLY", reply))
         ran = subprocess.run([*CPP, f"-I{SOURCES}/cpp", "-fsyntax-only", f"{program.folder}/{source}"], capture_output=True, text=True)
@@ -343,7 +347,7 @@ def python_callers(program, report):
             FCBENCH_RUNS=str(RUNS),
             PYTHONDONTWRITEBYTECODE="1",
         )
-    report.equal("embedding: Python: how many tests ran", ["9", "16"], re.findall(r"Ran (\d+) tests", output), output[-2000:])
+    report.equal("embedding: Python: how many tests ran", ["9", "17"], re.findall(r"Ran (\d+) tests", output), output[-2000:])
 
 
 def go_callers(program, report):
@@ -435,6 +439,8 @@ def tutorial(program, report):
         text = file.read().partition("\n## With a queue of your own\n")[2]
     report.equal("tutorial: its commands", [line for line, _, _ in RECORDED], re.findall(r"^    ((?:docs|callers|[.])/.*)$", text, re.M))
     (record, _, _), (judge, _, _), *_, (in_place, _, _) = RECORDED
+    full = run("docs/record_queue.py > /dev/full")
+    report.holds("tutorial: a record on a full disk", full.returncode != 0 and "No space left on device" in full.stderr, full)
     until_a_no(run, record, judge)
     for line, status, begins in (*RECORDED[1:], (f"{in_place} --fixed", 0, "yes: 200 operations, 1 objects\n")):
         ran = until_a_no(run, line) if line == in_place else run(line)

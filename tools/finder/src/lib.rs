@@ -52,7 +52,7 @@ pub use places::{Places, PlacesFault};
 pub use reader::{LONGEST, count_returned, read_history, read_history_from};
 pub use reasons::{
     Facts, FirstEvent, FirstOperation, FoundReason, Lost, LostValue, Pattern, Sentence, Shown,
-    Trial, Undone,
+    Trial, Undone, WhyUndone,
 };
 pub use search::TryFirst;
 pub use statistics::{OF_A_YES, SILENT_PUTS, Statistics, warnings};

@@ -2,7 +2,7 @@
 
 use super::columns::{What, columns_of};
 use super::labels::{characters, fit, fit_label};
-use super::nemeses::{bands_of, marks_of};
+use super::nemeses::{Spell, bands_of, marks_of, spells};
 use super::numbers::{
     CHARACTER, HEIGHT, HEIGHT_WITH_POINTS, LANE_GAP, LANE_LENGTH, NEMESIS_HEIGHT, SMALL,
     TIME_HEIGHT, TOP, names_room,
@@ -50,14 +50,20 @@ fn processes_of(
 }
 
 impl<'a> Sheet<'a> {
-    fn new(scene: &'a Scene<'a>, layout: &'a Layout, line: usize, all: &[Segment]) -> Sheet<'a> {
+    fn new(
+        scene: &'a Scene<'a>,
+        layout: &'a Layout,
+        line: usize,
+        all: &[Segment],
+        spells: &[Spell],
+    ) -> Sheet<'a> {
         let height = if scene.points.is_empty() { HEIGHT } else { HEIGHT_WITH_POINTS };
         let segments: Vec<Segment> =
             all.iter().filter(|segment| segment.line == line).copied().collect();
         let shown = all.iter().map(|segment| segment.operation.number()).collect();
         let processes = processes_of(scene, layout, line, &segments);
         let nemeses = marks_of(scene, layout, line);
-        let bands = bands_of(scene, layout, line);
+        let bands = bands_of(scene, layout, line, spells);
         let nemesis_top = if scene.words.has_times() { TOP + TIME_HEIGHT } else { TOP };
         let has_nemesis = !nemeses.is_empty() || !bands.is_empty();
         let top = nemesis_top + if has_nemesis { NEMESIS_HEIGHT } else { 0 };
@@ -226,7 +232,8 @@ pub fn figure_of(scene: &Scene) -> Figure {
     let longest = names.map(|name| characters(&fit(&name, LANE_LENGTH))).max().unwrap_or(0);
     layout.left = names_room(longest);
     let segments = segments_of(scene, &layout, &operations);
-    let sheet = |line| Sheet::new(scene, &layout, line, &segments).into_line();
+    let spells = spells(scene.nemeses);
+    let sheet = |line| Sheet::new(scene, &layout, line, &segments, &spells).into_line();
     let lines: Vec<Line> = (0..layout.ends.len()).map(sheet).collect();
     let is_large = lines.iter().all(|line| line.width <= SMALL);
     Figure { lines, left_out, is_large }

@@ -10,12 +10,17 @@ use super::segments::stretch_between;
 use crate::timeline::{Band, NemesisMark};
 use crate::words::Words;
 use finder::Nemesis;
+use std::collections::HashMap;
 
 /// With which words functions begin that begin something, and those that end it.
 const PAIRS: [(&str, &str); 4] =
     [("start", "stop"), ("kill", "start"), ("pause", "resume"), ("partition", "heal")];
 
+/// How many bands a line has at most, and a strip. Further ones are one.
+pub const MOST_BANDS: usize = 40;
+
 /// What a nemesis began at the first of its maps here, and where it ended that.
+#[derive(Clone, Copy)]
 pub struct Spell<'a> {
     pub begin: &'a Nemesis,
     pub end: Option<u32>,
@@ -25,40 +30,31 @@ fn begins(function: &str) -> bool {
     PAIRS.iter().any(|(begin, _)| function.starts_with(begin))
 }
 
-/// Whether one function ends what another one began: `stop-clock` what `start-clock` did.
-fn ends(function: &str, begun: &str) -> bool {
-    PAIRS.iter().any(|(begin, end)| {
-        let rest = begun.strip_prefix(begin);
-        rest.is_some() && rest == function.strip_prefix(end)
-    })
+/// The functions that began what this one ends: `start-clock` for `stop-clock`.
+fn ended_by(function: &str) -> impl Iterator<Item = String> {
+    PAIRS.iter().filter_map(|(begin, end)| Some(format!("{begin}{}", function.strip_prefix(end)?)))
 }
 
 /// What the nemeses began. A nemesis has two maps for each thing that it does, with the same
 /// function.
 pub fn spells(nemeses: &[Nemesis]) -> Vec<Spell<'_>> {
     let mut spells: Vec<Spell> = Vec::new();
+    // The places of those that are not ended, by process and function.
+    let mut open: HashMap<(&str, String), usize> = HashMap::new();
     let mut last_end: Option<&Nemesis> = None;
     for nemesis in nemeses {
-        let is_same = |other: &Nemesis| {
-            other.process == nemesis.process && other.function == nemesis.function
-        };
-        let is_open = spells.iter().any(|it| it.end.is_none() && is_same(it.begin));
-        if is_open || last_end.is_some_and(is_same) {
+        let Nemesis { process, function, number } = nemesis;
+        let is_same = |other: &Nemesis| other.process == *process && other.function == *function;
+        let of = |function: String| (process.as_str(), function);
+        if open.contains_key(&of(function.clone())) || last_end.is_some_and(is_same) {
             continue;
         }
-        let is_ended = |it: &&mut Spell| {
-            it.end.is_none()
-                && it.begin.process == nemesis.process
-                && ends(&nemesis.function, &it.begin.function)
-        };
-        let mut has_ended = false;
-        for spell in spells.iter_mut().filter(is_ended) {
-            spell.end = Some(nemesis.number);
-            has_ended = true;
-        }
-        if has_ended {
+        let ended: Vec<usize> = ended_by(function).filter_map(|it| open.remove(&of(it))).collect();
+        ended.iter().for_each(|place| spells[*place].end = Some(*number));
+        if !ended.is_empty() {
             last_end = Some(nemesis);
-        } else if begins(&nemesis.function) {
+        } else if begins(function) {
+            open.insert(of(function.clone()), spells.len());
             spells.push(Spell { begin: nemesis, end: None });
         }
     }
@@ -105,12 +101,19 @@ pub fn marks_of(scene: &Scene, layout: &Layout, line: usize) -> Vec<NemesisMark>
     places.iter().enumerate().map(mark).collect()
 }
 
-/// The parts of the bands that are in the line.
-pub fn bands_of(scene: &Scene, layout: &Layout, line: usize) -> Vec<Band> {
+/// The bands that are too many in a line, as one.
+fn rest_of(bands: &[Band]) -> Option<Band> {
+    let from = bands.iter().map(|band| band.from).min()?;
+    let to = bands.iter().map(|band| band.to).max()?;
+    Some(Band { from, to, title: format!("{} more faults of nemeses", bands.len()) })
+}
+
+/// The parts in the line of the bands of these spells.
+pub fn bands_of(scene: &Scene, layout: &Layout, line: usize, spells: &[Spell]) -> Vec<Band> {
     if scene.is_zoom {
         return Vec::new();
     }
-    let band = |spell: Spell| {
+    let band = |spell: &Spell| {
         let (from, to) = stretch_between(layout, spell.begin.number, spell.end, line)?;
         let end = spell.end.map_or("the end of the history".into(), |end| {
             format!("event {}", scene.words.event(end))
@@ -118,7 +121,12 @@ pub fn bands_of(scene: &Scene, layout: &Layout, line: usize) -> Vec<Band> {
         let title = format!("{}, until {end}", title_of(spell.begin, &scene.words));
         Some(Band { from: from + layout.left, to: to + layout.left, title })
     };
-    spells(scene.nemeses).into_iter().filter_map(band).collect()
+    let mut bands: Vec<Band> = spells.iter().filter_map(band).collect();
+    if bands.len() > MOST_BANDS {
+        let rest = bands.split_off(MOST_BANDS - 1);
+        bands.extend(rest_of(&rest));
+    }
+    bands
 }
 
 #[cfg(test)]
@@ -152,5 +160,13 @@ mod tests {
         ] {
             assert_eq!(found(functions), wanted, "{functions:?}");
         }
+    }
+
+    #[test]
+    fn each_nemesis_that_begins_is_found_among_many() {
+        let functions: Vec<String> = (0..100_000).map(|it| format!("kill-{it}")).collect();
+        let functions: Vec<&str> = functions.iter().map(String::as_str).collect();
+        let wanted: Vec<_> = (0..100_000).map(|number| (number, None)).collect();
+        assert!(found(&functions) == wanted);
     }
 }

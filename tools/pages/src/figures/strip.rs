@@ -1,7 +1,7 @@
 //! The strip of an object's whole history, where a figure leaves some of it out.
 
 use super::moments::Moment;
-use super::nemeses::{Spell, spells};
+use super::nemeses::{MOST_BANDS, Spell, spells};
 use crate::timeline::{COLUMNS, DrawnOperation, DrawnStretch, State, Strip};
 use finder::Nemesis;
 use std::collections::BTreeSet;
@@ -47,10 +47,25 @@ fn drawn(moments: &[Moment], maps: u32) -> Vec<RangeInclusive<u32>> {
     ends.map(|(first, last)| column_of(first, maps)..=column_of(last, maps)).collect()
 }
 
+/// The columns of what nemeses began, by their beginnings. If they are many, those that meet are
+/// one.
 fn bands(nemeses: &[Nemesis], maps: u32) -> Vec<RangeInclusive<u32>> {
     let end = |end: Option<u32>| column_of(end.unwrap_or(maps.saturating_sub(1)), maps);
     let band = |spell: Spell| column_of(spell.begin.number, maps)..=end(spell.end);
-    spells(nemeses).into_iter().map(band).collect()
+    let bands: Vec<_> = spells(nemeses).into_iter().map(band).collect();
+    if bands.len() <= MOST_BANDS {
+        return bands;
+    }
+    let mut joined: Vec<RangeInclusive<u32>> = Vec::new();
+    for band in bands {
+        match joined.last_mut() {
+            Some(last) if band.start() <= last.end() => {
+                *last = *last.start()..=*last.end().max(band.end());
+            }
+            _ => joined.push(band),
+        }
+    }
+    joined
 }
 
 fn columns(numbers: impl Iterator<Item = u32>, maps: u32) -> Vec<u32> {
