@@ -29,14 +29,14 @@ def fail(text, status=NOT_BUILT):
 
 
 def end(number, _):
-    """Ends the script at a signal, after what it started, and its folder, as it does at an error. A second signal changes nothing."""
+    """Ends the script at a signal as an error does: first what it started ends, and its folder is removed. A second signal changes nothing."""
     for each in SIGNALS:
         signal.signal(each, signal.SIG_IGN)
     sys.exit(128 + number)
 
 
 def run(main, *arguments):
-    """Runs the main function of a script."""
+    """Runs the main function of a script. A file that cannot be read or written, and a program that fails, end it with 70."""
     for number in SIGNALS:
         signal.signal(number, end)
     try:
