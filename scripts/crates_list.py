@@ -1,24 +1,26 @@
-"""The crates that crates.txt lists, their dependencies, their files, and when these were changed."""
-import os
+"""The crates that crates.txt lists, their dependencies, their files, and what each is built of, in this repository or in a copy of it."""
+import re
 
-TOP = os.path.dirname(os.path.dirname(os.path.realpath(__file__)))
+from building import TOP, fail, files_in, sums
+
 LIST = f"{TOP}/crates.txt"
+PROGRAM = "fcbench"
 
 
-def line_of_each_crate():
+def line_of_each_crate(top=TOP):
     """Returns the line of each crate of the repository, by its name, in the order of crates.txt."""
-    with open(LIST) as file:
+    with open(f"{top}/crates.txt") as file:
         return {line.partition(":")[0].split()[0]: line.strip() for line in file if line.strip() and not line.startswith("#")}
 
 
-def dependencies():
+def dependencies(top=TOP):
     """Returns the names of the libraries that each crate uses, by the name of the crate, in the order of crates.txt."""
-    return {crate: line.partition(":")[2].split() for crate, line in line_of_each_crate().items()}
+    return {crate: line.partition(":")[2].split() for crate, line in line_of_each_crate(top).items()}
 
 
-def with_below(name):
-    """Returns a crate and the crates of the repository that it depends on, each after those that it uses itself."""
-    used, crates = dependencies(), []
+def with_below(*names, top=TOP):
+    """Returns these crates and the crates of the repository that they depend on, each after those that it uses itself."""
+    used, crates = dependencies(top), []
 
     def add(crate):
         if crate in used and crate not in crates:
@@ -26,21 +28,26 @@ def with_below(name):
                 add(library)
             crates.append(crate)
 
-    add(name)
+    for name in names:
+        add(name)
     return crates
 
 
-def files_of(crate):
-    """Returns the paths of the files of a crate."""
-    folders = (f"{TOP}/crates/{crate}/{part}" for part in ("src", "specs", "proofs"))
-    return [f"{base}/{file}" for folder in folders for base, _, files in os.walk(folder) for file in files]
+def files_of(crate, top=TOP):
+    """Returns the paths, from `top`, of the files that prove, build and run a crate."""
+    return files_in(top, f"crates/{crate}", "out", "must-fail")
 
 
-def last_change(*paths):
-    """Returns when the last of these files was changed. A file that was put back with an old time of its content was changed too."""
-    return max((os.stat(path).st_ctime for path in paths), default=0.0)
+def logic(top=TOP):
+    """Returns the logic that proves the crates, as the program says it."""
+    with open(f"{top}/crates/{PROGRAM}/src/main.rt") as file:
+        found = re.search(r'^const VERSION: &str = "fcbench [\d.]+, proved by Rattle logic ([0-9a-f]+)";$', file.read(), re.M)
+    return found[1] if found else fail(f"crates/{PROGRAM}/src/main.rt says in another way which logic proves it")
 
 
-def is_current(path, *crates):
-    """Whether a file or folder is there, and was made after the last change of these crates and of crates.txt."""
-    return os.path.exists(path) and os.path.getmtime(path) >= last_change(LIST, *(file for crate in crates for file in files_of(crate)))
+def sources_of(crate, top=TOP):
+    """Returns what a crate is built of: the sums of its files, of those of the crates below, and of the handles that are allowed, the lines of
+    these crates in crates.txt, and the logic."""
+    crates, lines = with_below(crate, top=top), line_of_each_crate(top)
+    paths = [path for name in crates for path in files_of(name, top)]
+    return sums(top, ["HANDLES", *paths]) + "".join(f"{lines[name]}\n" for name in crates) + f"logic {logic(top)}\n"

@@ -1,12 +1,13 @@
 #!/bin/sh
 # Runs a command of fcbench. judge, find, draw and import are commands of the tools, which are ordinary Rust. Every other command is one of the
-# proved verifier. ./install puts this file into bin, and the two programs into libexec/fcbench, where an installed copy runs them, whatever
-# the environment says. Where they are not there, FCBENCH and FCBENCH_TOOLS name them: ./fcbench sets both.
-own=$(dirname "$(readlink -f "$0")")/../libexec/fcbench
-if [ -x "$own/fcbench" ]; then
-  FCBENCH=$own/fcbench FCBENCH_TOOLS=$own/fcbench-tools
-fi
-if [ -z "${FCBENCH_TOOLS:-}" ]; then
+# proved verifier. ./install puts this file into bin as fcbench, and the two programs into libexec/fcbench: an installed copy runs these, whatever
+# the environment says. In the checkout it is tools/fcbench.sh, and runs what FCBENCH and FCBENCH_TOOLS name: ./fcbench sets both.
+own=$(readlink -f "$0") || exit 70
+case $own in
+  */tools/fcbench.sh) ;;
+  *) FCBENCH=${own%/bin/*}/libexec/fcbench/fcbench FCBENCH_TOOLS=${own%/bin/*}/libexec/fcbench/fcbench-tools ;;
+esac
+if [ ! -x "${FCBENCH:-}" ] || [ ! -x "${FCBENCH_TOOLS:-}" ]; then
   echo 'fcbench: start ./fcbench, or install it with ./install' >&2
   exit 70
 fi

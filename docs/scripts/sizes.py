@@ -27,8 +27,8 @@ def lines_in(crates, part):
     total = 0
     for crate in crates:
         for path in files_of(crate):
-            if path.startswith(f"{ROOT}/crates/{crate}/{part}/"):
-                with open(path, encoding="utf-8") as file:
+            if path.startswith(f"crates/{crate}/{part}/"):
+                with open(f"{ROOT}/{path}", encoding="utf-8") as file:
                     total += sum(1 for _ in file)
     return total
 

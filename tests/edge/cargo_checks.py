@@ -18,7 +18,7 @@ NEEDED = {"fmt": ("rustfmt", "rustfmt"), "clippy": ("cargo-clippy", "rust-clippy
 def built():
     """The path of the tools, built where that is needed."""
     subprocess.run([f"{TOOLS}/build"], check=True)
-    return f"{TOOLS}/target/release/fcbench-tools"
+    return f"{TOOLS}/out/fcbench-tools"
 
 
 def cargo(command, *words):
