@@ -132,12 +132,13 @@ def nemesis_room(program, report):
 
 def of_many_nemeses(program, count):
     """A history in which nemeses begin so many things, none of which ends."""
-    return program.write(f"nemeses.{count}.edn", OVERLAPPING + "".join(f"{{:process :nemesis, :type :info, :f :start-{it}}}\n" for it in range(count)))
+    begun = "".join(f"{{:process :nemesis, :type :info, :f :start-{it}}}\n" for it in range(count))
+    return program.write(f"nemeses.{count}.edn", OVERLAPPING + begun)
 
 
 def many_nemeses(program, report):
-    """A page of many things that nemeses began has as many instructions for each as one of half of them, by count, and has no more than 40 bands in a line,
-    the last of which says how many are left."""
+    """A page of many things that nemeses began takes no more instructions for each than one of half of them. It has at most 40 bands in a line,
+    the last of which says how many more there are."""
     few, many = (program.instructions("draw", of_many_nemeses(program, count)) for count in (4_000, 8_000))
     report.holds("draw: 8,000 nemeses take less than 2.5 times what 4,000 take", many < 2.5 * few, (few, many))
     page = program.run("draw", "nemeses.8000.edn").out.decode()

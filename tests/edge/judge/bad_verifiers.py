@@ -6,7 +6,7 @@ import subprocess
 import time
 
 from .. import worked_rows
-from ..running import SECONDS
+from ..running import SECONDS, without_warnings
 from .bad_finders import finder
 from .limits import ended, started
 
@@ -22,7 +22,10 @@ def prints(lines, ends):
 
 # Two operations that overlap, of which nobody looks at what they did.
 ONLY_PUT = worked_rows.lines(
-    worked_rows.invoke(0, "enqueue", 1, 0), worked_rows.invoke(1, "enqueue", 2, 0), worked_rows.ok(0, "enqueue", 1, 0), worked_rows.ok(1, "enqueue", 2, 0),
+    worked_rows.invoke(0, "enqueue", 1, 0),
+    worked_rows.invoke(1, "enqueue", 2, 0),
+    worked_rows.ok(0, "enqueue", 1, 0),
+    worked_rows.ok(1, "enqueue", 2, 0),
 )
 # In place of the verifier: a script, and the status that judge and draw end with.
 VERIFIERS = {
@@ -83,7 +86,7 @@ def number_in(path):
 
 
 def state(process):
-    """The letter of the state of a process, or nothing if there is none. Z: it has ended, and nobody has asked how yet."""
+    """The letter of the state of a process, or nothing if there is none. Z: it has ended, and how is not asked yet."""
     try:
         with open(f"/proc/{process}/stat", encoding="ascii") as file:
             return file.read().rpartition(")")[2].split()[0]
@@ -149,14 +152,14 @@ def counted_operations(program, report):
         ("three operations, 4", three, ("--at-least", "4"), 3, told),
         ("a no, 4", worked_rows.OUT_OF_ORDER, ("--at-least", "500000"), 1, b""),
         ("a malformed text, 4", worked_rows.AFTER_INFO, ("--at-least", "500000"), 2, b""),
-        ("undecided, 10", worked_rows.FIRST_WRITE_LAST, ("--steps", "0", "--at-least", "500000"), 3, b"of at least 500000 operations returned\n"),
+        ("undecided", worked_rows.FIRST_WRITE_LAST, ("--steps", "0", "--at-least", "500000"), 3, b"of at least 500000 operations returned\n"),
     ):
         history = program.write("counted.edn", text)
         for command in ("judge", "draw"):
-            plain = subprocess.run([program.tools, command, *words, history], cwd=program.folder, capture_output=True)
-            errors = b"".join(line for line in plain.stderr.splitlines(True) if b": warning: " not in line and b": out of steps: " not in line)
-            is_silent = err == b"" or plain.stdout == b""
-            report.holds(f"{command}: {name}", (plain.returncode, is_silent) == (status, True) and errors.endswith(err) and bool(errors) == bool(err), plain)
+            ran = subprocess.run([program.tools, command, *words, history], cwd=program.folder, capture_output=True)
+            errors = without_warnings(("judge",), ran)
+            is_well = ran.returncode == status and bool(errors) == bool(err) and errors.endswith(err) and not (err and ran.stdout)
+            report.holds(f"{command}: {name}", is_well, ran)
     evidence = program.write("none.edn", "")
     report.equal("verify of an empty history", 0, program.run("verify", evidence, evidence).status)
     report.equal("check of an empty history", 0, program.run("check", evidence, evidence).status)
@@ -179,7 +182,8 @@ def strict_judgements(program, report):
         ran = program.run("judge", "--strict", program.write("strict.edn", text), env=env)
         report.equal(f"judge --strict: {name}", status, ran.status)
         if name != "the same, by one that finds nothing" and status == 3:
-            report.equal(f"judge --strict: {name}: lines", (b"", b"fcbench: --strict: it is a yes, which is not printed, with a warning\n"), (ran.out, ran.err))
+            says = b"fcbench: --strict: it is a yes, which is not printed, with a warning\n"
+            report.equal(f"judge --strict: {name}: lines", (b"", says), (ran.out, ran.err))
 
 
 PARTS = (bad_verifiers, judges_that_are_killed, closed_output, counted_operations, strict_judgements)

@@ -12,14 +12,19 @@ YES = "yes: 1 operations, 1 objects\nqueue: 1 objects, 1 operations\n"
 NO = "; object 0: impossible\n; {:object 0, :cuts []}\n"
 OPEN = "; object 0: open\n"
 MALFORMED = "malformed history: H8 at map 2\n"
-ORDER = "{:object 0, :order [0]}\n"
-SHOWN, NOT_SHOWN = "not linearizable: object 0: 1 of 2 operations have no valid order\n", "object 0: not shown: the part has a valid order\n"
+ORDER = "{:object 0, :order []}\n"
+SHOWN = "not linearizable: object 0: 1 of 2 operations have no valid order\n"
+NOT_SHOWN = "object 0: not shown: the part has a valid order\n"
+NO_MEMORY = "out of memory\n"
 REFUSED = "no: C1 object 0 has no certificate\n"
 # Of each function the answers that it may give: the status, and the lines.
 ANSWERS = {
-    "judge": [(0, YES), (1, NO), (1, OPEN + NO), (2, MALFORMED), (3, OPEN), (3, "out of memory\n"), (3, "malformed evidence: E3 at byte 0\n")],
-    "check": [(0, YES), (1, REFUSED), (2, MALFORMED), (2, "malformed certificates: K1 at form 0\n"), (3, "out of memory\n")],
-    "refute": [(1, SHOWN), (1, NOT_SHOWN + SHOWN), (2, MALFORMED), (2, "malformed reasons: N1 at form 0\n"), (3, NOT_SHOWN), (3, ""), (3, "out of memory\n")],
+    "judge": [(0, YES), (1, NO), (1, OPEN + NO), (2, MALFORMED), (3, OPEN), (3, NO_MEMORY), (3, "malformed evidence: E3 at byte 0\n")],
+    "check": [(0, YES), (1, REFUSED), (2, MALFORMED), (2, "malformed certificates: K1 at form 0\n"), (3, NO_MEMORY)],
+    "refute": [
+        *((1, SHOWN), (1, NOT_SHOWN + SHOWN), (2, MALFORMED), (2, "malformed reasons: N1 at form 0\n")),
+        *((3, NOT_SHOWN), (3, ""), (3, NO_MEMORY)),
+    ],
     "find": [(0, ORDER), (0, ""), (2, MALFORMED), (3, "{:object 0, :search {:steps 10}}\n"), (3, "")],
 }
 ANSWERS["verify"] = ANSWERS["judge"]
@@ -104,7 +109,7 @@ C_CALLER = """#include <fcbench.h>
 #include <stdio.h>
 #include <string.h>
 int main(int count, char **words) {
-    const char *text = "{:process 0, :type :invoke, :f :enqueue, :value 1}";
+    const char *text = "{:process 0, :type :invoke, :f :read}";
     uint8_t out[500];
     size_t needed, room = count > 2 ? 0 : sizeof out;
     uint32_t status = strcmp(words[1], "judge") == 0
@@ -126,8 +131,8 @@ def go_program(program, report):
         file.write("module foreign\n")
     with open(f"{folder}/main.go", "w") as file:
         file.write(GO_CALLER)
-    env = {"CGO_CFLAGS": f"-I{ROOT}/include", "CGO_LDFLAGS": f"{program.folder}/libforeign.a", "GOCACHE": f"{program.folder}/go", "GOFLAGS": "-mod=mod"}
-    done(report, "the caller in Go is built", ["go", "build", "-o", "../in_go", "."], FOLDER=folder, **env)
+    env = {"CGO_CFLAGS": f"-I{ROOT}/include", "CGO_LDFLAGS": f"{program.folder}/libforeign.a", "GOFLAGS": "-mod=mod"}
+    done(report, "the caller in Go is built", ["go", "build", "-o", "../in_go", "."], FOLDER=folder, GOCACHE=f"{program.folder}/go", **env)
     return [f"{program.folder}/in_go"]
 
 
@@ -161,12 +166,14 @@ def asked(program, words, status, lines):
 
 
 def foreign_libraries(program, report):
-    """Over a library that gives other lines than its status has, each caller ends with an error, and gives no verdict. Those of an answer it takes."""
+    """Over a library that gives other lines than its status has, each caller ends with an error, and gives no verdict. It takes those of an
+    answer."""
     if missing("gcc"):
         return missing("gcc")
     found, count = callers(program, report), 0
     for language, words in found.items():
-        cases = [(name, *case, is_right) for name, right in ANSWERS.items() for is_right, those in ((True, right), (False, foreign(name))) for case in those]
+        cases = [(name, *case, True) for name, right in ANSWERS.items() for case in right]
+        cases += [(name, *case, False) for name in ANSWERS for case in foreign(name)]
         ended = at_once(lambda case: asked(program, [*words, case[0]], case[1], case[2]), cases)
         for (name, status, lines, is_right), (came, said) in zip(cases, ended):
             is_well = (came, said) == (0, str(status)) if is_right else came != 0 and not said[:1].isdigit()
@@ -183,16 +190,17 @@ def foreign_half(program, report):
     done(report, "the two halves are taken apart", ["ar", "x", LIBRARY, "finder.o"], FOLDER=folder)
     caller = f"{folder}/{program.write('in_c.c', C_CALLER)}"
     done(report, "the caller in C is built", [*C, "-DPROVED_HALF", caller, source, f"{folder}/finder.o", "-lpthread", "-ldl", "-lm", "-o", f"{folder}/in_c"])
-    for status, lines in ANSWERS["verify"]:
-        report.equal(f"embedding: fcbench_judge over {status} and {lines!r}", (0, f"{status} {len(lines)}"), asked(program, [f"{folder}/in_c", "judge"], status, lines))
-    for status, lines in foreign("judge"):
-        report.equal(f"embedding: fcbench_judge over {status} and {lines!r}", (0, "70 0"), asked(program, [f"{folder}/in_c", "judge"], status, lines))
+    wanted = {(status, lines): f"{status} {len(lines)}" for status, lines in ANSWERS["verify"]} | dict.fromkeys(foreign("judge"), "70 0")
+    for (status, lines), said in wanted.items():
+        came = asked(program, [f"{folder}/in_c", "judge"], status, lines)
+        report.equal(f"embedding: fcbench_judge over {status} and {lines!r}", (0, said), came)
     for status, lines in ((0, YES), (1, REFUSED), (0, ""), (0, REFUSED), (70, YES), (3, YES)):
         wanted = 0 if (status, lines) == (0, YES) else 3
-        report.equal(f"embedding: fcbench_find over {status} and {lines!r}", (0, f"{wanted} {len(ORDER)}"), asked(program, [f"{folder}/in_c", "find"], status, lines))
-    for status, wanted in ((0, 0), (1, 70), (2, 70), (3, 70)):
-        came = asked(program, [f"{folder}/in_c", "judge", "no_room"], status, YES)
-        report.equal(f"embedding: fcbench_judge without room over {status}", (0, f"{wanted} {len(YES) if wanted == 0 else 0}"), came)
+        came = asked(program, [f"{folder}/in_c", "find"], status, lines)
+        report.equal(f"embedding: fcbench_find over {status} and {lines!r}", (0, f"{wanted} {len(ORDER)}"), came)
+    for status, lines, said in ((0, YES, f"0 {len(YES)}"), (1, NO, f"1 {len(NO)}"), (0, "", "70 0"), (64, YES, "70 0")):
+        came = asked(program, [f"{folder}/in_c", "judge", "no_room"], status, lines)
+        report.equal(f"embedding: fcbench_judge without room over {status} and {lines!r}", (0, said), came)
 
 
 PARTS = (foreign_libraries, foreign_half)

@@ -73,8 +73,8 @@ fn run(
     Ok(Judgement { answer: answer?, summary })
 }
 
-/// Whether a warning is printed. That no race can show matters only with a yes; puts without replies only
-/// without one, since a correct store may then get a no.
+/// Whether a warning is printed. That no race can show matters only with a yes; puts without
+/// replies only without one, since a correct store may then get a no.
 fn warns(warning: &str, is_yes: bool) -> bool {
     !warning.contains(if is_yes { SILENT_PUTS } else { OF_A_YES })
 }

@@ -1,6 +1,6 @@
 //! Whether some reply of a history depends on the order of operations of different processes. If
-//! none does, the history says nothing about the order: an object that mixed up its operations could
-//! have given the same replies.
+//! none does, the history says nothing about the order: an object that mixed up its operations
+//! could have given the same replies.
 //!
 //! A reply depends on it if two things hold. It would differ, or its operation would not be
 //! possible, with another content of its cell: of a map the key, of a set the element, of the other

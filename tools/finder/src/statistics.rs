@@ -9,8 +9,8 @@ use std::fmt::{self, Display, Formatter};
 use std::iter::Sum;
 
 /// How many operations a history has, and how they overlap. Only operations on one object are
-/// compared, since two objects share no order; of a map only those on one key, and of a set those on
-/// one element.
+/// compared, since two objects share no order; of a map only those on one key, and of a set those
+/// on one element.
 #[derive(Clone, Copy, Debug, Default, PartialEq, Eq)]
 pub struct Statistics {
     /// Those that did not fail.
