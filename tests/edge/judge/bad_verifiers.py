@@ -20,7 +20,7 @@ def prints(lines, ends):
     return f"printf '%s' '{lines}'; {ends}"
 
 
-# Two operations that overlap, of which nobody looks at what they did.
+# Two operations that overlap, and no operation looks at what they did.
 ONLY_PUT = worked_rows.lines(
     worked_rows.invoke(0, "enqueue", 1, 0),
     worked_rows.invoke(1, "enqueue", 2, 0),

@@ -101,8 +101,9 @@ func main() {
 """
 PYTHON_CALLER = """import sys
 import fcbench
-name = sys.argv[1]
-print(int(getattr(fcbench, name)(*[""] * (1 if name in ("judge", "find") else 2)).verdict), end="")
+call = getattr(fcbench, sys.argv[1])
+answer = call("") if sys.argv[1] in ("judge", "find") else call("", "")
+print(int(answer.verdict), end="")
 """
 # A caller of the half of the library that is not proved. The history has one pending operation.
 C_CALLER = """#include <fcbench.h>
@@ -189,7 +190,8 @@ def foreign_half(program, report):
     folder, source = program.folder, f"{ROOT}/tests/edge/library/foreign.c"
     done(report, "the two halves are taken apart", ["ar", "x", LIBRARY, "finder.o"], FOLDER=folder)
     caller = f"{folder}/{program.write('in_c.c', C_CALLER)}"
-    done(report, "the caller in C is built", [*C, "-DPROVED_HALF", caller, source, f"{folder}/finder.o", "-lpthread", "-ldl", "-lm", "-o", f"{folder}/in_c"])
+    objects, libraries = (caller, source, f"{folder}/finder.o"), ("-lpthread", "-ldl", "-lm")
+    done(report, "the caller in C is built", [*C, "-DPROVED_HALF", *objects, *libraries, "-o", f"{folder}/in_c"])
     wanted = {(status, lines): f"{status} {len(lines)}" for status, lines in ANSWERS["verify"]} | dict.fromkeys(foreign("judge"), "70 0")
     for (status, lines), said in wanted.items():
         came = asked(program, [f"{folder}/in_c", "judge"], status, lines)
