@@ -6,22 +6,21 @@
 
 Without an address N processes of this machine are the workers. They read the shards in FOLDER, which must then have the same path
 everywhere; with --send they are sent the texts. FCBENCH is the program, here and on each worker. Evidence is written into FOLDER,
-and a shard that has evidence is passed over, so a run that was stopped goes on. Lines and status are those of `fcbench merge FOLDER`:
-no worker need be believed, and a shard without evidence is undecided.
+and a shard that has evidence is passed over, so a run that was stopped goes on. Lines and status are those of `fcbench merge FOLDER`, or
+70 if these are of no answer: no worker need be believed, and a shard without evidence is undecided.
 
 This needs Dask: on Debian the package python3-distributed."""
 import argparse
 import collections
 import contextlib
 import os
+import re
 import shutil
 import subprocess
 import sys
 import tempfile
 import time
 import zlib
-
-from dask.distributed import Client, LocalCluster, as_completed
 
 # How find ends that has written evidence: each object has an order; or some have none. FAILED it is on some objects, or could not begin.
 FOUND, FAILED = (0, 3), 70
@@ -32,6 +31,20 @@ RETRIES = 2
 # How many shards are under way for each thread of the workers, so that none waits.
 AHEAD = 2
 BETWEEN_NOTES = 2.0
+# What a `merge` that ends with a status prints, by the table of docs/commands.md. With 4 a file could not be read, as standard error says.
+NO = r"(?m)^; object \d+: impossible$"
+LINES = {
+    0: r"\Ayes: \d+ operations, \d+ objects\n(\w+: \d+ objects, \d+ operations\n)*\Z",
+    1: NO,
+    2: r"(?m)^shard \d+: (malformed history: .*|its table does not fit|it has \d+ maps, and not \d+)$",
+    3: r"(?m)^(; object \d+: (open|out of .*)|shard \d+: (malformed evidence: .*|too large)|out of memory)$",
+}
+UNREADABLE, WRONG_WORDS, NO_ANSWER = 4, 64, 70
+try:
+    from dask.distributed import Client, LocalCluster, as_completed
+except ImportError as missing:  # Python would end with 1, which says that the history is not linearizable.
+    print(f"fcbench_dask: {missing}", file=sys.stderr)
+    sys.exit(NO_ANSWER)
 # What a worker's finder is started by, if it is there: the finder is killed when the worker is.
 TIED = ("setpriv", "--pdeathsig", "KILL")
 
@@ -68,7 +81,7 @@ class Shards:
         with open(f"{self.folder}/shards", encoding="ascii") as file:
             number = file.read()
         if not number.endswith("\n"):
-            sys.exit(f"{self.folder}/shards is cut")
+            raise OSError(f"{self.folder}/shards is cut")
         self.count = int(number)
 
     def stem(self, shard):
@@ -172,9 +185,17 @@ def client_of(given):
             yield client
 
 
+class Line(argparse.ArgumentParser):
+    """A command line that is refused with the status of fcbench: that of argparse says that a text is malformed."""
+
+    def error(self, message):
+        self.print_usage(sys.stderr)
+        self.exit(WRONG_WORDS, f"{self.prog}: error: {message}\n")
+
+
 def words():
     """What the command line says."""
-    line = argparse.ArgumentParser(description=__doc__, formatter_class=argparse.RawDescriptionHelpFormatter, usage=argparse.SUPPRESS)
+    line = Line(description=__doc__, formatter_class=argparse.RawDescriptionHelpFormatter, usage=argparse.SUPPRESS)
     line.add_argument("folder")
     workers = line.add_mutually_exclusive_group()
     workers.add_argument("--scheduler")
@@ -186,6 +207,25 @@ def words():
     return line.parse_args()
 
 
+def is_answer(status, lines):
+    """Whether a `merge` that ends with this status may have printed these lines. Of another program it is not."""
+    fits = status in LINES and re.search(LINES[status], lines) and lines.endswith("\n")
+    return bool(fits) and bool(re.search(NO, lines)) <= (status in (1, 2))
+
+
+def merged(program, folder, steps):
+    """Merges the shards of a folder, and prints the lines. Returns the status."""
+    ran = subprocess.run([program, "merge", folder, *steps], stdout=subprocess.PIPE, check=False)
+    lines = ran.stdout.decode(errors="replace")
+    if is_answer(ran.returncode, lines):
+        print(lines, end="", flush=True)
+        return ran.returncode
+    if ran.returncode == UNREADABLE:
+        return UNREADABLE
+    note(f"fcbench_dask: {program} merge ended with {ran.returncode} and without the lines of such an answer: is it fcbench?")
+    return NO_ANSWER
+
+
 def main():
     given = words()
     steps = [] if given.steps is None else ["--steps", str(given.steps)]
@@ -194,8 +234,12 @@ def main():
         with client_of(given) as client:
             client.wait_for_workers(1)
             Search(client, shards, given, steps).all()
-    return subprocess.run([given.program, "merge", shards.folder, *steps], check=False).returncode
+    return merged(given.program, shards.folder, steps)
 
 
 if __name__ == "__main__":
-    sys.exit(main())
+    try:
+        sys.exit(main())
+    except Exception as error:  # Python would end with 1, which says that the history is not linearizable.
+        note(f"fcbench_dask: {type(error).__name__}: {error}")
+        sys.exit(UNREADABLE if isinstance(error, OSError) else NO_ANSWER)

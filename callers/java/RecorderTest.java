@@ -138,13 +138,24 @@ public final class RecorderTest {
             this.status = status;
             this.lines = lines;
         }
+
+        /** Whether the lines are those of an answer with this status: another program may have the name of fcbench. */
+        boolean fits() {
+            switch (status) {
+                case 0: return !lines.isEmpty() && lines.get(0).startsWith("yes: ");
+                case 1: return lines.stream().anyMatch(line -> line.startsWith("; object ") && line.endsWith(": impossible"));
+                default: return false;
+            }
+        }
     }
 
     private static Answer judge(String history) throws Exception {
         Path file = folder.resolve("java.history.edn"), said = folder.resolve("java.said");
         Files.write(file, history.getBytes(StandardCharsets.UTF_8));
         Process judged = new ProcessBuilder(program, "judge", file.toString()).redirectOutput(said.toFile()).start();
-        return new Answer(judged.waitFor(), Files.readAllLines(said));
+        Answer answer = new Answer(judged.waitFor(), Files.readAllLines(said));
+        want(answer.fits(), program + " ended with status " + answer.status + " and without the lines of such an answer", answer.lines);
+        return answer;
     }
 
     private static void rightQueues(int runs) throws Exception {

@@ -1,6 +1,7 @@
 """What looks for the evidence of shards side by side: the lines of docs/shards.md, and the client for Dask."""
 import os
 import re
+import shlex
 import shutil
 import signal
 import subprocess
@@ -206,6 +207,46 @@ def with_a_finder_that_fails(python, program, report):
     report.holds("dask: a finder fails: the shard is named", b"fcbench_dask: shard 3: no evidence: " in ran.err, ran)
 
 
+# What a program prints in place of the lines of merge, how it ends, and the status of the client.
+BAD_MERGES = (
+    ("", "exit 0", 70),
+    ("", "exit 1", 70),
+    ("yes: 1 operations, 1 objects\n", "exit 1", 70),
+    ("yes: 1 opera", "exit 0", 70),
+    ("; object 0: impossible\n", "exit 0", 70),
+    ("; object 0: impossible\n", "exit 3", 70),
+    ("; object 0: open\n", "exit 1", 70),
+    ("all is well\n", "exit 0", 70),
+    ("yes: 1 operations, 1 objects\n", "kill -9 $$", 70),
+    ("yes: 1 operations, 1 objects\n", "exit 4", 4),
+    ("yes: 1 operations, 1 objects\n", "exit 64", 70),
+)
+
+
+def with_another_program(python, program, report):
+    """A program that is no fcbench gives no verdict, and neither does one that is missing, a folder that has no shards, or wrong words."""
+    folder = Folder(program, "another", 1)
+    judged(program, "whole", whole("another"))
+    folder.split("whole.edn")
+    folder.write("0.evidence", b"")
+    client = lambda *words, options=(): subprocess.run([python, *options, CLIENT, *words], capture_output=True, timeout=SECONDS)  # noqa: E731
+    for number, (said, ends, wanted) in enumerate(BAD_MERGES):
+        path = f"{program.folder}/{program.write(f'merge.{number}', lines('#!/bin/sh', f'printf %s {shlex.quote(said)}', ends))}"
+        os.chmod(path, 0o755)
+        ran = client(folder.path(), "--program", path)
+        report.equal(f"dask: a program that prints {said!r}: {ends}", (wanted, b""), (ran.returncode, ran.stdout), ran.stderr)
+    for words, wanted in (
+        ((folder.path(), "--program", "/there/is/none"), 4),
+        ((program.folder,), 4),
+        ((), 64),
+        ((folder.path(), "--workers", "x"), 64),
+    ):
+        ran = client(*words)
+        report.equal(f"dask: {words[1:]}", (wanted, b""), (ran.returncode, ran.stdout), ran.stderr)
+    without = client(folder.path(), options=("-S",))
+    report.equal("dask: without Dask", (70, b""), (without.returncode, without.stdout), without.stderr)
+
+
 def shards_by_dask(program, report):
     """The client for Dask gets the evidence from workers on one machine, also if one of them is killed."""
     python = python_with_dask()
@@ -215,6 +256,7 @@ def shards_by_dask(program, report):
     with_its_finder_killed(python, program, report)
     with_a_worker_killed(python, program, report)
     with_a_finder_that_fails(python, program, report)
+    with_another_program(python, program, report)
 
 
 PARTS = (documented_lines, shards_by_dask)
