@@ -1,6 +1,7 @@
 //! The verifier.
 
 use crate::status::Status;
+use import::visible;
 use std::env;
 use std::ffi::OsString;
 use std::fs;
@@ -74,7 +75,8 @@ pub fn note(line: std::fmt::Arguments<'_>) {
     let _ = writeln!(io::stderr(), "{line}");
 }
 
-/// Reports on standard error what went wrong.
+/// Reports on standard error what went wrong. A name of a file may have any characters: those that
+/// a terminal does not show are escaped.
 pub fn say(what: std::fmt::Arguments<'_>) {
-    note(format_args!("fcbench: {what}"));
+    note(format_args!("fcbench: {}", visible(what.to_string().as_bytes())));
 }
