@@ -84,7 +84,7 @@ impl Change {
     fn therefore(self) -> &'static str {
         match self {
             Change::Owner => {
-                ": whether each is released by its owner is not judged. Use --owners, which keeps them"
+                ": who lets go of what another one holds is not judged. Use --owners, which keeps them"
             }
             Change::Token => {
                 ": fencing tokens, and owners that a reply alone names, are not judged"
@@ -95,6 +95,7 @@ impl Change {
             Change::NoClient => {
                 ": they are no clients. The process of a client is an integer or a string"
             }
+            Change::Mark => ": these events have none in the text",
             Change::Tuple => ": each key is an object",
             _ => "",
         }

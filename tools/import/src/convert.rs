@@ -9,7 +9,7 @@ use crate::edn::Reader;
 use crate::events::{Entry, Event, Kind, Said};
 use crate::failures::Replies;
 use crate::form::Form;
-use crate::initial::initial_events;
+use crate::initial::{NOTHING_WRITTEN, initial_events};
 use crate::names::Names;
 use crate::operations::{Refused, operations};
 use crate::reading::{Events, events_of};
@@ -109,8 +109,7 @@ pub fn import(text: &str, options: &Options) -> Result<Imported, Refused> {
     let mut warnings: Vec<String> = failures.warning(&options.replies).into_iter().collect();
     warnings.extend(changes.lines(true).chain(of_times));
     if options.initial.is_some() && before.is_empty() {
-        warnings
-            .push("--initial writes nothing: the history has no register that it names".to_owned());
+        warnings.push(NOTHING_WRITTEN.to_owned());
     }
     before.extend(events);
     refuse_strange_replies(&before)?;

@@ -7,6 +7,10 @@ use crate::operations::Refused;
 use finder::{Shape, setting};
 use std::collections::HashSet;
 
+/// The warning that the option changes nothing.
+pub const NOTHING_WRITTEN: &str =
+    "--initial writes nothing: the history has no register that it names";
+
 /// What an object contains at first: what a map says of it, or the one value if it is a register.
 fn initial_of<'a>(initial: &'a Form, event: &Event) -> Option<&'a Form> {
     match initial {
