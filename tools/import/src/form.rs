@@ -28,7 +28,7 @@ pub enum Form {
 }
 
 /// Whether a tag is the name of a class, as records have it.
-fn is_class(tag: &str) -> bool {
+pub fn is_class(tag: &str) -> bool {
     tag.contains('.') && !tag.contains('/')
 }
 

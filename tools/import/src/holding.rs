@@ -17,9 +17,10 @@ pub fn names_owner(form: &Form) -> bool {
 pub fn owned_objects(all: &[Operation], is_keyed: bool) -> HashSet<Form> {
     let (mut owned, mut others) = (HashSet::new(), HashSet::new());
     for Operation { map, .. } in all {
+        let is_invoked = Kind::read(said(map, "type")) == Some(Kind::Invoke);
         let named = name_of(map.get("f")).filter(|name| {
-            function(name, false).is_some_and(|it| it.holds().is_some())
-                && Kind::read(said(map, "type")) == Some(Kind::Invoke)
+            is_invoked
+                && function(name, false).is_some_and(|it| it.holds().is_some())
                 && !is_nemesis(said(map, "process"))
         });
         if let (Some(name), Ok((object, value))) = (named, object_and_value(map, is_keyed)) {

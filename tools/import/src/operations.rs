@@ -2,7 +2,7 @@
 //! of a Jepsen store; or objects of JSON, one after another, as in lines, or in one array.
 
 use crate::edn::{Malformed, Reader};
-use crate::form::Form;
+use crate::form::{Form, is_class};
 use crate::json;
 use std::fmt::{self, Display, Formatter};
 
@@ -36,9 +36,12 @@ const EXPECTED: &str = "expected are maps as {:process 0, :type :invoke, :f :rea
 as in history.edn of a Jepsen store, or objects of JSON with the same keys, one after another or in one array";
 
 fn operation(line: usize, form: Form) -> Result<Operation, Refused> {
-    match form.of_record() {
-        Form::Map(_) => Ok(Operation { line, map: form.of_record().clone() }),
-        _ => Err(Refused { line, why: format!("no map: {form}; {EXPECTED}") }),
+    match form {
+        Form::Map(_) => Ok(Operation { line, map: form }),
+        Form::Tagged(tag, map) if is_class(&tag) && matches!(*map, Form::Map(_)) => {
+            Ok(Operation { line, map: *map })
+        }
+        other => Err(Refused { line, why: format!("no map: {other}; {EXPECTED}") }),
     }
 }
 
