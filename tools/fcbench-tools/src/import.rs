@@ -59,7 +59,7 @@ fn table_of(names: &Names) -> Result<String, Status> {
         Ok(read) if read.to_string() == table => Ok(table),
         _ => {
             say(format_args!("the table of names cannot be read back"));
-            Err(Status::BROKEN)
+            Err(Status::FAILED)
         }
     }
 }
