@@ -13,7 +13,7 @@ TABLES = ("", TABLE, "; made by hand\n{:value 1, :is :a}\n")
 
 
 def replaced_tables(program, report):
-    """The table of names replaces a table, also behind a link, and no other file: neither the history, nor the output. No other file is left."""
+    """The table of names replaces a table, also one to which a link leads, and no other file: neither the history, nor the output."""
     store, names = program.write("store.edn", STORE), f"{program.folder}/names.edn"
     for text in OTHERS:
         program.write("names.edn", text.encode("latin-1"))
@@ -78,7 +78,8 @@ def names_on_terminals(program, report):
 def discards(program, report):
     """Thirty thousand discards are passed over, and deep ones are refused; judge says of both that the text is malformed."""
     event = "{:process 0, :type :invoke, :f :read, :value nil, :object 0}\n"
-    for text, status, out in (("#_1 " * 30_000 + event, 0, event), ("#_ " * 30_000 + "1 " * 30_000 + event, 0, event), ("#_[" * 30_000 + event, 2, "")):
+    many = 30_000
+    for text, status, out in (("#_1 " * many + event, 0, event), ("#_ " * many + "1 " * many + event, 0, event), ("#_[" * many + event, 2, "")):
         path = program.write("discards.edn", text)
         ran = program.run("import", path)
         report.equal(f"import: {text[:9]}", (status, out), (ran.status, ran.out.decode()), ran.err[:300])

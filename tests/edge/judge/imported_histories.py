@@ -30,7 +30,8 @@ TEXT = b"""{:process 0, :type :invoke, :f :write, :value 0, :object 0, :time 5, 
 """
 NAMES = '{:object 0, :is "x"}\n{:object 1, :is "y"}\n{:value 0, :is :b}\n{:value 1, :is "c"}\n'
 # What import says of it: what is not taken as it is.
-COUNTED = b"""fcbench: warning: left out: 1 values of :time and :index that are no integers, such as :time 1.5 (first in line 2): these events have none in the text
+NO_INTEGER = b"left out: 1 values of :time and :index that are no integers, such as :time 1.5 (first in line 2): these events have none in the text"
+COUNTED = b"fcbench: warning: " + NO_INTEGER + b"""
 fcbench: read as tuples [key value]: 4 values, such as ["x" :b] (first in line 1): each key is an object
 fcbench: left out: 1 values and functions of the nemesis, such as [:isolated {"n1" #{"n2"}}] (first in line 2)
 fcbench: numbered: 2 objects, such as "x"; --names FILE writes which number each has
@@ -128,7 +129,8 @@ def failed_operations(program, report):
         left_out, reply = program.run("import", path), program.run("import", option, path)
         warnings = [line for line in warnings_of(left_out) if line.startswith("fcbench: warning: left out: 1 failed :dequeue with ")]
         counted = b"fcbench: read as replies: 1 failed operations, such as :dequeue (first in line 4)\n" in reply.err
-        report.equal(f"import: {error}: warnings", (0, int(warns), [], True), (left_out.status, len(warnings), warnings_of(reply), counted), left_out.err)
+        came = left_out.status, len(warnings), warnings_of(reply), counted
+        report.equal(f"import: {error}: warnings", (0, int(warns), [], True), came, left_out.err)
         statuses = [program.run("judge", program.write("text.edn", imported.out)).status for imported in (left_out, reply)]
         report.equal(f"import: {error}: {option} makes a no of a yes", [0, 1], statuses)
 
@@ -246,8 +248,8 @@ def joined_logs(program, report):
         judged = program.run("judge", program.write("imported.edn", ran.out)).status
         report.holds(f"import: joined logs {options}", len(said) == 1 and said[0].startswith(f"fcbench: warning: {first}") and judged == verdict, ran)
     early = program.write("early.edn", FIRST_LOG.replace("200", "20"))
-    why = "line 2: operation 0: by its :time the :ok of process 0 is before its :invoke in line 1"
-    report.answers("import: --by-time: a completion before its invocation", program.run("import", "--by-time", early), "", 2, f"fcbench: {early}, {why}\n")
+    why = f"fcbench: {early}, line 2: operation 0: by its :time the :ok of process 0 is before its :invoke in line 1\n"
+    report.answers("import: --by-time: a completion before its invocation", program.run("import", "--by-time", early), "", 2, why)
 
 
 # ---- generated files

@@ -47,7 +47,7 @@ def events_of(rng):
         f, argument, on, replies = outstanding.pop(process)
         kind = rng.choices(("ok", "fail", "info"), (8, 1, 1))[0]
         reply = number(rng, rng.choice(replies.split()))
-        value = argument if reply == "=" or kind != "ok" else reply
+        value = "nil" if kind != "ok" else argument if reply == "=" else reply
         events.append([process, kind, f, value, on, more])
         if kind == "info":
             processes[processes.index(process)] = max(processes) + 1
@@ -135,7 +135,7 @@ def found(program, path):
     return {0: "yes", 2: "malformed"}.get(ran.status, "no" if is_impossible else f"open {ran}")
 
 
-# What is said of failed operations that may be replies. They are in the text as they were.
+# The lines on failed operations that may be replies. They are in the text as they were.
 OF_FAILED = re.compile(r"fcbench: warning: left out: \d+ failed .*")
 
 # Why import refuses a reply that the verifier would judge: it may be a message of a client.
@@ -158,8 +158,8 @@ def wrong_import(program, seed, verdict):
 
 
 def drawn_texts(program, report):
-    """A text that is taken as it is, in any spelling, is written as it was, and nothing is said. One in which something was changed has the same
-    verdict after import; or it was malformed, and import names the lines, or an option, by which it is judged."""
+    """A text that is taken as it is, in any spelling, is written as it was, without a line on standard error. One in which something was changed has
+    the same verdict after import; or it was malformed, and import names the lines, or an option, by which it is judged."""
     for seed, wrong in enumerate(at_once(lambda seed: wrong_import(program, seed, found), range(TEXTS))):
         report.equal(f"import: drawn text {seed}", None, wrong)
     return f"{TEXTS} texts"

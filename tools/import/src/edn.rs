@@ -181,7 +181,7 @@ impl<'a> Reader<'a> {
         }
     }
 
-    /// What begins with `#`: a set, a pattern, a number that is none, or a tagged form.
+    /// What begins with `#`: a set, a pattern, a symbolic number, or a tagged form.
     fn dispatch(&mut self, open: usize) -> Result<Form, Malformed> {
         self.next();
         match self.peek() {

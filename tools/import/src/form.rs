@@ -53,8 +53,8 @@ impl Form {
         }
     }
 
-    /// Whether two forms that are spelled so are equal. Of those with a tag that is not known, and a
-    /// `##NaN` is not equal to itself.
+    /// Whether two forms that are spelled so are equal. That is not known of those with a tag, and
+    /// a `##NaN` is not equal to itself.
     pub fn has_equals(&self) -> bool {
         match self {
             Form::Tagged(..) => false,

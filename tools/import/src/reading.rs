@@ -347,13 +347,10 @@ impl<'a> State<'a> {
         Ok(reply)
     }
 
-    /// The value of a completion that has no reply: it is not judged, and kept if it is the
+    /// The value of a completion that has no reply, which is not judged. It mostly repeats the
     /// argument.
     fn value_without_reply(&mut self, call: &Call, value: &Form, at: At) -> Said {
-        if call.argument.form() == *value {
-            return call.argument.clone();
-        }
-        if *value != Form::Nil && *value != call.owner {
+        if ![&Form::Nil, &call.argument.form(), &call.owner].contains(&value) {
             self.changes.note(Change::Value, at.line, || value.to_string());
         }
         Said::Nil

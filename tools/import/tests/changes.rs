@@ -23,7 +23,7 @@ fn owners() -> Options {
     Options { has_owners: true, ..Options::default() }
 }
 
-/// All that is said of an import.
+/// All lines on an import.
 fn lines(made: &Imported) -> String {
     [&made.warnings[..], &made.notes[..]].concat().join("\n")
 }
@@ -283,7 +283,7 @@ fn times_that_cannot_be_sorted_are_refused() {
     );
 }
 
-/// What is said of a history of one call, to which something was done.
+/// The lines on a history of one call, to which something was done.
 #[test]
 fn each_change_is_counted() {
     let plain = call("0", "write", 0, "1", "1");
