@@ -33,6 +33,15 @@ pub fn is_class(tag: &str) -> bool {
 }
 
 impl Form {
+    /// The key of an object of JSON: a keyword, or a string if it can be none.
+    pub fn key(name: String) -> Form {
+        if name.is_empty() || name.contains(|it| ends_word(it) || !is_plain(it)) {
+            Form::Str(name)
+        } else {
+            Form::Keyword(name)
+        }
+    }
+
     /// A set of these items.
     pub fn set(mut items: Vec<Form>) -> Form {
         items.sort_unstable();
@@ -154,14 +163,6 @@ pub fn ends_word(character: char) -> bool {
     character.is_whitespace() || ",()[]{}\";".contains(character)
 }
 
-/// A keyword, or the string of a key of JSON that cannot be one.
-fn write_keyword(f: &mut Formatter<'_>, name: &str) -> fmt::Result {
-    if name.is_empty() || name.contains(|it| ends_word(it) || !is_plain(it)) {
-        return write_string(f, name);
-    }
-    write!(f, ":{name}")
-}
-
 /// As EDN has it, in one line.
 impl Display for Form {
     fn fmt(&self, f: &mut Formatter<'_>) -> fmt::Result {
@@ -171,7 +172,7 @@ impl Display for Form {
             Form::Int(number) => write!(f, "{number}"),
             Form::Number(text) | Form::Symbol(text) => f.write_str(text),
             Form::Str(text) => write_string(f, text),
-            Form::Keyword(name) => write_keyword(f, name),
+            Form::Keyword(name) => write!(f, ":{name}"),
             Form::Vector(items) => write_all(f, "[", items, "]"),
             Form::Set(items) => write_all(f, "#{", items, "}"),
             Form::Map(entries) => {

@@ -1,4 +1,5 @@
-//! Reads values of JSON as forms: an object is a map with keywords for keys.
+//! Reads values of JSON as forms: an object is a map with keywords for keys, or strings where a key
+//! can be no keyword.
 //! <https://www.rfc-editor.org/rfc/rfc8259>
 
 use crate::edn::{four_digits, number, twice};
@@ -140,7 +141,7 @@ impl<'a> Reader<'a> {
         }
         loop {
             self.takes("\"").then_some(())?;
-            let key = Form::Keyword(self.string()?);
+            let key = Form::key(self.string()?);
             if entries.has(&key) {
                 self.repeated = Some(key);
                 return None;

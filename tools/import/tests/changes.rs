@@ -464,7 +464,7 @@ fn symbolic_numbers_are_one_form() {
 fn names_are_read_back_and_shown() {
     for key in ["my key", "", "a\\u001b[2J", "a\\\"b", "a,b", "\\u202e", "a;b", "}"] {
         let text = format!(
-            "{{\"process\": 0, \"type\": \"invoke\", \"f\": \"write\", \"value\": 1, \"object\": {{\"{key}\": 1}}}}"
+            "{{\"process\": 0, \"type\": \"invoke\", \"f\": \"write\", \"value\": 1, \"object\": {{\"{key}\": 1, \"z\": 2, \"A\": 3}}}}"
         );
         let table = imported(&text).names.to_string();
         assert_eq!(Names::read(&table).map(|it| it.to_string()), Ok(table.clone()), "{table}");
