@@ -21,7 +21,7 @@ pub enum Change {
     Tuple,
     /// A function that has another name in the text.
     Function,
-    /// A reply that has another form in the text.
+    /// An argument or a reply that has another form in the text.
     Reply,
     /// A failed operation that is a reply.
     FailedReply,
@@ -69,7 +69,7 @@ impl Change {
             Change::Mark => ("left out", "values of :time and :index that are no integers"),
             Change::Tuple => ("read as tuples [key value]", "values"),
             Change::Function => ("renamed", "functions"),
-            Change::Reply => ("rewritten", "replies"),
+            Change::Reply => ("rewritten", "arguments and replies"),
             Change::FailedReply => ("read as replies", "failed operations"),
             Change::Object => ("read on the object of its invocation", "completions"),
             Change::NilObject => ("read as no :object", "objects"),

@@ -28,19 +28,18 @@ struct State<'a> {
     /// The objects that keep their owners.
     owned: HashSet<Form>,
     open: HashMap<Form, Call>,
-    /// How often each process has gone on after `:info`, if its last operation was one: not yet.
+    /// The processes of which an operation has ended with `:info`.
     ended: HashMap<Form, Ended>,
     holding: Holding,
     failures: Failures,
     changes: Changes,
 }
 
-/// A process of which an operation ended with `:info`.
-#[derive(Default)]
+/// A process of which an operation has ended with `:info`: after it, it is another one.
 struct Ended {
-    /// As which process it goes on, counted from 1.
+    /// How many processes of the text it has been.
     life: i64,
-    /// Whether the last operation ended so.
+    /// Whether its last operation has ended so.
     is_now: bool,
 }
 
@@ -356,6 +355,22 @@ impl<'a> State<'a> {
         Said::Nil
     }
 
+    /// Takes in that a call has ended: what its client holds then, and that its process may not go
+    /// on.
+    fn note_end(&mut self, process: &Form, kind: Kind, call: &Call, value: &Form) {
+        match kind {
+            Kind::Ok => {
+                let owner = if names_owner(&call.owner) { &call.owner } else { value };
+                self.holding.note(process, &call.object, call.function, owner.clone());
+            }
+            Kind::Info => {
+                let first = Ended { life: 1, is_now: true };
+                self.ended.entry(process.clone()).or_insert(first).is_now = true;
+            }
+            Kind::Invoke | Kind::Fail => {}
+        }
+    }
+
     fn completion(&mut self, process: &Form, kind: Kind, at: At) -> Result<Event, String> {
         let (said_object, value) = object_and_value(at.map, self.is_keyed)?;
         let call = self
@@ -376,21 +391,9 @@ impl<'a> State<'a> {
             (Kind::Ok, None) => (kind, self.reply(&call, value, at)?),
             (_, None) => (kind, self.value_without_reply(&call, value, at)),
         };
-        let own = self.life_of(process);
-        match kind {
-            Kind::Ok => {
-                let owner = if names_owner(&call.owner) { &call.owner } else { value };
-                self.holding.note(process, &call.object, function, owner.clone());
-            }
-            Kind::Info => {
-                let ended =
-                    self.ended.entry(process.clone()).or_insert(Ended { life: 1, is_now: true });
-                ended.is_now = true;
-            }
-            Kind::Invoke | Kind::Fail => {}
-        }
+        self.note_end(process, kind, &call, value);
         Ok(Event {
-            process: own,
+            process: self.life_of(process),
             kind,
             function,
             value: reply,

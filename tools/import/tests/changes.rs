@@ -140,7 +140,10 @@ fn fencing_tokens_are_counted() {
     let plain = call("0", "lock", 0, "5", "5") + &call("0", "unlock", 0, "5", "true");
     let read = imported(&plain);
     assert_eq!(read.warnings, [""; 0]);
-    assert_eq!(read.notes, ["rewritten: 2 replies, such as 5 of :lock (first in line 2)"]);
+    assert_eq!(
+        read.notes,
+        ["rewritten: 2 arguments and replies, such as 5 of :lock (first in line 2)"]
+    );
 }
 
 #[test]
@@ -323,7 +326,7 @@ fn each_change_is_counted() {
         (
             ":type :ok, :f :write, :value 1",
             ":type :ok, :f :write, :value nil",
-            "rewritten: 1 replies, such as nil of :write (first in line 2)",
+            "rewritten: 1 arguments and replies, such as nil of :write (first in line 2)",
         ),
         (
             ":type :ok, :f :write, :value 1",
