@@ -96,13 +96,13 @@ fn summarize(summary: &str, is_yes: bool, is_printed: bool) -> Result<(), Status
 const LONGEST_IMPORTED: usize = 1 << 24;
 
 /// Returns the `import` options that would make this text judgeable, if any: those that keep its
-/// owners, if there are some.
+/// owners, if there are some. A process that goes on after `:info` is for the user to look at.
 fn options_of_import(text: &[u8]) -> Option<&'static str> {
     let text = std::str::from_utf8(text).ok().filter(|text| text.len() <= LONGEST_IMPORTED)?;
     let imported = |(is_independent, has_owners, words)| {
         let options =
             ::import::Options { is_independent, has_owners, ..::import::Options::default() };
-        let made = ::import::import(text, &options).ok()?;
+        let made = ::import::import(text, &options).ok().filter(|it| !it.has_new_processes)?;
         read_history(made.text.as_bytes()).map(|_| (words, made.lacks_owners))
     };
     let judged: Vec<_> = [

@@ -109,9 +109,9 @@ impl Changes {
         self.0.entry(change).or_insert_with(new).count += 1;
     }
 
-    /// How many changes of this sort there are.
-    pub fn count(&self, change: Change) -> usize {
-        self.0.get(&change).map_or(0, |counted| counted.count)
+    /// Whether there are changes of this sort.
+    pub fn has(&self, change: Change) -> bool {
+        self.0.contains_key(&change)
     }
 
     /// The lines on the changes that may make another verdict, or on the others.

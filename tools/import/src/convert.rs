@@ -47,6 +47,8 @@ pub struct Imported {
     pub notes: Vec<String>,
     /// Whether owners are left out.
     pub lacks_owners: bool,
+    /// Whether a process that goes on after `:info` is another one.
+    pub has_new_processes: bool,
 }
 
 /// The value that an event may put into its object.
@@ -123,6 +125,7 @@ pub fn import(text: &str, options: &Options) -> Result<Imported, Refused> {
         notes: changes.lines(false).chain(numbers.notes()).collect(),
         names: numbers.into_names(count),
         warnings,
-        lacks_owners: changes.count(Change::Owner) > 0,
+        lacks_owners: changes.has(Change::Owner),
+        has_new_processes: changes.has(Change::GoesOn),
     })
 }
