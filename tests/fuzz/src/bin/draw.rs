@@ -19,7 +19,8 @@ fn check(page: &str) {
 
 /// What is drawn, or nothing if the first event is after the last one.
 fn options(bytes: &[u8]) -> Option<pages::Options> {
-    let of = |bit: u8, place: usize| (bytes[0] & (1 << bit) != 0).then_some(u32::from(bytes[place]));
+    let of =
+        |bit: u8, place: usize| (bytes[0] & (1 << bit) != 0).then_some(u32::from(bytes[place]));
     let to = of(2, 3).map(|to| if bytes[0] & 8 != 0 { u32::MAX - to } else { to });
     let options = pages::Options { object: of(0, 1), from: of(1, 2), to };
     (options.from.unwrap_or(0) <= to.unwrap_or(u32::MAX)).then_some(options)

@@ -19,9 +19,9 @@ pub unsafe extern "C" fn LLVMFuzzerTestOneInput(data: *const u8, length: usize) 
     let in_pieces = read_history_from(Cursor::new(all[0]), 1).expect("bytes in memory are read");
     assert_eq!(whole.is_some(), in_pieces.is_some(), "two readers differ");
     let (Some(whole), Some(in_pieces)) = (whole, in_pieces) else { return 0 };
-    let placed = all.get(1).map(|table| {
-        Places::read(table).and_then(|places| in_pieces.with_places(&places))
-    });
+    let placed = all
+        .get(1)
+        .map(|table| Places::read(table).and_then(|places| in_pieces.with_places(&places)));
     let history = placed.and_then(Result::ok).unwrap_or(whole);
     for decision in decide(&history, Options { steps: Some(2000), workers: 1 }) {
         assert!(!matches!(decision.evidence, Evidence::Open), "the finder failed");

@@ -27,7 +27,9 @@ fn check(made: &Imported) {
     assert_eq!(Names::read(&table).map(|it| it.to_string()), Ok(table.clone()));
     let lines = made.warnings.iter().chain(&made.notes);
     let is_shown = |line: &String| !line.contains(|it: char| it.is_control());
-    assert!(lines.clone().all(is_shown) && !table.contains(|it: char| it.is_control() && it != '\n'));
+    assert!(
+        lines.clone().all(is_shown) && !table.contains(|it: char| it.is_control() && it != '\n')
+    );
     let again = import(&made.text, &Options::default()).expect("it is a history");
     assert_eq!(again.text, made.text);
     assert_eq!(again.notes, [""; 0]);
