@@ -126,17 +126,17 @@
     (let [{:keys [exit out err]} (if (some is-client? history)
                                    (apply run options "import" "--names" names (concat flags [operations]))
                                    {:exit 0, :out ""})
-          warning (re-find #"(?m)^fcbench: warning: .*$" (str err))
+          warning (not-empty (string/join "\n" (re-seq #"(?m)^fcbench: warning: .*$" (str err))))
           [_ why] (re-find #"(?s)^fcbench: .*?, line \d+: (.*)\n" (str err))]
       (cond
         (= 0 exit) (spit text out)
         why (refuse-history (string/replace (with-indices (vec history) why) "use --independent" "use {:independent? true}"))
         :else (refuse-history (strange options exit) " " err))
-      (let [table (map edn/read-string (string/split-lines (slurp names)))]
+      (let [table (map #(edn/read-string {:eof nil, :default tagged-literal} %) (string/split-lines (slurp names)))]
         {:text out, :warning warning, :keys (named table :object), :values (named table :value), :before (or (some :before table) 0)}))))
 
 (defn profile
-  "The text that fcbench judges, as its command import makes it, and its :warning, if it has one; :keys and :values, which have by its
+  "The text that fcbench judges, as its command import makes it, and its :warning, with a line for each; :keys and :values, which have by its
   number each key, object or value that has got one; and :before, how many maps of initial values are before the first operation. It
   throws if an operation can't be judged."
   ([history] (profile history {}))
@@ -255,7 +255,7 @@
       (fn [folder]
         (let [{:keys [warning] :as made} (imported options history folder)
               answer (cond-> (with-page options folder (judged options (vec history) folder))
-                       warning (update :reason conj warning))]
+                       warning (update :reason into (string/split-lines warning)))]
           (into answer (remove #(empty? (val %))) (select-keys made [:keys :values])))))
     (catch ExceptionInfo error
       (if (::refused (ex-data error))

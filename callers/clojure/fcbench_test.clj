@@ -305,6 +305,13 @@
             "events 4 and 5: process 0, :get \"k\", :ok \"a\", counted as :read nil, :ok \"a\""]
            (lines-of (concat (done 0 :put ["k" "a"] nil) (done 0 :put ["k" "b"] "a") (done 0 :get "k" "a")))))))
 
+(deftest what-import-warns-of
+  ;; Each warning is in the reason: the owners that are left out, and the token.
+  (let [reason (:reason (judged (done 0 :acquire "c1" 17)))
+        warnings (filter #(string/starts-with? % "fcbench: warning: ") reason)]
+    (is (= ["left out: 1 owners" "left out: 1 replies"] (map #(second (re-find #"warning: (left out: 1 \w+)" %)) warnings))))
+  (is (= {0 (tagged-literal 'ver/a 1)} (:values (profile (done 0 :write (tagged-literal 'ver/a 1) nil))))))
+
 (deftest failed-operations-that-reply
   (let [empty-one [(op 0 :invoke :dequeue nil) (assoc (op 0 :fail :dequeue nil) :error :empty)]
         history (concat (done 0 :enqueue 1 1) empty-one (done 0 :dequeue nil 1))]

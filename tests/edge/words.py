@@ -318,7 +318,7 @@ def help_texts(program, report):
     )
     options["judge"] = (*options["find"], "--names")
     options["find"] = (*options["find"], "--places")
-    options["import"] = ("--names", "--independent", "--fail-is-reply", "--check-owners", "--owners", "--initial")
+    options["import"] = ("--names", "--independent", "--fail-is-reply", "--check-owners", "--owners", "--by-time", "--initial")
     for command in (*COMMANDS, *OF_TOOLS):
         ran = program.run(command, "--help")
         lacks = [option for option in options.get(command, ()) if option.encode() not in ran.out]

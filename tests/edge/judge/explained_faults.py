@@ -105,6 +105,8 @@ IMPORTED = (
     ("{:process 0, :type :invoke, :f :drain}", None),
     ("{:process 0, :type :invoke, :f :write, :value 1.5}", None),
     (f"{READ}\n{{:process 0, :type :info, :f :read}}\n{READ}", None),
+    ("{:process 0, :type :invoke, :f :acquire, :value 7}", " --owners"),
+    ("{:process 0, :type :invoke, :f :write, :value ^:a 1}", None),
     ("{:process 007}", None),
     ("\ufeff{:process 0, :type :invoke, :f :read}", None),
     ("{:process 0, :type :invoke, :f :write, :value 1, :value 2}", None),

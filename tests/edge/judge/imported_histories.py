@@ -5,7 +5,7 @@ import random
 import re
 import subprocess
 
-from ..running import Ran, at_once
+from ..running import EXAMPLES, Ran, at_once
 
 # A register of two keys, of which "x" is read as :b after :c was written over it, by processes with names.
 STORE = """#jepsen.history.Op{:index 0, :time 5, :type :invoke, :process 0, :f :write, :value ["x" :b]}
@@ -29,6 +29,14 @@ TEXT = b"""{:process 0, :type :invoke, :f :write, :value 0, :object 0, :time 5, 
 {:process 1, :type :ok, :f :read, :value 0, :object 0, :index 8}
 """
 NAMES = '{:object 0, :is "x"}\n{:object 1, :is "y"}\n{:value 0, :is :b}\n{:value 1, :is "c"}\n'
+# What import says of it: what is not taken as it is.
+NO_INTEGER = b"left out: 1 values of :time and :index that are no integers, such as :time 1.5 (first in line 2): these events have none in the text"
+COUNTED = b"fcbench: warning: " + NO_INTEGER + b"""
+fcbench: read as tuples [key value]: 4 values, such as ["x" :b] (first in line 1): each key is an object
+fcbench: left out: 1 values and functions of the nemesis, such as [:isolated {"n1" #{"n2"}}] (first in line 2)
+fcbench: numbered: 2 objects, such as "x"; --names FILE writes which number each has
+fcbench: numbered: 2 values and keys of maps, such as :b; --names FILE writes which number each has
+"""
 # What a judgement says of it, in any order of lines but the last.
 SAID = (b'; object 0, which is "x": impossible\n', b'events 3 and 4: process 0, :write "c", :ok "c"', b"events 7 and 8: process 1, :read nil, :ok :b")
 
@@ -63,6 +71,14 @@ WRONGLY_REFUSED = """{{:process 0, :type :invoke, :f :write, :value 1}}
 """
 # A history, and the sentence for it.
 REFUSED = (
+    ("{:process 0, :type :invoke, :f :write, :value ^{:a 1} 5}", "line 1: a form that begins with ^ is no EDN; "),
+    ("{:process 0, :type :invoke, :f :write, :value @a}", "line 1: a form that begins with @ is no EDN; "),
+    ("\n{:process 0, :object \\\nyes:}", "line 2: a backslash without a character; "),
+    ('{"process": 0, "type": "invoke", "f": "\\u+041"}', "line 1: no value of JSON; "),
+    (
+        "{:process 0, :type :invoke, :f :write, :value ##NaN}",
+        "line 1: operation 0: ##NaN cannot be the argument of :write, which is an integer, string or keyword",
+    ),
     (
         "{:process 0, :type :invoke, :f :write, :value 1.5}",
         "line 1: operation 0: 1.5 cannot be the argument of :write, which is an integer, string or keyword",
@@ -78,13 +94,18 @@ REFUSED = (
 )
 
 
+def warnings_of(ran):
+    """The warnings of a run, without the lines that only count."""
+    return [line for line in ran.err.decode().splitlines() if line.startswith("fcbench: warning: ")]
+
+
 def imports(program, report):
     """A store of tuples, keywords and strings, and lines of JSON, are imported and judged in their words."""
     folder = program.folder
     store = program.write("store.edn", STORE)
     names = f"{folder}/names.edn"
     imported = program.run("import", "--names", names, store)
-    report.equal("import: the text of a store", Ran(0, TEXT, b""), imported)
+    report.equal("import: the text of a store", Ran(0, TEXT, COUNTED), imported)
     with open(names, encoding="utf-8") as file:
         report.equal("import: its table of names", NAMES, file.read())
     text = program.write("imported.edn", imported.out)
@@ -106,8 +127,10 @@ def failed_operations(program, report):
     for error, option, warns in EMPTIES:
         path = program.write("empty.edn", WRONGLY_EMPTY.format(error))
         left_out, reply = program.run("import", path), program.run("import", option, path)
-        warnings = [line for line in left_out.err.decode().splitlines() if line.startswith("fcbench: warning: left out: 1 failed :dequeue with ")]
-        report.equal(f"import: {error}: warnings", (0, int(warns), b""), (left_out.status, len(warnings), reply.err), left_out.err)
+        warnings = [line for line in warnings_of(left_out) if line.startswith("fcbench: warning: left out: 1 failed :dequeue with ")]
+        counted = b"fcbench: read as replies: 1 failed operations, such as :dequeue (first in line 4)\n" in reply.err
+        came = left_out.status, len(warnings), warnings_of(reply), counted
+        report.equal(f"import: {error}: warnings", (0, int(warns), [], True), came, left_out.err)
         statuses = [program.run("judge", program.write("text.edn", imported.out)).status for imported in (left_out, reply)]
         report.equal(f"import: {error}: {option} makes a no of a yes", [0, 1], statuses)
 
@@ -117,8 +140,8 @@ def failed_swaps(program, report):
     for error, option in SWAPS:
         path = program.write("refusing.edn", WRONGLY_REFUSED.format(error))
         left_out, reply = program.run("import", path), program.run("import", option, path)
-        is_said = left_out.err.startswith(b"fcbench: warning: left out: 1 failed :cas with") and left_out.err.count(b"\n") == 1
-        report.equal(f"import: a swap with {error}: warnings", (0, True, b""), (left_out.status, is_said, reply.err), left_out.err)
+        is_said = left_out.err.startswith(b"fcbench: warning: left out: 1 failed :cas with") and len(warnings_of(left_out)) == 1
+        report.equal(f"import: a swap with {error}: warnings", (0, True, []), (left_out.status, is_said, warnings_of(reply)), left_out.err)
         statuses = [program.run("judge", program.write("text.edn", imported.out)).status for imported in (left_out, reply)]
         report.equal(f"import: a swap with {error}: {option} makes a no of a yes", [0, 1], statuses)
 
@@ -126,7 +149,7 @@ def failed_swaps(program, report):
 def standard_input(program, report):
     """import - reads standard input; gzip is named; an initial value of no register is warned of."""
     ran = subprocess.run(program.line(("import", "-")), input=STORE.encode(), capture_output=True, cwd=program.folder, check=False)
-    report.equal("import -: standard input", (0, TEXT, b""), (ran.returncode, ran.stdout, ran.stderr))
+    report.equal("import -: standard input", (0, TEXT, COUNTED), (ran.returncode, ran.stdout, ran.stderr))
     path = program.write("store.edn.gz", gzip.compress(STORE.encode()))
     refused = f"fcbench: cannot read {path}: the file is compressed: decompress it with zcat first\n"
     report.answers("import: gzip", program.run("import", path), "", 4, refused)
@@ -134,8 +157,8 @@ def standard_input(program, report):
     ran = program.run("import", "--initial", "0", path)
     report.equal(
         "import: --initial without a register",
-        (0, b"fcbench: warning: --initial writes nothing: the history has no register that it names\n"),
-        (ran.status, ran.err),
+        (0, ["fcbench: warning: --initial writes nothing: the history has no register that it names"]),
+        (ran.status, warnings_of(ran)),
     )
 
 
@@ -148,11 +171,85 @@ def imports_are_refused(program, report):
     store, missing = program.write("store.edn", STORE), f"{program.folder}/not_there/names.edn"
     for words, says in ((("import", missing), f"cannot read {missing}"), (("import", "--names", missing, store), f"cannot write {missing}")):
         ran = program.run(*words)
-        report.holds(f"import: {says}", (ran.status, ran.out) == (4, b"") and ran.err.decode().startswith(f"fcbench: {says}"), ran)
+        report.holds(f"import: {says}", (ran.status, ran.out) == (4, b"") and ran.err.decode().splitlines()[-1].startswith(f"fcbench: {says}"), ran)
     twice = program.write("twice.edn", "{:value 1, :is :a} {:value 2, :is :a}")
     ran = program.run("judge", "--names", twice, program.write("imported.edn", TEXT))
     report.holds("judge: a table of names that is not one to one", ran.status == 2 and b":a is value 2, and another value too" in ran.err, ran)
     report.holds("import: no file is left", not os.path.exists(missing))
+
+
+# A lock that another one unlocks, as judge reads it, and as a client writes it with names.
+UNLOCKED = """{:process 0, :type :invoke, :f :lock, :value "alice"}
+{:process 0, :type :ok, :f :lock}
+{:process 1, :type :invoke, :f :unlock, :value "bob"}
+{:process 1, :type :ok, :f :unlock}
+"""
+RELEASED = UNLOCKED.replace(":f :lock", ":f :acquire").replace(":f :unlock", ":f :release")
+# How a lock may be written: the option of import, its warnings, and the statuses of import and of the judgement of its text.
+LOCKS = (
+    (UNLOCKED, (), [], 0, 1),
+    (RELEASED, (), ["left out: 2 owners"], 0, 0),
+    (RELEASED, ("--owners",), [], 0, 1),
+    (RELEASED, ("--check-owners",), [], 2, None),
+    (UNLOCKED, ("--check-owners",), [], 2, None),
+    (UNLOCKED.replace(', :value "bob"', ""), (), ["left out: 1 owners"], 0, 0),
+    (UNLOCKED.replace(":ok, :f :lock", ":ok, :f :lock, :value 17").replace("bob", "alice"), (), ["left out: 1 replies"], 0, 0),
+)
+
+
+def owners_of_locks(program, report):
+    """A lock that is unlocked by another owner is a no after import, as without it, also by the command that judge advises. Owners that are left
+    out are counted, and so are tokens."""
+    example = f"{EXAMPLES}/unlocked_by_another.history.edn"
+    imported = program.run("import", example)
+    judged = [program.run("judge", path).status for path in (example, program.write("imported.edn", imported.out))]
+    report.equal("import: a lock of integers keeps its owners", ([1, 1], b""), (judged, imported.err))
+    for text, options, warnings, status, verdict in LOCKS:
+        ran = program.run("import", *options, program.write("lock.edn", text))
+        said = [line.removeprefix("fcbench: warning: ") for line in warnings_of(ran)]
+        is_said = len(said) == len(warnings) and all(map(str.startswith, said, warnings))
+        after = program.run("judge", program.write("imported.edn", ran.out)).status if ran.status == 0 else None
+        report.equal(f"import {options}: {text}", (status, True, verdict), (ran.status, is_said, after), said)
+    for text, options in ((UNLOCKED, ""), (RELEASED, " --owners")):
+        path = program.write("advised.edn", text)
+        advice = subprocess.run(program.line(("judge", path)), capture_output=True, cwd=program.folder, check=False).stdout.decode().splitlines()[-1]
+        line = f"fcbench import --names names.edn{options} {path} > judged.edn && fcbench judge --names names.edn judged.edn"
+        ran = subprocess.run(["sh", "-c", line.replace("fcbench ", f"{program.tools} ")], capture_output=True, cwd=program.folder, check=False)
+        report.equal(f"import: what judge advises keeps owners: {text}", (f"; it can be imported: {line}", 1), (advice, ran.returncode))
+
+
+# A process that goes on after its operation timed out.
+GOES_ON = """{:process 0, :type :invoke, :f :write, :value 1}
+{:process 0, :type :info, :f :write}
+{:process 0, :type :invoke, :f :read}
+{:process 0, :type :ok, :f :read, :value 2}
+"""
+# Two logs that are joined: the read was before the write.
+FIRST_LOG = """{:process 0, :type :invoke, :f :write, :value 1, :time 100}
+{:process 0, :type :ok, :f :write, :value 1, :time 200}
+"""
+SECOND_LOG = """{:process 1, :type :invoke, :f :read, :time 50}
+{:process 1, :type :ok, :f :read, :value nil, :time 90}
+"""
+
+
+def joined_logs(program, report):
+    """A process that goes on after :info is another one, under a name. Logs that were joined are a no with a warning, and a yes with --by-time; a
+    completion before its invocation is refused."""
+    path, names = program.write("info.edn", GOES_ON), f"{program.folder}/names.edn"
+    ran = program.run("import", "--names", names, path)
+    report.equal("import: a process that goes on", 1, len(warnings_of(ran)), ran.err)
+    judged = program.run("judge", "--names", names, program.write("imported.edn", ran.out))
+    report.holds("import: a process that goes on has a name", judged.status == 1 and b": process [0 2], :read nil, :ok 2\n" in judged.out, judged)
+    path = program.write("joined.edn", FIRST_LOG + SECOND_LOG)
+    for options, first, verdict in (((), "times go back: 2 operations ", 1), (("--by-time",), "--by-time moved 4 of 4 operations: ", 0)):
+        ran = program.run("import", *options, path)
+        said = warnings_of(ran)
+        judged = program.run("judge", program.write("imported.edn", ran.out)).status
+        report.holds(f"import: joined logs {options}", len(said) == 1 and said[0].startswith(f"fcbench: warning: {first}") and judged == verdict, ran)
+    early = program.write("early.edn", FIRST_LOG.replace("200", "20"))
+    why = f"fcbench: {early}, line 2: operation 0: by its :time the :ok of process 0 is before its :invoke in line 1\n"
+    report.answers("import: --by-time: a completion before its invocation", program.run("import", "--by-time", early), "", 2, why)
 
 
 # ---- generated files
@@ -247,4 +344,4 @@ def generated_files(program, report):
     return f"{FILES} files"
 
 
-PARTS = (imports, failed_operations, failed_swaps, standard_input, imports_are_refused, generated_files)
+PARTS = (imports, failed_operations, failed_swaps, standard_input, imports_are_refused, owners_of_locks, joined_logs, generated_files)

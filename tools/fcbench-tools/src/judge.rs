@@ -97,15 +97,26 @@ fn summarize(summary: &str, is_yes: bool, is_printed: bool) -> Result<(), Status
 /// Longer malformed texts are not tried with `import`.
 const LONGEST_IMPORTED: usize = 1 << 24;
 
-/// Returns the `import` options that would make this text judgeable, if any.
+/// Returns the `import` options that would make this text judgeable, if any: those that keep its
+/// owners, if there are some. A process that goes on after `:info` is for the user to look at.
 fn options_of_import(text: &[u8]) -> Option<&'static str> {
     let text = std::str::from_utf8(text).ok().filter(|text| text.len() <= LONGEST_IMPORTED)?;
-    let is_judged = |is_independent| {
-        let options = ::import::Options { is_independent, ..::import::Options::default() };
-        let made = ::import::import(text, &options);
-        made.is_ok_and(|made| read_history(made.text.as_bytes()).is_some())
+    let imported = |(is_independent, has_owners, words)| {
+        let options =
+            ::import::Options { is_independent, has_owners, ..::import::Options::default() };
+        let made = ::import::import(text, &options).ok().filter(|it| !it.has_new_processes)?;
+        read_history(made.text.as_bytes()).map(|_| (words, made.lacks_owners))
     };
-    [(false, ""), (true, " --independent")].into_iter().find(|it| is_judged(it.0)).map(|it| it.1)
+    let judged: Vec<_> = [
+        (false, false, ""),
+        (true, false, " --independent"),
+        (false, true, " --owners"),
+        (true, true, " --independent --owners"),
+    ]
+    .into_iter()
+    .filter_map(imported)
+    .collect();
+    judged.iter().find(|(_, lacks_owners)| !lacks_owners).or(judged.first()).map(|it| it.0)
 }
 
 /// A path as a word of a shell.

@@ -2,6 +2,7 @@
 
 use crate::status::Status;
 use crate::system::{is_output_closed, tie};
+use import::visible;
 use std::env;
 use std::fs;
 use std::io::{self, StdoutLock, Write};
@@ -100,7 +101,8 @@ pub fn note(line: std::fmt::Arguments<'_>) {
     let _ = writeln!(io::stderr(), "{line}");
 }
 
-/// Reports on standard error what went wrong.
+/// Reports on standard error what went wrong. A name of a file may have any characters: those that
+/// a terminal does not show are escaped.
 pub fn say(what: std::fmt::Arguments<'_>) {
-    note(format_args!("fcbench: {what}"));
+    note(format_args!("fcbench: {}", visible(what.to_string().as_bytes())));
 }

@@ -1,7 +1,8 @@
 //! Reads EDN, with all that a store of Jepsen may hold: tagged elements, sets, lists, characters
-//! and floats. <https://github.com/edn-format/edn>
+//! and floats. What is no EDN, such as metadata, is refused. <https://github.com/edn-format/edn>
 
-use crate::form::{Entries, Form};
+use crate::form::{Entries, Form, ends_word};
+use crate::visible::is_plain;
 
 /// What is wrong with a text, and at which line.
 #[derive(Clone, Debug, PartialEq, Eq)]
@@ -20,9 +21,8 @@ pub struct Reader<'a> {
 /// How deep forms may be in each other.
 const MOST_OPEN: usize = 200;
 
-fn ends_token(character: char) -> bool {
-    character.is_whitespace() || ",()[]{}\";".contains(character)
-}
+/// The characters with which no word of EDN begins. In Clojure they change the form after them.
+const CHANGING: [char; 5] = ['^', '@', '`', '~', '\''];
 
 impl<'a> Reader<'a> {
     pub fn new(text: &'a str) -> Reader<'a> {
@@ -38,8 +38,12 @@ impl<'a> Reader<'a> {
         Err(Malformed { line: self.line, why: why.into() })
     }
 
+    fn rest(&self) -> &'a str {
+        &self.text[self.place..]
+    }
+
     fn peek(&self) -> Option<char> {
-        self.text[self.place..].chars().next()
+        self.rest().chars().next()
     }
 
     fn next(&mut self) -> Option<char> {
@@ -50,7 +54,7 @@ impl<'a> Reader<'a> {
     }
 
     /// Passes over separators and comments.
-    pub fn pass(&mut self) {
+    fn pass_separators(&mut self) {
         while let Some(character) = self.peek() {
             if character == ';' {
                 while self.peek().is_some_and(|it| it != '\n') {
@@ -64,10 +68,31 @@ impl<'a> Reader<'a> {
         }
     }
 
+    /// Passes over separators, comments and discards: each `#_` leaves out the next form.
+    fn pass_within(&mut self, open: usize) -> Result<(), Malformed> {
+        let mut left_out = 0;
+        loop {
+            self.pass_separators();
+            if self.rest().starts_with("#_") {
+                self.place += 2;
+                left_out += 1;
+            } else if left_out == 0 {
+                return Ok(());
+            } else {
+                self.form_here(open + 1)?;
+                left_out -= 1;
+            }
+        }
+    }
+
+    /// Passes over what is before the next form.
+    pub fn pass(&mut self) -> Result<(), Malformed> {
+        self.pass_within(0)
+    }
+
     /// Passes over an opening bracket of a vector or list, if one is next. Gives the bracket that
     /// closes it.
     pub fn enter(&mut self) -> Option<char> {
-        self.pass();
         let close = match self.peek()? {
             '[' => ']',
             '(' => ')',
@@ -88,40 +113,41 @@ impl<'a> Reader<'a> {
 
     /// The next form, or `None` at the end of the text.
     pub fn form(&mut self) -> Result<Option<Form>, Malformed> {
-        self.form_within(0)
+        self.pass()?;
+        self.peek().map(|_| self.form_here(0)).transpose()
     }
 
-    fn form_within(&mut self, open: usize) -> Result<Option<Form>, Malformed> {
+    /// The form that begins here.
+    fn form_here(&mut self, open: usize) -> Result<Form, Malformed> {
         if open > MOST_OPEN {
             return self.malformed("forms are nested too deeply");
         }
-        self.pass();
-        let Some(character) = self.peek() else {
-            return Ok(None);
-        };
-        let form = match character {
-            '(' => Form::List(self.items(')', open)?),
-            '[' => Form::Vector(self.items(']', open)?),
-            '{' => Form::Map(self.entries(open)?),
-            '"' => Form::Str(self.string()?),
-            '\\' => Form::Symbol(self.character()),
-            '#' => return self.dispatch(open),
-            ')' | ']' | '}' => return self.malformed(format!("{character} closes nothing")),
-            _ => self.token()?,
-        };
-        Ok(Some(form))
+        match self.peek() {
+            None => self.malformed("the text ends where a form is missing"),
+            Some('(') => Ok(Form::Vector(self.items(')', open)?)),
+            Some('[') => Ok(Form::Vector(self.items(']', open)?)),
+            Some('{') => self.map(open),
+            Some('"') => Ok(Form::Str(self.string()?)),
+            Some('\\') => self.character(),
+            Some('#') => self.dispatch(open),
+            Some(close @ (')' | ']' | '}')) => self.malformed(format!("{close} closes nothing")),
+            Some(changing) if CHANGING.contains(&changing) => {
+                self.malformed(format!("a form that begins with {changing} is no EDN"))
+            }
+            Some(_) => self.token(),
+        }
     }
 
     /// The next item before a closing bracket. `None`: the bracket, over which it passes.
     fn item(&mut self, close: char, open: usize) -> Result<Option<Form>, Malformed> {
-        self.pass();
+        self.pass_within(open)?;
         if self.leave(close) {
             return Ok(None);
         }
-        match self.form_within(open + 1)? {
-            None => self.malformed(format!("the text ends before {close}")),
-            item => Ok(item),
+        if self.peek().is_none() {
+            return self.malformed(format!("the text ends before {close}"));
         }
+        self.form_here(open + 1).map(Some)
     }
 
     /// The items up to a closing bracket. The opening one is next.
@@ -130,7 +156,7 @@ impl<'a> Reader<'a> {
         std::iter::from_fn(|| self.item(close, open).transpose()).collect()
     }
 
-    fn entries(&mut self, open: usize) -> Result<Vec<(Form, Form)>, Malformed> {
+    fn map(&mut self, open: usize) -> Result<Form, Malformed> {
         self.next();
         let mut entries = Entries::default();
         while let Some(key) = self.item('}', open)? {
@@ -142,45 +168,127 @@ impl<'a> Reader<'a> {
                 None => return self.malformed("a key of a map has no value"),
             }
         }
-        Ok(entries.into_all())
+        Ok(entries.into_map())
     }
 
-    /// What begins with `#`: a set, a form that is left out, or a tagged one.
-    fn dispatch(&mut self, open: usize) -> Result<Option<Form>, Malformed> {
-        self.next();
-        match self.peek() {
-            Some('{') => Ok(Some(Form::Set(self.items('}', open)?))),
-            Some('_') => {
-                self.next();
-                self.form_within(open + 1)?;
-                self.form_within(open)
-            }
-            _ => {
-                let tag = self.word();
-                match self.form_within(open + 1)? {
-                    Some(Form::Str(text)) => {
-                        Ok(Some(Form::Symbol(format!("#{tag} {}", Form::Str(text)))))
-                    }
-                    Some(form) => Ok(Some(form)),
-                    None => self.malformed(format!("the text ends after the tag #{tag}")),
-                }
-            }
+    fn set(&mut self, open: usize) -> Result<Form, Malformed> {
+        let set = Form::set(self.items('}', open)?);
+        let Form::Set(items) = &set else { return Ok(set) };
+        let same = items.windows(2).find(|pair| pair[0] == pair[1] && pair[0].has_equals());
+        match same {
+            Some(pair) => self.malformed(format!("{} is in the same set twice", pair[0])),
+            None => Ok(set),
         }
     }
 
-    /// The characters up to the end of a token.
-    fn word(&mut self) -> &'a str {
-        let rest = &self.text[self.place..];
-        let length = rest.find(ends_token).unwrap_or(rest.len());
-        self.place += length;
-        &rest[..length]
+    /// What begins with `#`: a set, a pattern, a symbolic number, or a tagged form.
+    fn dispatch(&mut self, open: usize) -> Result<Form, Malformed> {
+        self.next();
+        match self.peek() {
+            Some('{') => self.set(open),
+            Some('"') => self.pattern(),
+            Some('#') => self.symbolic(),
+            Some(':') => self.with_namespace(open),
+            Some(first) if first.is_alphabetic() => self.tagged(open),
+            _ => self.malformed("a # with which no form of EDN begins"),
+        }
+    }
+
+    /// A tag and its form.
+    fn tagged(&mut self, open: usize) -> Result<Form, Malformed> {
+        let tag = self.word()?;
+        self.pass_within(open)?;
+        if self.peek().is_none() {
+            return self.malformed(format!("the text ends after the tag #{tag}"));
+        }
+        let form = match self.form_here(open + 1)? {
+            Form::Str(text) if tag == "uuid" => Form::Str(text.to_ascii_lowercase()),
+            form => form,
+        };
+        Ok(Form::Tagged(tag.to_owned(), form.into()))
+    }
+
+    /// `##NaN`, `##Inf` or `##-Inf`.
+    fn symbolic(&mut self) -> Result<Form, Malformed> {
+        self.next();
+        match self.word()? {
+            name @ ("NaN" | "Inf" | "-Inf") => Ok(Form::Number(format!("##{name}"))),
+            name => self.malformed(format!("##{name} is no number")),
+        }
+    }
+
+    /// A map with the namespace of its keys before it, as `#:a{:b 1}`.
+    fn with_namespace(&mut self, open: usize) -> Result<Form, Malformed> {
+        self.next();
+        let space = self.word()?.to_owned();
+        self.pass_separators();
+        if space.is_empty() || space.starts_with(':') || self.peek() != Some('{') {
+            return self.malformed("#: without a namespace and its map");
+        }
+        let in_space = |name: String| match name.strip_prefix("_/") {
+            Some(name) => name.to_owned(),
+            None if name.contains('/') => name,
+            None => format!("{space}/{name}"),
+        };
+        let named = |key| match key {
+            Form::Keyword(name) => Form::Keyword(in_space(name)),
+            other => other,
+        };
+        let Form::Map(entries) = self.map(open)? else {
+            return self.malformed("#: without a map");
+        };
+        Ok(Form::map(entries.into_iter().map(|(key, value)| (named(key), value)).collect()))
+    }
+
+    /// The characters up to the end of a word.
+    fn word(&mut self) -> Result<&'a str, Malformed> {
+        let rest = self.rest();
+        let word = &rest[..rest.find(ends_word).unwrap_or(rest.len())];
+        self.place += word.len();
+        match word.chars().find(|it| !is_plain(*it)) {
+            Some(hidden) => {
+                self.malformed(format!("a word with the character {}", hidden.escape_unicode()))
+            }
+            None => Ok(word),
+        }
     }
 
     /// A character, as `\a` or `\newline`.
-    fn character(&mut self) -> String {
+    fn character(&mut self) -> Result<Form, Malformed> {
         self.next();
-        let first = self.next().map(String::from).unwrap_or_default();
-        format!("\\{first}{}", self.word())
+        let Some(first) = self.peek().filter(|it| !it.is_whitespace() && is_plain(*it)) else {
+            return self.malformed("a backslash without a character");
+        };
+        self.next();
+        let more = self.word()?;
+        if more.is_empty() {
+            return Ok(Form::Symbol(spelled(first)));
+        }
+        let name = format!("{first}{more}");
+        let named = NAMED.into_iter().find(|(_, it)| *it == name).map(|(character, _)| character);
+        let by_digits = || char::from_u32(four_digits(name.strip_prefix('u')?)?);
+        match named.or_else(by_digits) {
+            Some(character) => Ok(Form::Symbol(spelled(character))),
+            None => self.malformed(format!("\\{name} is no character")),
+        }
+    }
+
+    /// The rest of a pattern, in which a backslash stays before the character after it.
+    fn pattern(&mut self) -> Result<Form, Malformed> {
+        self.next();
+        let mut text = String::new();
+        let mut is_escaped = false;
+        loop {
+            match self.next() {
+                None => return self.malformed("the text ends inside a pattern"),
+                Some('"') if !is_escaped => break,
+                Some(character) => {
+                    is_escaped = character == '\\' && !is_escaped;
+                    text.push(character);
+                }
+            }
+        }
+        Ok(Form::Tagged(String::new(), Form::Str(text).into()))
     }
 
     fn string(&mut self) -> Result<String, Malformed> {
@@ -204,8 +312,7 @@ impl<'a> Reader<'a> {
             Some('b') => Ok('\u{8}'),
             Some('f') => Ok('\u{c}'),
             Some('u') => {
-                let rest = &self.text[self.place..];
-                let digits = rest.get(..4).and_then(|it| u32::from_str_radix(it, 16).ok());
+                let digits = self.rest().get(..4).and_then(four_digits);
                 self.place += if digits.is_some() { 4 } else { 0 };
                 digits
                     .and_then(char::from_u32)
@@ -217,7 +324,7 @@ impl<'a> Reader<'a> {
     }
 
     fn token(&mut self) -> Result<Form, Malformed> {
-        let word = self.word();
+        let word = self.word()?;
         Ok(match word {
             "nil" => Form::Nil,
             "true" => Form::Bool(true),
@@ -229,6 +336,31 @@ impl<'a> Reader<'a> {
             },
         })
     }
+}
+
+/// The characters that have names.
+const NAMED: [(char, &str); 6] = [
+    ('\n', "newline"),
+    (' ', "space"),
+    ('\t', "tab"),
+    ('\r', "return"),
+    ('\u{c}', "formfeed"),
+    ('\u{8}', "backspace"),
+];
+
+/// A character as EDN spells it.
+fn spelled(character: char) -> String {
+    match NAMED.into_iter().find(|(it, _)| *it == character) {
+        Some((_, name)) => format!("\\{name}"),
+        None if is_plain(character) && !character.is_whitespace() => format!("\\{character}"),
+        None => format!("\\u{:04x}", u32::from(character)),
+    }
+}
+
+/// The number of four hexadecimal digits.
+pub fn four_digits(digits: &str) -> Option<u32> {
+    let is_number = digits.len() == 4 && digits.bytes().all(|it| it.is_ascii_hexdigit());
+    is_number.then(|| u32::from_str_radix(digits, 16).ok()).flatten()
 }
 
 /// The sentence for a key that a map has already.
@@ -307,10 +439,21 @@ mod tests {
             ("99999999999999999999", "99999999999999999999"),
             (":a :a/b sym \\a \\newline", ":a :a/b sym \\a \\newline"),
             (r#""a\"\\\n\u0041""#, r#""a\"\\\nA""#),
-            ("(1 2) [1 [2]] #{1} {:a 1, :b [2]}", "(1 2) [1 [2]] #{1} {:a 1, :b [2]}"),
-            ("#jepsen.history.Op{:index 0}", "{:index 0}"),
-            ("#uuid \"0\"", "#uuid \"0\""),
+            ("(1 2) [1 [2]] #{1} {:a 1, :b [2]}", "[1 2] [1 [2]] #{1} {:a 1, :b [2]}"),
+            ("{:b 2, :a 1} #{3 1 2} (#{2 1})", "{:a 1, :b 2} #{1 2 3} [#{1 2}]"),
+            ("#jepsen.history.Op{:index 0}", "#jepsen.history.Op {:index 0}"),
+            ("#uuid \"0A\" #ver/a 1", "#uuid \"0a\" #ver/a 1"),
+            ("##NaN ##Inf ##-Inf 1", "##NaN ##Inf ##-Inf 1"),
+            ("#:a{:b 1, :_/c 2, :d/e 3}", "{:a/b 1, :c 2, :d/e 3}"),
+            ("\\space \\u0041 \\( \\u0020 \\u001b \\\\", "\\space \\A \\( \\space \\u001b \\\\"),
+            ("\"\u{1b}[2J\u{9b}\u{202e}\"", "\"\\u001b[2J\\u009b\\u202e\""),
+            ("#\"\\d\\\"\" 1", "#\"\\\\d\\\\\\\"\" 1"),
             ("1 #_ 2 3 ; 4\n5", "1 3 5"),
+            ("#_ #_ 1 2 3 #_ #_ 4 #_ 5 6 7", "3 7"),
+            (
+                "[1 #_ 2] {:a 1 #_ :b} #{1 #_ 2 #_ [3]} [#_ 1] #a #_ 1 2 #_ 3",
+                "[1] {:a 1} #{1} [] #a 2",
+            ),
         ] {
             assert_eq!(read(text).map(|forms| forms.join(" ")), Ok(wanted.to_owned()), "{text}");
         }
@@ -329,6 +472,68 @@ mod tests {
             assert_eq!(read(text).map_err(|it| it.line), Err(line), "{text}");
         }
         assert!(read(&"[".repeat(1000)).is_err());
+    }
+
+    #[test]
+    fn what_is_no_edn_is_refused() {
+        for text in [
+            "^{:a 1} 5",
+            "^String x",
+            "@a",
+            "`a",
+            "~a",
+            "~@a",
+            "'a",
+            "##nan",
+            "## 1",
+            "##",
+            "#",
+            "#'user/x 1",
+            "#(a)",
+            "#=(a)",
+            "#?(:a 1)",
+            "#<a> 1",
+            "#[1]",
+            "#:{:a 1}",
+            "#::a{:b 1}",
+            "#:a[1]",
+            "#a",
+            "#_",
+            "#_ #_ 1",
+            "[1 #_]",
+            "{:a #_ 1}",
+            "\\",
+            "\\ a",
+            "\\\nyes:",
+            "\\ab",
+            "\\u+041",
+            "\\ud800",
+            "\"\\u+041\"",
+            "\"\\u-041\"",
+            "#{1 1}",
+            "#{[1 2] (1 2)}",
+            "{(1) 1, [1] 2}",
+            "{#{1 2} 1, #{2 1} 2}",
+            ":a\u{1b}[2J",
+            "a\u{202e}b",
+            "#a\u{9b} 1",
+        ] {
+            assert!(read(text).is_err(), "{text}: {:?}", read(text));
+        }
+        // Whether these are equal is not known.
+        for text in ["#{#a 1 #a 1}", "#{##NaN ##NaN}"] {
+            assert!(read(text).is_ok(), "{text}");
+        }
+    }
+
+    #[test]
+    fn discards_take_no_stack() {
+        let many = 300_000;
+        assert_eq!(read(&format!("{}1", "#_1 ".repeat(many))), Ok(vec!["1".to_owned()]));
+        let chain = format!("{}{}1", "#_".repeat(many), "2 ".repeat(many));
+        assert_eq!(read(&chain), Ok(vec!["1".to_owned()]));
+        assert!(read(&format!("{}1", "#a ".repeat(many))).is_err());
+        assert!(read(&format!("{}1", "#_[".repeat(many))).is_err());
     }
 
     #[test]

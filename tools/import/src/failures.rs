@@ -5,6 +5,7 @@
 
 use crate::form::Form;
 use finder::{Function, OfNothing, Shape};
+use std::collections::HashMap;
 use std::fmt::Write;
 
 /// The errors of a failed operation that is a reply. By default there are none.
@@ -21,8 +22,8 @@ fn word_of(name: &Form) -> Option<String> {
 
 /// The word of an error: of a vector or list, as `[:empty "jobs"]`, that of its first item.
 fn word_of_error(error: &Form) -> Option<String> {
-    match error {
-        Form::Vector(items) | Form::List(items) => word_of(items.first()?),
+    match error.of_record() {
+        Form::Vector(items) => word_of(items.first()?),
         other => word_of(other),
     }
 }
@@ -101,9 +102,26 @@ struct Failure {
     count: usize,
 }
 
+/// What errors of the same sort have in common: the word, or the error if it has none.
+#[derive(PartialEq, Eq, Hash)]
+enum Sort {
+    Word(String),
+    Error(Form),
+}
+
+impl Sort {
+    fn of(error: &Form) -> Sort {
+        word_of_error(error).map_or_else(|| Sort::Error(error.clone()), Sort::Word)
+    }
+}
+
 /// The failed operations that may be replies, and were not read as such.
 #[derive(Default)]
-pub struct Failures(Vec<Failure>);
+pub struct Failures {
+    all: Vec<Failure>,
+    /// The places of functions and of sorts of errors among them.
+    places: HashMap<(&'static str, Sort), usize>,
+}
 
 /// How many errors are named, and how many are distinguished.
 const MOST_NAMED: usize = 5;
@@ -115,24 +133,23 @@ impl Failures {
         if !may_be_reply(function, error) {
             return;
         }
-        let word = word_of_error(error);
-        let is_same = |it: &Form| it == error || (word.is_some() && word_of_error(it) == word);
-        let is_full = self.0.len() == MOST_KEPT;
-        match self.0.iter_mut().find(|it| it.function == function && is_same(&it.error)) {
-            Some(known) => known.count += 1,
-            None if is_full => {}
-            None => self.0.push(Failure { function, error: error.clone(), line, count: 1 }),
+        let key = (function.name, Sort::of(error));
+        match self.places.get(&key) {
+            Some(place) => self.all[*place].count += 1,
+            None if self.all.len() == MOST_KEPT => {}
+            None => {
+                self.places.insert(key, self.all.len());
+                self.all.push(Failure { function, error: error.clone(), line, count: 1 });
+            }
         }
     }
 
     /// The option by which they are replies, beside those that are.
     fn option(&self, replies: &Replies) -> String {
         let mut errors = replies.0.clone();
-        for Failure { error, .. } in self.0.iter().take(MOST_NAMED) {
+        for Failure { error, .. } in self.all.iter().take(MOST_NAMED) {
             let error = match error {
-                Form::Vector(items) | Form::List(items) if word_of_error(error).is_some() => {
-                    &items[0]
-                }
+                Form::Vector(items) if word_of_error(error).is_some() => &items[0],
                 error => error,
             };
             if !errors.contains(error) {
@@ -152,9 +169,9 @@ impl Failures {
 
     /// The sentence for these failures, if there are some.
     pub fn warning(mut self, replies: &Replies) -> Option<String> {
-        self.0.sort_by_key(|it| std::cmp::Reverse(it.count));
+        self.all.sort_by_key(|it| std::cmp::Reverse(it.count));
         let mut said = String::new();
-        for Failure { function, error, line, count } in self.0.iter().take(MOST_NAMED) {
+        for Failure { function, error, line, count } in self.all.iter().take(MOST_NAMED) {
             let comma = if said.is_empty() { "" } else { ", " };
             let _ = write!(said, "{comma}{count} failed :{} ", function.name);
             let _ = match error {
@@ -163,7 +180,7 @@ impl Failures {
             };
             let _ = write!(said, " (first in line {line})");
         }
-        if self.0.len() > MOST_NAMED {
+        if self.all.len() > MOST_NAMED {
             let _ = write!(said, ", and others");
         }
         (!said.is_empty()).then(|| {

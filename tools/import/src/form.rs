@@ -1,28 +1,81 @@
 //! Forms of EDN, all of them, and of JSON, as which a history to be imported comes.
 
+use crate::visible::is_plain;
 use std::collections::HashSet;
-use std::fmt::{self, Display, Formatter};
+use std::fmt::{self, Display, Formatter, Write};
 
-/// A form. Tags are dropped when a form is read, except those of a string, such as `#uuid`.
+/// A form. Equal ones are the same, however they were spelled.
 #[derive(Clone, Debug, PartialEq, Eq, Hash, PartialOrd, Ord)]
 pub enum Form {
     Nil,
     Bool(bool),
     Int(i64),
-    /// A number that is no integer of 64 bits, as it is spelled.
+    /// A number that is no integer of 64 bits, as it is spelled, or one such as `##NaN`.
     Number(String),
     Str(String),
     /// The text without the colon.
     Keyword(String),
-    /// A symbol, a character or a tagged string, as it is spelled.
+    /// A symbol or a character.
     Symbol(String),
-    List(Vec<Form>),
+    /// A vector or a list.
     Vector(Vec<Form>),
+    /// Its items in rising order.
     Set(Vec<Form>),
+    /// Its entries in rising order of their keys.
     Map(Vec<(Form, Form)>),
+    /// A tag without its `#`, and its form. A pattern has the tag "".
+    Tagged(String, Box<Form>),
+}
+
+/// Whether a tag is the name of a class, as records have it.
+pub fn is_class(tag: &str) -> bool {
+    tag.contains('.') && !tag.contains('/')
 }
 
 impl Form {
+    /// The key of an object of JSON: a keyword, or a string if it can be none.
+    pub fn key(name: String) -> Form {
+        if name.is_empty() || name.contains(|it| ends_word(it) || !is_plain(it)) {
+            Form::Str(name)
+        } else {
+            Form::Keyword(name)
+        }
+    }
+
+    /// A set of these items.
+    pub fn set(mut items: Vec<Form>) -> Form {
+        items.sort_unstable();
+        Form::Set(items)
+    }
+
+    /// A map of these entries, whose keys differ.
+    pub fn map(mut entries: Vec<(Form, Form)>) -> Form {
+        entries.sort_unstable();
+        Form::Map(entries)
+    }
+
+    /// The form without the tag of a record, if it has one, such as `#jepsen.history.Op`.
+    pub fn of_record(&self) -> &Form {
+        match self {
+            Form::Tagged(tag, form) if is_class(tag) => form,
+            other => other,
+        }
+    }
+
+    /// Whether two forms that are spelled so are equal. That is not known of those with a tag, and
+    /// a `##NaN` is not equal to itself.
+    pub fn has_equals(&self) -> bool {
+        match self {
+            Form::Tagged(..) => false,
+            Form::Number(text) => !text.starts_with('#'),
+            Form::Vector(items) | Form::Set(items) => items.iter().all(Form::has_equals),
+            Form::Map(entries) => {
+                entries.iter().all(|(key, value)| key.has_equals() && value.has_equals())
+            }
+            _ => true,
+        }
+    }
+
     /// The value of a key of a map, if this is one and has the key.
     pub fn get(&self, key: &str) -> Option<&Form> {
         let Form::Map(entries) = self else {
@@ -36,8 +89,8 @@ impl Form {
 
     /// The two items of a pair.
     pub fn as_pair(&self) -> Option<(&Form, &Form)> {
-        match self {
-            Form::Vector(items) | Form::List(items) => match &items[..] {
+        match self.of_record() {
+            Form::Vector(items) => match &items[..] {
                 [first, second] => Some((first, second)),
                 _ => None,
             },
@@ -67,18 +120,17 @@ impl Entries {
         }
     }
 
-    /// Whether this key is there already, if it is a keyword or a string. Others may be equal since
-    /// their tags are dropped.
+    /// Whether this key is there already.
     pub fn has(&self, key: &Form) -> bool {
-        matches!(key, Form::Keyword(_) | Form::Str(_))
+        key.has_equals()
             && match self.all.len() {
                 ..MANY => self.all.iter().any(|(it, _)| it == key),
                 _ => self.keys.contains(key),
             }
     }
 
-    pub fn into_all(self) -> Vec<(Form, Form)> {
-        self.all
+    pub fn into_map(self) -> Form {
+        Form::map(self.all)
     }
 }
 
@@ -99,10 +151,16 @@ fn write_string(f: &mut Formatter<'_>, text: &str) -> fmt::Result {
             '\n' => f.write_str("\\n")?,
             '\r' => f.write_str("\\r")?,
             '\t' => f.write_str("\\t")?,
-            other => write!(f, "{other}")?,
+            other if is_plain(other) => f.write_char(other)?,
+            hidden => write!(f, "\\u{:04x}", u32::from(hidden))?,
         }
     }
     f.write_str("\"")
+}
+
+/// Whether a character ends a word.
+pub fn ends_word(character: char) -> bool {
+    character.is_whitespace() || ",()[]{}\";".contains(character)
 }
 
 /// As EDN has it, in one line.
@@ -115,7 +173,6 @@ impl Display for Form {
             Form::Number(text) | Form::Symbol(text) => f.write_str(text),
             Form::Str(text) => write_string(f, text),
             Form::Keyword(name) => write!(f, ":{name}"),
-            Form::List(items) => write_all(f, "(", items, ")"),
             Form::Vector(items) => write_all(f, "[", items, "]"),
             Form::Set(items) => write_all(f, "#{", items, "}"),
             Form::Map(entries) => {
@@ -125,6 +182,8 @@ impl Display for Form {
                 }
                 f.write_str("}")
             }
+            Form::Tagged(tag, form) if tag.is_empty() => write!(f, "#{form}"),
+            Form::Tagged(tag, form) => write!(f, "#{tag} {form}"),
         }
     }
 }

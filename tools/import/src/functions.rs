@@ -32,14 +32,38 @@ pub fn function(name: &str, has_owners: bool) -> Option<&'static Function> {
     Some(owning.unwrap_or(named))
 }
 
+/// Whether the function of this name keeps the owner that it names, also without --owners.
+pub fn keeps_owner(name: &str) -> bool {
+    functions().any(|it| it.name == name && it.kind.has_owner())
+}
+
+/// Whether a number is an integer past 64 bits. Equal ones are spelled the same; those of other
+/// numbers may differ, as 1.5 and 1.50.
+fn is_whole(number: &str) -> bool {
+    !number.contains(['.', 'e', 'E', 'M', '/', '#'])
+}
+
 /// Whether a form can be a value: an integer of 64 bits, or a name. Names are compared for
 /// equality, and for nothing else.
 pub fn is_value(form: &Form) -> bool {
     match form {
         Form::Int(_) | Form::Bool(_) | Form::Str(_) | Form::Keyword(_) => true,
         Form::Symbol(word) => !begins_number(word),
-        Form::Number(text) => !text.contains(['.', 'e', 'E', 'M', '/']),
+        Form::Number(text) => is_whole(text),
+        Form::Tagged(tag, form) => !tag.is_empty() && is_value(form),
         _ => false,
+    }
+}
+
+/// Whether a form can be an object: all but those with a part of which equal ones may be spelled
+/// otherwise.
+pub fn is_object(form: &Form) -> bool {
+    match form {
+        Form::Number(text) => is_whole(text),
+        Form::Tagged(tag, form) => !tag.is_empty() && is_object(form),
+        Form::Vector(items) | Form::Set(items) => items.iter().all(is_object),
+        Form::Map(entries) => entries.iter().all(|(key, value)| is_object(key) && is_object(value)),
+        _ => true,
     }
 }
 
@@ -56,6 +80,7 @@ pub fn is_owner(form: &Form) -> bool {
         Form::Int(number) => *number > 0,
         Form::Str(_) => true,
         Form::Symbol(word) => !begins_number(word),
+        Form::Tagged(tag, form) => !tag.is_empty() && is_value(form),
         Form::Map(entries) => {
             !entries.is_empty()
                 && entries.iter().all(|(_, value)| *value != Form::Nil && is_owner(value))

@@ -1,7 +1,8 @@
-//! Reads values of JSON as forms: an object is a map with keywords for keys.
+//! Reads values of JSON as forms: an object is a map with keywords for keys, or strings where a key
+//! can be no keyword.
 //! <https://www.rfc-editor.org/rfc/rfc8259>
 
-use crate::edn::{number, twice};
+use crate::edn::{four_digits, number, twice};
 use crate::form::{Entries, Form};
 
 /// Reads the values of a text one by one.
@@ -116,7 +117,7 @@ impl<'a> Reader<'a> {
         let length = self.text.find(|it: char| !(it.is_ascii_alphanumeric() || "+-.".contains(it)));
         let (word, rest) = self.text.split_at(length.unwrap_or(self.text.len()));
         self.text = rest;
-        number(word).filter(|_| !word.ends_with('N'))
+        number(word).filter(|_| !word.starts_with('+') && !word.ends_with(['N', 'M', '.']))
     }
 
     fn items(&mut self, open: usize) -> Option<Form> {
@@ -136,11 +137,11 @@ impl<'a> Reader<'a> {
     fn entries(&mut self, open: usize) -> Option<Form> {
         let mut entries = Entries::default();
         if self.takes("}") {
-            return Some(Form::Map(entries.into_all()));
+            return Some(entries.into_map());
         }
         loop {
             self.takes("\"").then_some(())?;
-            let key = Form::Keyword(self.string()?);
+            let key = Form::key(self.string()?);
             if entries.has(&key) {
                 self.repeated = Some(key);
                 return None;
@@ -148,7 +149,7 @@ impl<'a> Reader<'a> {
             self.takes(":").then_some(())?;
             entries.push(key, self.value(open + 1)?);
             if self.takes("}") {
-                return Some(Form::Map(entries.into_all()));
+                return Some(entries.into_map());
             }
             self.takes(",").then_some(())?;
         }
@@ -179,21 +180,20 @@ impl<'a> Reader<'a> {
     }
 }
 
+/// The number of the next four digits.
+fn unit(rest: &mut std::str::Chars<'_>) -> Option<u32> {
+    four_digits(&rest.by_ref().take(4).collect::<String>())
+}
+
 /// The character of four digits, or of two times four.
 fn escaped(rest: &mut std::str::Chars<'_>) -> Option<char> {
-    let mut unit = || -> Option<u32> {
-        let digits: String = rest.by_ref().take(4).collect();
-        u32::from_str_radix(&digits, 16).ok()
-    };
-    let first = unit()?;
+    let first = unit(rest)?;
     if !(0xD800..0xDC00).contains(&first) {
         return char::from_u32(first);
     }
     let text = rest.as_str().strip_prefix("\\u")?;
     *rest = text.chars();
-    let digits: String = rest.by_ref().take(4).collect();
-    let second =
-        u32::from_str_radix(&digits, 16).ok().filter(|it| (0xDC00..0xE000).contains(it))?;
+    let second = unit(rest).filter(|it| (0xDC00..0xE000).contains(it))?;
     char::from_u32(0x10000 + ((first - 0xD800) << 10) + (second - 0xDC00))
 }
 
@@ -211,7 +211,7 @@ mod tests {
         for (text, wanted) in [
             (
                 r#"{"process": 0, "f": "read", "value": null}"#,
-                r#"{:process 0, :f "read", :value nil}"#,
+                r#"{:f "read", :process 0, :value nil}"#,
             ),
             (r#"{"a": [1, -2.5e3, true, false, []]} "#, "{:a [1 -2.5e3 true false []]}"),
             (r#""a\"A\n\ud83d\ude00""#, "\"a\\\"A\\n\u{1F600}\""),
@@ -225,7 +225,22 @@ mod tests {
 
     #[test]
     fn refuses_what_is_none() {
-        for text in ["{", "{\"a\" 1}", "[1 2]", "{:a 1}", "\"a", "nul", "\"\\ud83d\"", "7N"] {
+        for text in [
+            "{",
+            "{\"a\" 1}",
+            "[1 2]",
+            "{:a 1}",
+            "\"a",
+            "nul",
+            "\"\\ud83d\"",
+            "\"\\u+041\"",
+            "\"\\ud83d\\u+e00\"",
+            "7N",
+            "7M",
+            "+7",
+            "NaN",
+            "-Infinity",
+        ] {
             assert_eq!(read(text), None, "{text}");
         }
         for text in ["[", "[1", "[1,", "[1,]", "[1] 2", "[]"] {

@@ -4,16 +4,24 @@
 //! What an operation says is taken as it is. If it is not plain, such as a `:cas` that replies nil,
 //! nothing is assumed: the history is refused, and the operation is named with its line.
 
+mod changes;
 mod convert;
 pub mod edn;
+mod events;
 mod failures;
 mod form;
 mod functions;
+mod holding;
+mod initial;
 mod json;
 mod names;
 mod numbering;
 mod operations;
+mod reading;
 mod renaming;
+mod times;
+mod visible;
+mod writing;
 
 pub use convert::{Imported, Options, form_of, import};
 pub use failures::Replies;
@@ -21,3 +29,4 @@ pub use form::Form;
 pub use names::Names;
 pub use operations::Refused;
 pub use renaming::with_names;
+pub use visible::visible;

@@ -43,6 +43,11 @@ impl Numbers {
         self.of.len()
     }
 
+    /// How many things got a number, and the first of them.
+    pub fn named(&self) -> Option<(usize, &Form)> {
+        Some((self.named.len(), &self.named.first()?.1))
+    }
+
     /// The numbers of names, with the names.
     pub fn into_named(self) -> Vec<(i64, Form)> {
         self.named

@@ -2,7 +2,7 @@
 //! of a Jepsen store; or objects of JSON, one after another, as in lines, or in one array.
 
 use crate::edn::{Malformed, Reader};
-use crate::form::Form;
+use crate::form::{Form, is_class};
 use crate::json;
 use std::fmt::{self, Display, Formatter};
 
@@ -38,6 +38,9 @@ as in history.edn of a Jepsen store, or objects of JSON with the same keys, one 
 fn operation(line: usize, form: Form) -> Result<Operation, Refused> {
     match form {
         Form::Map(_) => Ok(Operation { line, map: form }),
+        Form::Tagged(tag, map) if is_class(&tag) && matches!(*map, Form::Map(_)) => {
+            Ok(Operation { line, map: *map })
+        }
         other => Err(Refused { line, why: format!("no map: {other}; {EXPECTED}") }),
     }
 }
@@ -51,27 +54,31 @@ fn of_json(text: &str) -> Result<Vec<Operation>, Refused> {
     all.into_iter().map(|(line, form)| operation(line, form)).collect()
 }
 
+/// The operations after a vector of them has ended: there may be none.
+fn ended(reader: &mut Reader<'_>, all: Vec<Operation>) -> Result<Vec<Operation>, Refused> {
+    match reader.form()? {
+        None => Ok(all),
+        Some(more) => Err(Refused {
+            line: reader.line(),
+            why: format!("after the vector of operations comes {more}; {EXPECTED}"),
+        }),
+    }
+}
+
 fn of_forms(text: &str) -> Result<Vec<Operation>, Refused> {
     let mut reader = Reader::new(text);
+    let expected =
+        |it: Malformed| Refused { line: it.line, why: format!("{}; {EXPECTED}", it.why) };
+    reader.pass().map_err(expected)?;
     let close = reader.enter();
     let mut all = Vec::new();
     loop {
-        reader.pass();
+        reader.pass().map_err(expected)?;
         let line = reader.line();
         if close.is_some_and(|close| reader.leave(close)) {
-            reader.pass();
-            return match reader.form()? {
-                None => Ok(all),
-                Some(more) => Err(Refused {
-                    line: reader.line(),
-                    why: format!("after the vector of operations comes {more}; {EXPECTED}"),
-                }),
-            };
+            return ended(&mut reader, all);
         }
-        match reader
-            .form()
-            .map_err(|it| Refused { line: it.line, why: format!("{}; {EXPECTED}", it.why) })?
-        {
+        match reader.form().map_err(expected)? {
             Some(form) => all.push(operation(line, form)?),
             None if close.is_some() => {
                 return Err(Refused {

@@ -58,7 +58,9 @@ fn split_list(text: &str) -> (&str, &str) {
 /// The numbers after a word of a sentence, with their names.
 fn named_after(names: &Names, word: &str, list: &str) -> String {
     with_numbers(list, |number| match word {
-        "event" | "events" | "map" => Some((number - i64::from(names.before)).to_string()),
+        "event" | "events" | "map" => {
+            Some(number.checked_sub(i64::from(names.before))?.to_string())
+        }
         "process" | "processes" => name(&names.processes, number),
         _ => name(&names.values, number),
     })

@@ -121,6 +121,7 @@ fn import_of(mut words: Words) -> Result<Import, Fault> {
         },
         checks_owners: words.take_flag("--check-owners"),
         has_owners: words.take_flag("--owners"),
+        is_by_time: words.take_flag("--by-time"),
         initial: words.take_form("--initial")?.flatten(),
     };
     let names = words.take_value("--names");
@@ -257,11 +258,11 @@ mod tests {
                 replies: import::Replies::usual(),
                 checks_owners: true,
                 has_owners: false,
+                is_by_time: true,
                 initial: import::form_of("0"),
             },
         };
-        let line =
-            "import --independent --names n.edn --initial 0 h.edn --fail-is-reply --check-owners";
+        let line = "import --independent --names n.edn --initial 0 h.edn --fail-is-reply --by-time --check-owners";
         assert_eq!(parsed(line), Some(Command::Import(import)));
     }
 
@@ -324,6 +325,9 @@ mod tests {
         ("import", "<HISTORY> is missing"),
         ("import a b", "unexpected argument 'b': import takes <HISTORY>"),
         ("import a --all", "import has no option '--all'; to name such a file, put -- before it"),
+        ("import a --by-time=1", "--by-time takes no value"),
+        ("import a --initial \\", "--initial takes one form of EDN, not '\\\\'"),
+        ("import a --initial ^a", "--initial takes one form of EDN, not '^a'"),
         ("import a --initial [", "--initial takes one form of EDN, not '['"),
         ("import a --initial=", "--initial takes one form of EDN, not ''"),
         ("import a --fail-is-reply=#{", "--fail-is-reply takes one form of EDN, not '#{'"),

@@ -211,12 +211,16 @@ pub const IMPORT: Syntax = Syntax {
         },
         &OptionSpec::flag(
             "--check-owners",
-            "the owner that a client releases must be the one that it acquired (default: owners are ignored)",
+            "refuse the release of an object by a client that does not hold it, or that has acquired it as another owner",
         ),
         &OptionSpec::flag(
             "--owners",
-            "the value of :lock, :unlock, :acquire and :release is an owner: they become :lock and :unlock (default: :acquire\n\
-             and :release, without owners)",
+            "the value of :acquire and :release is an owner too: they become :lock and :unlock (default: only :lock and :unlock\n\
+             keep their owners)",
+        ),
+        &OptionSpec::flag(
+            "--by-time",
+            "sort the operations by :time, as of logs that were joined (default: the order of the lines)",
         ),
         &OptionSpec::valued(
             "--initial",

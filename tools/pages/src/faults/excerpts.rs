@@ -3,7 +3,7 @@
 use crate::elements::{ByteRange, line_of};
 use crate::page::{Excerpt, MarkedLine, TextLine};
 use crate::timeline::Spans;
-use std::fmt::Write;
+use import::visible;
 
 /// How many bytes of a line are shown before and after the mark, of the mark, and of another line.
 const BESIDE_MARK: usize = 80;
@@ -12,47 +12,6 @@ const LINE: usize = 160;
 
 /// How many lines are shown before and after.
 const LINES: usize = 2;
-
-/// The character at the beginning of the bytes.
-fn first_character(bytes: &[u8]) -> Option<char> {
-    let valid = bytes.get(..4).unwrap_or(bytes).utf8_chunks().next()?.valid();
-    valid.chars().next()
-}
-
-/// Whether the character shows what it is: no control, and none that turns the direction of the
-/// text.
-fn is_plain(character: char) -> bool {
-    !matches!(
-        character,
-        '\0'..='\u{1f}'
-            | '\u{7f}'..='\u{9f}'
-            | '\u{200e}'..='\u{200f}'
-            | '\u{202a}'..='\u{202e}'
-            | '\u{2066}'..='\u{2069}'
-    )
-}
-
-/// The bytes as text: a tab as an arrow, and a byte that is of no character, or of one that shows
-/// nothing, as its number.
-pub fn visible(bytes: &[u8]) -> String {
-    let mut text = String::new();
-    let mut rest = bytes;
-    while let Some(byte) = rest.first() {
-        let mut length = 1;
-        match first_character(rest) {
-            Some('\t') => text.push('→'),
-            Some(character) if is_plain(character) => {
-                length = character.len_utf8();
-                text.push(character);
-            }
-            _ => {
-                let _ = write!(text, "\\x{byte:02x}");
-            }
-        }
-        rest = &rest[length..];
-    }
-    text
-}
 
 /// Where the line of this byte begins.
 fn line_start(text: &[u8], at: usize) -> usize {

@@ -1,11 +1,11 @@
 //! What is wrong with a malformed history, in lines: the event and its key, the value that is
 //! there, and what is expected; and the text of the event.
 
-use super::excerpts::visible;
 use super::number_in;
 use crate::elements::{ByteRange, Opened, elements_in, innermost_open, line_of, value_in, word_at};
 use crate::verdict::{Fault, MapFaultKind, TextFaultKind, Which};
 use finder::{Function, function, function_names};
+use import::visible;
 
 /// The longest piece of a text that is shown.
 const LONGEST: usize = 200;

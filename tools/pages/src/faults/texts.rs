@@ -1,10 +1,11 @@
 //! The sentences on a text that can't be read.
 
 use super::Explained;
-use super::excerpts::{excerpt, visible};
+use super::excerpts::excerpt;
 use crate::elements::{ByteRange, Opened, innermost_open, line_of, word_at};
 use crate::timeline::{Span, spans};
 use crate::verdict::TextFaultKind;
+use import::visible;
 
 /// The characters of the longest token that a sentence has.
 const TOKEN: usize = 40;
