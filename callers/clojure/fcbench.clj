@@ -20,6 +20,7 @@
     :program        the program, else fcbench on the path
   Options of check and checker:
     :steps          the most steps of the last search for each object
+    :at-least       how many operations must have returned for a :valid? of true: 1, or of a key of jepsen.independent 0
     :seconds        when the search stops, and the history is judged by what was found
     :draw, :always  a file for the page of fcbench draw, written if :valid? is not true, or always"
   (:require [clojure.edn :as edn]
@@ -210,18 +211,21 @@
        (remove string/blank?)
        (mapv #(with-indices history (string/replace-first % #"^; " "")))))
 
-(defn- limits [{:keys [steps]}]
-  (when steps ["--steps" steps]))
+(defn- limits [{:keys [steps at-least]}]
+  (concat (when steps ["--steps" steps]) (when at-least ["--at-least" at-least])))
 
 (defn- validity
-  "What the exit status says, if the lines say the same: so no other program's status is taken for a verdict. It is nil if
-  the lines are none of fcbench."
+  "What the exit status says, if the lines fit it, by the table of docs/commands.md: so no other program's status is taken for a verdict.
+  It is nil if they do not. Without a line 3 says that nothing is decided, and standard error why."
   [exit out]
-  (cond
-    (and (= 0 exit) (string/starts-with? out "yes: ")) true
-    (and (= 1 exit) (string/includes? out ": impossible\n")) false
-    (and (= 2 exit) (string/starts-with? out "malformed history: ")) :unknown
-    (and (= 3 exit) (re-find #"(?m)^(; object \d+: (open$|out of)|out of memory|malformed evidence: )" out)) :unknown))
+  (let [is-no (re-find #"(?m)^; object .*: impossible$" out)]
+    (cond
+      (and (= 3 exit) (= "" out)) :unknown
+      (not (string/ends-with? out "\n")) nil
+      (and (= 0 exit) (re-matches #"yes: \d+ operations, \d+ objects\n(\w+: \d+ objects, \d+ operations\n)*" out)) true
+      (and (= 1 exit) is-no) false
+      (and (= 2 exit) (string/starts-with? out "malformed history: ")) :unknown
+      (and (= 3 exit) (not is-no) (re-find #"(?m)^(; object .*: (open|out of .*)|out of memory|malformed evidence: .*)$" out)) :unknown)))
 
 (defn- judged [{:keys [seconds] :as options} history folder]
   (let [words (concat (limits options) (when seconds ["--seconds" seconds]) ["--names" (io/file folder "names.edn") (io/file folder "history.edn")])
@@ -249,11 +253,12 @@
   "What a checker says of a history: :valid? is true, false or :unknown, and :reason the lines that say why. :keys and :values
   have what has got a number, and :drawn is the file of the page. If an operation of a line has an :index that is not its place
   in the history, the line says it too."
-  [{:keys [program] :as options} _test history _opts]
+  [{:keys [program] :as options} _test history {:keys [history-key]}]
   (try
     (with-folder
       (fn [folder]
-        (let [{:keys [warning] :as made} (imported options history folder)
+        (let [options (merge (when history-key {:at-least 0}) options)
+              {:keys [warning] :as made} (imported options history folder)
               answer (cond-> (with-page options folder (judged options (vec history) folder))
                        warning (update :reason into (string/split-lines warning)))]
           (into answer (remove #(empty? (val %))) (select-keys made [:keys :values])))))

@@ -151,7 +151,7 @@
   (is (true? (:valid? (judged [(op 0 :invoke :write 1 "x") (op 0 :ok :write 1)]))))
   (is (= "operation 1: 4 is not the object of its invocation, operation 0: 3"
          (refused [(op 0 :invoke :write 1 3) (op 0 :ok :write 1 4)])))
-  (is (= "there are more than 65,536 objects" (refused (mapcat #(done 0 :write 1 1 (str %)) (range 65537))))))
+  (is (= "malformed history: H1 at map 131072" (refused (mapcat #(done 0 :write 1 1 (str %)) (range 65537))))))
 
 (deftest what-a-cas-replies
   (let [swap (fn [reply] (concat (done 0 :write 1 1) (done 0 :cas [5 2] reply) (done 0 :read nil 1)))
@@ -205,9 +205,24 @@
            (refused (concat (done 0 :write (tuple 1 1) (tuple 1 1)) (done 0 :write 3 3)))))
     (is (= "operation 0: it has both a key and an :object" (refused [(op 0 :invoke :read [1 nil] 4)] independent)))
     (is (true? (:valid? (judged [(op 0 :invoke :read [1 nil]) (op 0 :fail :read nil) (op 0 :invoke :read [2 nil]) (op 0 :info :read nil)]
-                                independent))))))
+                                (assoc independent :at-least 0)))))))
 
 (deftest programs-that-are-none
+  (is (nil? (#'fcbench/validity 0 "yes: 1 operations, 1 obj")))
+  (doseq [[exit out] [[0 ""] [1 ""] [2 ""] [0 "yes: 3 operat\n"] [1 "yes: 1 operations, 1 objects\n"] [3 "yes: 1 operations, 1 objects\n"]
+                      [0 "; object 0: impossible\n"] [3 "; object 0: impossible\n"] [1 "; object 0: impossib"] [1 "; object 0: open\n"]
+                      [70 "yes: 1 operations, 1 objects\n"] [4 "yes: 1 operations, 1 objects\n"] [1 "no: C1 object 0 has no certificate\n"]]]
+    (is (nil? (#'fcbench/validity exit out)) (str exit out)))
+  (is (= [true false :unknown :unknown :unknown]
+         (map (partial apply #'fcbench/validity)
+              [[0 "yes: 1 operations, 1 objects\nqueue: 1 objects, 1 operations\n"] [1 "; object 6, which is \"x\": impossible\n; {:cuts []}\n"]
+               [2 "malformed history: H8 at map 2\n"] [3 "; object 0: open\n"] [3 ""]])))
+  ;; Of a key alone an empty history is a yes.
+  (is (= :unknown (:valid? (judged []))))
+  (is (= "fcbench: no operation returned" (first (:reason (judged [])))))
+  (is (true? (:valid? (judged [] {:at-least 0}))))
+  (is (true? (:valid? (fcbench/check {:program program} {:name "test"} [] {:history-key 3}))))
+  (is (= :unknown (:valid? (judged (done 0 :write 1 1) {:at-least 2}))))
   (is (= {:valid? :unknown, :reason ["/bin/true ended with status 0 and without a verdict: is it fcbench?"]} (judged [] {:program "/bin/true"})))
   (is (= {:valid? :unknown, :reason ["/bin/false ended with status 1 and without a verdict: is it fcbench?"]} (judged [] {:program "/bin/false"})))
   (is (string/starts-with? (refused [] {:program "/there/is/none"}) "/there/is/none was not run: "))
@@ -309,7 +324,7 @@
   ;; Each warning is in the reason: the owners that are left out, and the token.
   (let [reason (:reason (judged (done 0 :acquire "c1" 17)))
         warnings (filter #(string/starts-with? % "fcbench: warning: ") reason)]
-    (is (= ["left out: 1 owners" "left out: 1 replies"] (map #(second (re-find #"warning: (left out: 1 \w+)" %)) warnings))))
+    (is (= ["left out: 1 owners" "left out: 1 replies"] (keep #(second (re-find #"warning: (left out: 1 \w+)" %)) warnings))))
   (is (= {0 (tagged-literal 'ver/a 1)} (:values (profile (done 0 :write (tagged-literal 'ver/a 1) nil))))))
 
 (deftest failed-operations-that-reply
@@ -393,7 +408,7 @@
     {:process 0, :type :info, :f :read, :error [:x #inst \"2026-11-26\"], :at #object[java.net.Socket 0x6f \"Socket[]\"], :ratio 1/3,
      :exception {:via [{:type java.net.SocketException, :message \"reset\", :at [a.b$c invoke \"b.clj\" 12]}], :trace [[a.b$c <init> nil -1]]}}")]
     (is (= 2 (count history)))
-    (is (true? (:valid? (judged history)))))
+    (is (true? (:valid? (judged history {:at-least 0})))))
   (let [text ":nemesis\t:info\t:start\tnil\n0\t:invoke\t:dequeue\tnil\n0\t:fail\t:dequeue\tnil\t:empty\n1\t:invoke\t:enqueue\t[1 2]\t:a: b\n"]
     (is (= [{:process :nemesis} (op 0 :invoke :dequeue nil) (assoc (op 0 :fail :dequeue nil) :error :empty) (op 1 :invoke :enqueue [1 2])]
            (map #(if (= 1 (:process %)) (dissoc % :error) %) (with-file ".txt" text fcbench/read-history))))

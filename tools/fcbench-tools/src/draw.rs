@@ -70,7 +70,7 @@ impl<'a> Drawing<'a> {
     fn new(command: &'a Draw) -> Result<Drawing<'a>, Status> {
         let history = Text::read(&command.history)?;
         let certificates = command.certificates.as_deref().map(Text::read).transpose()?;
-        let names = command.names.as_deref().map(names_in).transpose()?;
+        let names = command.names.as_deref().map(names_in).transpose()?.map(Names::for_a_page);
         let read = read_history(&history.bytes);
         if let (Some(object), Some(read)) = (command.options.object, &read)
             && read.objects.iter().all(|it| it.object != object)

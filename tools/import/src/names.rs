@@ -19,7 +19,30 @@ pub struct Names {
 
 const SORTS: [&str; 3] = ["object", "process", "value"];
 
+/// How many characters of a name a page shows.
+const MOST_SHOWN: usize = 200;
+
+/// The beginning of a name that is too long for a page, and what number it has; `None`: it is short.
+fn shortened(name: &Form, number: i64) -> Option<Form> {
+    let text = name.to_string();
+    let (end, _) = text.char_indices().nth(MOST_SHOWN)?;
+    let length = text.chars().count();
+    Some(Form::Symbol(format!("{} .. ({length} characters, number {number})", &text[..end])))
+}
+
 impl Names {
+    /// The names for a page, where one that is long would be too wide.
+    pub fn for_a_page(mut self) -> Names {
+        for sort in SORTS {
+            for (number, name) in self.sort_mut(sort) {
+                if let Some(short) = shortened(name, *number) {
+                    *name = short;
+                }
+            }
+        }
+        self
+    }
+
     fn sort(&self, name: &str) -> &BTreeMap<i64, Form> {
         match name {
             "object" => &self.objects,
@@ -102,6 +125,18 @@ mod tests {
         let text = "{:before 2}\n{:object 0, :is \"x\"}\n{:process 3, :is \"n1\"}\n{:value 7, :is :a}\n{:value 8, :is \"a \\\"b\\\"\"}\n";
         assert_eq!(Names::read(text).map(|it| it.to_string()), Ok(text.to_owned()));
         assert_eq!(Names::read(""), Ok(Names::default()));
+    }
+
+    #[test]
+    fn long_names_are_short_on_a_page() {
+        let long = "x".repeat(100_000);
+        let text = format!(
+            "{{:value 7, :is \"{long}\"}} {{:value 8, :is \"{long}y\"}} {{:object 0, :is :a}}"
+        );
+        let names = Names::read(&text).expect("a table").for_a_page();
+        let shown = names.values.values().map(Form::to_string).collect::<Vec<_>>();
+        assert!(shown.iter().all(|it| it.len() < 300) && shown[0] != shown[1], "{shown:?}");
+        assert_eq!(names.objects[&0].to_string(), ":a");
     }
 
     #[test]
