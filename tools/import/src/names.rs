@@ -22,7 +22,7 @@ const SORTS: [&str; 3] = ["object", "process", "value"];
 /// How many characters of a name a page shows.
 const MOST_SHOWN: usize = 200;
 
-/// The beginning of a name that is too long for a page, and what number it has; `None`: it is short.
+/// The beginning of a name that is too long for a page, and its number. `None`: it is short.
 fn shortened(name: &Form, number: i64) -> Option<Form> {
     let text = name.to_string();
     let (end, _) = text.char_indices().nth(MOST_SHOWN)?;
