@@ -27,7 +27,10 @@ pub fn counts_in(alloc: Global, text: &[u8]) -> Result<Vec<u32>, TableFault>
     ensures misfit { IfErr result (λ f. f ≡ TableFault.Misfit → (counts : List ℕ)
         → AreShort counts → length counts < 2 ^ 32 → spec.counts_text counts ≡ text.now → ⊥) }
 {
-    let numbers = read_table(alloc, text)?;
+    let numbers = match read_table(alloc, text) {
+        Ok(numbers) => numbers,
+        Err(fault) => return Err(fault),
+    };
     let [shards, counts @ ..] = numbers.as_slice() else {
         return Err(TableFault::Misfit);
     };
