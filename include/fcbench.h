@@ -47,6 +47,9 @@ extern "C" {
  * `out of memory`. If an allocation fails, a proved function returns this, or an answer that holds all
  * the same. */
 #define FCBENCH_UNDECIDED 3u
+/* fcbench_judge, fcbench_find: the proved function that they call gave a status and lines that are of no
+ * answer, so the library is not as it was built, or another function has its name. There are no lines. */
+#define FCBENCH_BROKEN 70u
 
 /* The program's default: 1,000,000 steps. For fcbench_judge: 1,000,000, or 100 for each operation of the
  * object, whichever is more. */
@@ -78,15 +81,17 @@ uint32_t fcbench_verify(const uint8_t *history, size_t history_length,
  * thread, read no file and print nothing. They keep a few words of state of their own, and may be called
  * from several threads at once. If an allocation fails, they end the process. */
 
-/* Finds evidence, has it checked by fcbench_verify, and returns that answer. The last search takes at
+/* Finds evidence, has it checked by fcbench_verify, and returns that answer, if its lines, as far as the
+ * buffer has them, fit its status. The last search takes at
  * most `steps` steps for each object. Earlier searches have limits of their own, and run even with 0. */
 uint32_t fcbench_judge(const uint8_t *history, size_t history_length, uint32_t steps,
                        uint8_t *out, size_t capacity, size_t *needed);
 
 /* Finds evidence for fcbench_verify, and writes it: a line for each object. FCBENCH_YES: each line is an
  * order, and the proved fcbench_check accepted them. FCBENCH_MALFORMED: the history is malformed.
- * FCBENCH_UNDECIDED: some line is a reason or a search, the finder failed, or fcbench_check did not
- * accept the orders, for example because an allocation failed. It never returns FCBENCH_NO. */
+ * FCBENCH_UNDECIDED: some line is a reason or a search, the finder failed, which leaves no lines, or
+ * fcbench_check did not accept the orders, for example because an allocation failed. It never returns
+ * FCBENCH_NO. */
 uint32_t fcbench_find(const uint8_t *history, size_t history_length,
                       uint8_t *out, size_t capacity, size_t *needed);
 

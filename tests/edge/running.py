@@ -15,6 +15,8 @@ ROOT = os.path.dirname(os.path.dirname(os.path.dirname(os.path.realpath(__file__
 EXAMPLES = f"{ROOT}/examples"
 # The commands of the tools, as ./fcbench sorts them too. Every other command line is for the proved program.
 OF_TOOLS = ("judge", "find", "draw", "import")
+# Those of them that count the operations that returned.
+COUNTING = ("judge", "draw")
 
 
 @dataclass(frozen=True)
@@ -52,8 +54,14 @@ class Program:
     label: str = ""
 
     def line(self, words):
-        """The command line of these words: the program whose command they are, and the words."""
-        return [self.tools if self.tools and words and words[0] in OF_TOOLS else self.path, *words]
+        """The command line of these words: the program whose command they are, and the words. Any number of operations of a history may have
+        returned, if the words say nothing else, since many histories of tests are empty or pending."""
+        command, *rest = words or ("",)
+        if not (self.tools and command in OF_TOOLS):
+            return [self.path, *words]
+        says_least = any(word.startswith("--at-least") for word in rest)
+        least = [] if command not in COUNTING or says_least else ["--at-least", "0"]
+        return [self.tools, command, *least, *rest]
 
     def run(self, *words, stdout=subprocess.PIPE, faults=None, env=None, **how):
         """Runs the program of these words, with the faults that faults.c can make, and more in its environment. Faults are made in each

@@ -145,6 +145,19 @@ DIRTY_READ = lines(invoke(0, "write", 9), fail(0, "write", 9), invoke(0, "read")
 DIRTY_SWAP = lines(invoke(0, "write", 9), fail(0, "write", 9), invoke(0, "cas", (9, 4)), ok(0, "cas", (9, 4)))
 DIRTY_READS = lines(*[event for _ in range(3) for event in (invoke(0, "write", 9), fail(0, "write", 9))], invoke(0, "read"), ok(0, "read", 9))
 READ_OF_A_REFUSED_SWAP = lines(invoke(0, "cas", (1, 9)), ok(0, "cas", False), invoke(0, "read"), ok(0, "read", 9))
+READ_OF_A_REFUSED_CREATION = lines(
+    invoke(0, "create", 0), ok(0, "create", True), invoke(0, "create", 1), ok(0, "create", False), invoke(0, "read"), ok(0, "read", 1),
+)
+GOT_REFUSED = lines(
+    invoke(0, "put-if-absent", (7, 4)), ok(0, "put-if-absent", True), invoke(0, "put-if-absent", (7, 5)), ok(0, "put-if-absent", False),
+    invoke(0, "get", 7), ok(0, "get", 5),
+)
+TWICE_REFUSED = lines(
+    invoke(0, "create", 0), ok(0, "create", True), invoke(0, "create", 9), ok(0, "create", False), invoke(0, "cas", (1, 9)), ok(0, "cas", False),
+    invoke(0, "read"), ok(0, "read", 9),
+)
+# A swap that replies other values than it was given expects the value of its argument.
+SWAPPED_OTHERS = lines(invoke(0, "cas", (0, 0)), ok(0, "cas", (-1, 1)))
 DEQUEUED_FAILED = lines(invoke(0, "enqueue", 9), fail(0, "enqueue", 9), invoke(0, "dequeue"), ok(0, "dequeue", 9))
 GOT_FAILED = lines(invoke(0, "put", (7, 5)), fail(0, "put", (7, 5)), invoke(0, "get", 7), ok(0, "get", 5))
 # The failed put is one of another key.
@@ -415,6 +428,10 @@ SMALL = (
     (DIRTY_SWAP, "value 9 was expected by an accepted :cas and only written by event 0, which failed", 1),
     (DIRTY_READS, "value 9 was read and only written by 3 operations that failed, the first of them event 0", 1),
     (READ_OF_A_REFUSED_SWAP, "value 9 was read and only written by the :cas of event 0, which was refused", 1),
+    (READ_OF_A_REFUSED_CREATION, "value 1 was read and only written by the :create of event 2, which was refused", 1),
+    (GOT_REFUSED, "key 7: value 5 was seen and only put by the :put-if-absent of event 2, which was refused", 1),
+    (TWICE_REFUSED, "value 9 was read and only written by 2 operations that were refused, the first of them event 2", 1),
+    (SWAPPED_OTHERS, "value 0 was expected by an accepted :cas and never written", 1),
     (DEQUEUED_FAILED, "value 9 was dequeued and only enqueued by event 0, which failed", 1),
     (GOT_FAILED, "key 7: value 5 was seen and only put by event 0, which failed", 1),
     (GOT_ELSEWHERE, "key 7: value 5 was seen and never put", 1),

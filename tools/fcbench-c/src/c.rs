@@ -3,11 +3,8 @@
 #![allow(unsafe_code)]
 
 use crate::evidence::find;
+use crate::status::{BROKEN, MALFORMED, UNDECIDED, YES, fits};
 use std::slice;
-
-/// Statuses of include/fcbench.h.
-const YES: u32 = 0;
-const OPEN: u32 = 3;
 
 /// `FCBENCH_STEPS`: as many steps as the program takes where it is given none.
 const PROGRAM_STEPS: u32 = u32::MAX;
@@ -59,14 +56,15 @@ impl Lines {
         unsafe { self.needed.write(lines.len()) };
     }
 
-    /// What the proved half makes of the evidence.
+    /// What the proved half makes of the evidence, if its lines fit the status, as far as there is
+    /// room for them.
     ///
     /// # Safety
     ///
     /// As for [`Lines::write`].
     unsafe fn verify(&self, history: &[u8], evidence: &[u8], steps: u32) -> u32 {
         // SAFETY: each text is lent for the call, and the buffer is as the caller promises.
-        unsafe {
+        let status = unsafe {
             fcbench_verify(
                 history.as_ptr(),
                 history.len(),
@@ -77,26 +75,36 @@ impl Lines {
                 self.capacity,
                 self.needed,
             )
+        };
+        // SAFETY: the caller's, and it was written.
+        let needed = unsafe { *self.needed };
+        // SAFETY: the buffer has this many bytes, which the proved half wrote.
+        let lines = unsafe { text(self.out, needed.min(self.capacity)) };
+        if fits(status, lines, needed) {
+            return status;
         }
+        // SAFETY: as the caller promises.
+        unsafe { self.write(b"") };
+        BROKEN
     }
 }
 
 /// Whether the proved half accepts the certificates.
 fn are_accepted(history: &[u8], certificates: &[u8]) -> bool {
-    let (mut none, mut needed) = ([], 0);
-    // SAFETY: each text is lent for the call, and the buffer has no bytes.
+    let (mut out, mut needed) = ([0; 64], 0);
+    // SAFETY: each text is lent for the call, and the buffer is one.
     let status = unsafe {
         fcbench_check(
             history.as_ptr(),
             history.len(),
             certificates.as_ptr(),
             certificates.len(),
-            none.as_mut_ptr(),
-            none.len(),
+            out.as_mut_ptr(),
+            out.len(),
             &mut needed,
         )
     };
-    status == YES
+    status == YES && fits(status, &out[..needed.min(out.len())], needed)
 }
 
 /// A text of the caller. With the length 0 the pointer may be NULL.
@@ -148,12 +156,18 @@ pub unsafe extern "C" fn fcbench_find(
     let history = unsafe { text(history, history_length) };
     let lines = Lines { out, capacity, needed };
     let Some(found) = find(history, None) else {
-        // What is wrong with a text the proved half says.
+        // What is wrong with a text the proved half says. If nothing is, the finder failed.
         // SAFETY: the caller keeps the rules.
-        return unsafe { lines.verify(history, &[], 0) };
+        let status = unsafe { lines.verify(history, &[], 0) };
+        if status == MALFORMED || status == BROKEN {
+            return status;
+        }
+        // SAFETY: the caller keeps the rules.
+        unsafe { lines.write(b"") };
+        return UNDECIDED;
     };
     let is_yes = found.are_orders && are_accepted(history, found.lines.as_bytes());
     // SAFETY: the caller keeps the rules.
     unsafe { lines.write(found.lines.as_bytes()) };
-    if is_yes { YES } else { OPEN }
+    if is_yes { YES } else { UNDECIDED }
 }

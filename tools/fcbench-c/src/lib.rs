@@ -4,3 +4,4 @@
 
 mod c;
 mod evidence;
+mod status;

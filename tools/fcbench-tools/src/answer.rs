@@ -1,15 +1,19 @@
 //! The answer of the verifier. Its lines are passed on only if it ended by itself, with the status
-//! that belongs to them: so the printed lines always agree with the exit status.
+//! that belongs to them: so the printed lines always agree with the exit status, and no other
+//! program's status is taken for a verdict.
 
 use crate::program::say;
 use crate::status::Status;
+use pages::{Asked, Verdict};
 use std::io::{self, Read};
 use std::process::{Child, ChildStdout, ExitStatus};
 
-/// How the verifier ended, and its lines. There are none if it did not end with an answer.
+/// What the verifier said: its lines, what they say, and the status that belongs to them.
+#[derive(Debug)]
 pub struct Answer {
     pub status: Status,
-    pub lines: Vec<u8>,
+    pub verdict: Verdict,
+    pub lines: String,
 }
 
 /// Returns the status of the verifier. One that was killed by a signal has no answer.
@@ -39,11 +43,27 @@ fn read_whole(mut printed: ChildStdout) -> Result<Vec<u8>, Status> {
     }
 }
 
-/// Reads what the verifier prints, and waits for its end. The error is the status if it has no
-/// answer.
-pub fn answer_of(program: &mut Child) -> Result<Answer, Status> {
+/// The answer that these lines are, if it is one, the last line is whole, and this status belongs
+/// to it.
+fn fitting(asked: Asked, status: Status, lines: Vec<u8>) -> Option<Answer> {
+    let lines = String::from_utf8(lines).ok().filter(|lines| lines.ends_with('\n'))?;
+    let verdict = Verdict::read(&lines)?;
+    (verdict.status(asked) == Some(status.0)).then_some(Answer { status, verdict, lines })
+}
+
+/// Reads what the verifier prints of what it is asked, and waits for its end. The error is the
+/// status if it has no answer.
+pub fn answer_of(program: &mut Child, asked: Asked) -> Result<Answer, Status> {
     let lines = program.stdout.take().map_or(Ok(Vec::new()), read_whole);
     let status = status_of(program.wait())?;
-    let lines = lines?;
-    Ok(Answer { status, lines: if status.is_answer() { lines } else { Vec::new() } })
+    if status == Status::FAILED {
+        return Err(Status::FAILED);
+    }
+    fitting(asked, status, lines?).ok_or_else(|| {
+        let status = status.0;
+        say(format_args!(
+            "the verifier ended with status {status} and without the lines of such an answer: is it fcbench?"
+        ));
+        Status::BROKEN
+    })
 }

@@ -2,35 +2,30 @@
 
 use crate::answer::{Answer, answer_of};
 use crate::command_line::Draw;
-use crate::find::{bytes_of, read_with, say_failures, write_evidence};
+use crate::find::{bytes_of, read_with, require_returned, say_failures, write_evidence};
 use crate::import::names_in;
-use crate::program::{path_for_both, proved, put_out, say, verifier};
+use crate::program::{path_for_both, proved, put_out, say, start, verifier};
 use crate::status::Status;
 use ::import::{Names, with_names};
-use finder::{Decision, History, Options, decide, read_history};
-use pages::{Asides, Drawn, Fault, Verdict, Which, Words, malformed_page, memory_page, orders_in};
+use finder::{Decision, History, Options, count_returned, decide, read_history};
+use pages::{
+    Asides, Asked, Drawn, Fault, Verdict, Which, Words, malformed_page, memory_page, orders_in,
+};
+use std::io;
 use std::panic::{AssertUnwindSafe, catch_unwind};
-use std::process::{ChildStdin, Command, Stdio};
+use std::process::{ChildStdin, Command};
 
-/// What the verifier said: its status, and its lines without the end of the last one.
-struct Said {
-    status: Status,
-    lines: String,
-}
-
-/// Runs the verifier, and hands its input to a function meanwhile.
-fn said_by(mut program: Command, give: impl FnOnce(ChildStdin)) -> Result<Said, Status> {
-    let program = program.stdin(Stdio::piped()).stdout(Stdio::piped());
-    let mut child = program.spawn().map_err(|error| {
-        say(format_args!("the verifier cannot be started: {error}"));
-        Status::BROKEN
-    })?;
+/// What the verifier answers to this, whose input a function gives meanwhile.
+fn answer_by(
+    verifier: io::Result<Command>,
+    asked: Asked,
+    give: impl FnOnce(ChildStdin),
+) -> Result<Answer, Status> {
+    let mut child = start(verifier)?;
     if let Some(input) = child.stdin.take() {
         give(input);
     }
-    let Answer { status, lines } = answer_of(&mut child)?;
-    let lines = lines.strip_suffix(b"\n").unwrap_or(&lines);
-    Ok(Said { status, lines: String::from_utf8_lossy(lines).into_owned() })
+    answer_of(&mut child, asked)
 }
 
 /// What is found of a history. If the finder fails that is nothing, or less.
@@ -86,12 +81,12 @@ impl<'a> Drawing<'a> {
     }
 
     /// Judges the history by what the finder finds, or checks it by the certificates.
-    fn ask(&mut self) -> Result<Said, Status> {
+    fn ask(&mut self) -> Result<Answer, Status> {
         let (path, steps) = (&self.history.path, self.command.steps);
         if let Some(certificates) = &self.certificates {
-            return said_by(proved(&["check", path, &certificates.path], None), drop);
+            return answer_by(proved(&["check", path, &certificates.path]), Asked::Check, drop);
         }
-        said_by(verifier(path, steps, 1), |input| {
+        answer_by(verifier(path, steps, 1), Asked::Verify, |input| {
             if let Some(history) = &self.read {
                 self.decisions = decisions_on(history, steps);
             }
@@ -123,11 +118,22 @@ impl<'a> Drawing<'a> {
         pages::Options { from, to, ..options }
     }
 
+    /// Reports why a page on a yes, or on what is not decided, is not printed: too few operations
+    /// returned.
+    fn require_enough(&self, status: Status) -> Result<(), Status> {
+        if status != Status::YES && status != Status::UNDECIDED {
+            return Ok(());
+        }
+        let least = self.command.at_least;
+        // A text in memory can always be read.
+        let count = count_returned(&self.history.bytes[..], least).unwrap_or(None);
+        require_returned(count, least)
+    }
+
     /// The page on what was said. `None`: it does not fit the texts.
-    fn page(&self, lines: &str) -> Option<String> {
+    fn page(&self, verdict: &Verdict, lines: &str) -> Option<String> {
         let name = self.history.name;
-        let verdict = Verdict::read(lines)?;
-        match verdict {
+        match *verdict {
             Verdict::Malformed(fault) => return self.page_of_fault(fault, lines),
             Verdict::NoMemory => return Some(memory_page(name, lines)),
             _ => {}
@@ -142,10 +148,10 @@ impl<'a> Drawing<'a> {
         let orders = self.certificates.as_ref().map(|text| orders_in(&text.bytes));
         match (verdict, orders) {
             (Verdict::Yes, None) => Some(drawn.judged_page(&self.decisions, &[])),
-            (Verdict::Judged(answers), None) => Some(drawn.judged_page(&self.decisions, &answers)),
+            (Verdict::Judged(answers), None) => Some(drawn.judged_page(&self.decisions, answers)),
             (Verdict::Yes, Some(orders)) => Some(drawn.checked_page(&orders, None)),
             (Verdict::No(refusal), Some(orders)) => {
-                Some(drawn.checked_page(&orders, Some(&refusal)))
+                Some(drawn.checked_page(&orders, Some(refusal)))
             }
             _ => None,
         }
@@ -160,11 +166,10 @@ pub fn draw(command: &Draw) -> Status {
 
 fn drawn(command: &Draw) -> Result<Status, Status> {
     let mut drawing = Drawing::new(command)?;
-    let Said { status, lines } = drawing.ask()?;
-    if !status.is_answer() {
-        return Err(status);
-    }
-    let Some(page) = drawing.page(&lines) else {
+    let Answer { status, verdict, lines } = drawing.ask()?;
+    drawing.require_enough(status)?;
+    let lines = lines.trim_end_matches('\n');
+    let Some(page) = drawing.page(&verdict, lines) else {
         say(format_args!("cannot draw this answer: {lines}"));
         return Err(Status::BROKEN);
     };

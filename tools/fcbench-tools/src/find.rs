@@ -2,7 +2,7 @@
 
 use crate::command_line::Find;
 use crate::limit::{BETWEEN_LIMIT_CHECKS, Limit, Progress};
-use crate::program::{note, output_failed, say};
+use crate::program::{note, output, output_failed, say};
 use crate::status::Status;
 use finder::{
     Decision, Evidence, History, LONGEST, Options, Places, Statistics, decide_each,
@@ -10,6 +10,7 @@ use finder::{
 };
 use std::fs::File;
 use std::io::{self, BufWriter, Read, Write};
+use std::iter;
 use std::sync::mpsc::{RecvTimeoutError, channel};
 use std::thread::Builder;
 
@@ -20,6 +21,21 @@ pub fn read_with<T>(path: &str, read: impl FnOnce(File) -> io::Result<T>) -> Res
         say(format_args!("cannot read {path}: {error}"));
         Status::FAILED
     })
+}
+
+/// Reports that fewer operations of a history returned than an answer needs, or that it is not
+/// known how many did.
+pub fn require_returned(count: Option<u32>, least: u32) -> Result<(), Status> {
+    match count {
+        Some(count) if count >= least => return Ok(()),
+        Some(0) if least == 1 => say(format_args!("no operation returned")),
+        Some(count) => say(format_args!("{count} of at least {least} operations returned")),
+        None => {
+            say(format_args!("the operations that returned cannot be counted"));
+            return Err(Status::BROKEN);
+        }
+    }
+    Err(Status::UNDECIDED)
 }
 
 /// The bytes of a file, to one more than a text may have.
@@ -86,6 +102,12 @@ fn history_of(command: &Find) -> Result<History, Status> {
     }
 }
 
+/// How much the operations of a history overlap, and what is suspicious in it: a line for each.
+pub fn summary_of(history: &History) -> String {
+    let warnings = warnings(history).into_iter().map(|it| format!("; warning: {it}\n"));
+    iter::once(format!("; {}\n", Statistics::of(history))).chain(warnings).collect()
+}
+
 /// Writes evidence for a history to standard output.
 pub fn find(command: &Find) -> Status {
     let limit = Limit::begin(command.seconds);
@@ -94,12 +116,11 @@ pub fn find(command: &Find) -> Status {
         Err(status) => return status,
     };
     if command.summarizes {
-        note(format_args!("; {}", Statistics::of(&history)));
-        warnings(&history).iter().for_each(|it| note(format_args!("; warning: {it}")));
+        summary_of(&history).lines().for_each(|line| note(format_args!("{line}")));
     }
     let all = history.objects.len();
     let decisions = decisions_by(limit, history, command);
-    match write_evidence(&decisions, io::stdout().lock()) {
+    match output().and_then(|out| write_evidence(&decisions, out)) {
         Ok(()) => status_of(&decisions, all),
         Err(error) => output_failed(error),
     }

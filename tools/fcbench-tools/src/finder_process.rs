@@ -3,8 +3,8 @@
 use crate::command_line::Find;
 use crate::limit::{BETWEEN_LIMIT_CHECKS, Limit, PROGRESS};
 use crate::program::say;
-use crate::signals::send_sigterm;
 use crate::status::Status;
+use crate::system::{send_sigterm, tie};
 use std::env;
 use std::io::{self, BufRead, BufReader, IsTerminal, Read};
 use std::path::PathBuf;
@@ -28,7 +28,7 @@ const LONGEST_SUMMARY: u64 = 1 << 20;
 /// otherwise this one. What it finds is checked, so any program may be named. It is started with
 /// the arguments `find HISTORY --workers N [--steps N]`, and writes evidence to its standard
 /// output. It is waited for until it closes that. At the limit it gets SIGTERM, and after five more
-/// seconds it is killed.
+/// seconds it is killed. On Linux it is also killed when this program ends.
 pub fn finder(command: &Find) -> io::Result<Command> {
     let named = env::var_os("FCBENCH_FINDER").map(PathBuf::from);
     let is_own = named.is_none();
@@ -45,6 +45,7 @@ pub fn finder(command: &Find) -> io::Result<Command> {
         }
     }
     finder.stdin(Stdio::null()).stderr(if is_own { Stdio::piped() } else { Stdio::null() });
+    tie(&mut finder);
     Ok(finder)
 }
 

@@ -4,17 +4,17 @@
 
 use crate::answer::{Answer, answer_of};
 use crate::command_line::{Find, Judge};
-use crate::find::{bytes_of, read_with};
+use crate::find::{bytes_of, read_with, require_returned, summary_of};
 use crate::finder_process::{Finder, finder};
 use crate::import::names_in;
 use crate::limit::Limit;
-use crate::program::{output_failed, path_for_both, put_out, say, verifier};
-use crate::signals::ignore_sigterm;
+use crate::program::{output, output_failed, path_for_both, put_out, say, start, verifier};
 use crate::status::Status;
+use crate::system::ignore_sigterm;
 use crate::terminal::copy_shortened;
 use ::import::{Names, with_names};
-use finder::{OVERLAP, SILENT_PUTS, read_history};
-use pages::{Fault, Verdict, fault_lines};
+use finder::{OF_A_YES, SILENT_PUTS, count_returned, read_history, read_history_from};
+use pages::{Asked, Fault, Verdict, fault_lines};
 use std::fmt::Write as _;
 use std::fs::{self, File};
 use std::io::{self, IsTerminal, Read, Write};
@@ -30,10 +30,10 @@ struct Lines<'a> {
 
 impl Lines<'_> {
     /// Writes an answer to standard output.
-    fn write(&self, answer: &[u8]) -> io::Result<()> {
-        let named = self.names.map(|names| with_names(names, &String::from_utf8_lossy(answer)));
-        let lines = named.as_deref().map_or(answer, str::as_bytes);
-        let mut out = io::stdout().lock();
+    fn write(&self, answer: &str) -> io::Result<()> {
+        let named = self.names.map(|names| with_names(names, answer));
+        let lines = named.as_deref().unwrap_or(answer).as_bytes();
+        let mut out = output()?;
         if self.is_shortened {
             copy_shortened(lines, &mut out)?;
         } else {
@@ -43,38 +43,40 @@ impl Lines<'_> {
     }
 }
 
-/// The answer to a judgement, if there is one, and what the finder said of the history.
+/// The answer to a judgement, and what the finder said of the history.
+#[derive(Debug)]
 struct Judgement {
-    answer: Result<Answer, Status>,
+    answer: Answer,
     summary: String,
 }
 
 /// Runs the two programs, the finder's output being the verifier's input. SIGTERM stops the finder
 /// alone, as the limit does: the verifier then judges by what came.
-fn run(mut verifier: Command, finder: io::Result<Command>, limit: Limit) -> Judgement {
-    let verifier =
-        ignore_sigterm(&mut verifier).stdin(Stdio::piped()).stdout(Stdio::piped()).spawn();
-    let mut verifier = match verifier {
-        Ok(verifier) => verifier,
-        Err(error) => {
-            say(format_args!("the verifier cannot be started: {error}"));
-            return Judgement { answer: Err(Status::BROKEN), summary: String::new() };
-        }
-    };
+fn run(
+    verifier: io::Result<Command>,
+    finder: io::Result<Command>,
+    limit: Limit,
+) -> Result<Judgement, Status> {
+    let verifier = verifier.map(|mut verifier| {
+        ignore_sigterm(&mut verifier);
+        verifier
+    });
+    let mut verifier = start(verifier)?;
     let evidence = verifier.stdin.take().map_or_else(Stdio::null, Stdio::from);
     // The command has the pipe, which must be closed here, or the evidence never ends.
     let finder = finder.and_then(|mut finder| Finder::start(finder.stdout(evidence), limit));
     if let Err(error) = &finder {
         say(format_args!("the finder cannot be started, so there is no evidence: {error}"));
     }
-    let answer = answer_of(&mut verifier);
-    Judgement { answer, summary: finder.map(Finder::end).unwrap_or_default() }
+    let answer = answer_of(&mut verifier, Asked::Verify);
+    let summary = finder.map(Finder::end).unwrap_or_default();
+    Ok(Judgement { answer: answer?, summary })
 }
 
-/// Whether a warning is printed. Little overlap matters only with a yes; puts without replies only
+/// Whether a warning is printed. That no race can show matters only with a yes; puts without replies only
 /// without one, since a correct store may then get a no.
 fn warns(warning: &str, is_yes: bool) -> bool {
-    !warning.contains(if is_yes { SILENT_PUTS } else { OVERLAP })
+    !warning.contains(if is_yes { SILENT_PUTS } else { OF_A_YES })
 }
 
 /// Prints the summary of a history, if it is asked for, and what is suspicious in it in any case.
@@ -127,12 +129,9 @@ fn try_to_read(history: &str) -> Result<(), Status> {
 }
 
 /// Says what to do if a search was out of steps.
-fn advise(lines: &[u8]) {
-    let is_out_of_steps = |line: &[u8]| {
-        line.starts_with(b"; object ")
-            && String::from_utf8_lossy(line).contains(": out of steps after ")
-    };
-    if lines.split(|it| *it == b'\n').any(is_out_of_steps) {
+fn advise(verdict: &Verdict) {
+    let is_out_of_steps = |it: &(u32, pages::Answer)| it.1 == pages::Answer::OutOfSteps;
+    if matches!(verdict, Verdict::Judged(answers) if answers.iter().any(is_out_of_steps)) {
         say(format_args!(
             "out of steps: --steps N lets the search take longer; distinct values and fewer :info operations help too"
         ));
@@ -158,13 +157,46 @@ fn explanation(history: &str, fault: Fault) -> Option<String> {
     Some(lines)
 }
 
-/// Explains a malformed history. `lines` are the verifier's.
-fn explain(history: &str, lines: &[u8]) -> Result<(), Status> {
-    let first = String::from_utf8_lossy(lines.split(|it| *it == b'\n').next().unwrap_or_default());
-    let Some(Verdict::Malformed(fault)) = Verdict::read(&first) else {
+/// Explains a malformed history.
+fn explain(history: &str, verdict: &Verdict) -> Result<(), Status> {
+    let Verdict::Malformed(fault) = *verdict else {
         return Ok(());
     };
     explanation(history, fault).map_or(Ok(()), |lines| put_out(&lines))
+}
+
+/// Reports why a yes, or that nothing is decided, is not printed: too few operations returned. A no
+/// and a fault of the text are printed all the same.
+fn require_enough(command: &Judge, history: &str, status: Status) -> Result<(), Status> {
+    if status != Status::YES && status != Status::UNDECIDED {
+        return Ok(());
+    }
+    let least = command.at_least;
+    require_returned(read_with(history, |file| count_returned(file, least))?, least)
+}
+
+/// What is to be said of a history. With `--strict` a yes needs it from this program's own
+/// reading, since a finder may die, or be another one that says nothing.
+fn summary_for(command: &Judge, history: &str, judgement: &Judgement) -> Result<String, Status> {
+    if !(command.is_strict && judgement.answer.status == Status::YES) {
+        return Ok(judgement.summary.clone());
+    }
+    let workers = command.find.workers;
+    let read = read_with(history, |file| read_history_from(file, workers))?;
+    read.as_ref().map(summary_of).ok_or_else(|| {
+        say(format_args!("cannot look for what --strict asks for"));
+        Status::BROKEN
+    })
+}
+
+/// Reports, with `--strict`, that a yes is not printed since there is a warning.
+fn require_no_warning(command: &Judge, summary: &str, status: Status) -> Result<(), Status> {
+    let is_warning = |line: &str| line.starts_with("; warning: ") && warns(line, true);
+    if command.is_strict && status == Status::YES && summary.lines().any(is_warning) {
+        say(format_args!("--strict: it is a yes, which is not printed, with a warning"));
+        return Err(Status::UNDECIDED);
+    }
+    Ok(())
 }
 
 /// Judges, and returns the status of the verifier, or that of what went wrong.
@@ -175,13 +207,19 @@ fn try_judge(command: &Judge) -> Result<Status, Status> {
     let names = command.names.as_deref().map(names_in).transpose()?;
     let find = Find { history, ..command.find.clone() };
     let verifier = verifier(&find.history, find.steps, find.workers);
-    let Judgement { answer, summary } = run(verifier, finder(&find), limit);
-    let Answer { status, lines } = answer?;
-    let is_shortened = io::stdout().is_terminal() && !command.shows_all;
-    Lines { names: names.as_ref(), is_shortened }.write(&lines).map_err(output_failed)?;
-    summarize(&summary, status == Status::YES, find.summarizes)?;
-    advise(&lines);
-    explain(&find.history, &lines)?;
+    let judgement = run(verifier, finder(&find), limit)?;
+    let summary = summary_for(command, &find.history, &judgement)?;
+    let Answer { status, verdict, lines } = judgement.answer;
+    let is_printed = require_enough(command, &find.history, status)
+        .and_then(|()| require_no_warning(command, &summary, status));
+    if is_printed.is_ok() {
+        let is_shortened = io::stdout().is_terminal() && !command.shows_all;
+        Lines { names: names.as_ref(), is_shortened }.write(&lines).map_err(output_failed)?;
+    }
+    summarize(&summary, status == Status::YES, find.summarizes && is_printed.is_ok())?;
+    is_printed?;
+    advise(&verdict);
+    explain(&find.history, &verdict)?;
     Ok(status)
 }
 
@@ -202,12 +240,15 @@ mod tests {
 
     /// A verifier that answers yes to one evidence alone.
     fn verifier() -> Command {
-        shell("test \"$(head -c 100)\" = '{:object 0, :order [1 0 4]}' || exit 3")
+        shell(
+            "if test \"$(head -c 100)\" = '{:object 0, :order [1 0 4]}'
+             then echo yes: 3 operations, 1 objects; else echo '; object 0: open'; exit 3; fi",
+        )
     }
 
     fn run_of(verifier: Command, finder: io::Result<Command>, seconds: Option<u64>) -> Status {
-        let answer = run(verifier, finder, Limit::begin(seconds)).answer;
-        answer.map_or_else(|status| status, |answer| answer.status)
+        let judged = run(Ok(verifier), finder, Limit::begin(seconds));
+        judged.map_or_else(|status| status, |judged| judged.answer.status)
     }
 
     fn judged(finder: &str) -> u8 {
@@ -250,7 +291,7 @@ mod tests {
 
     #[test]
     fn a_finder_that_never_ends_is_ended() {
-        let verifier = shell("head -n 1 > /dev/null; exit 3");
+        let verifier = shell("head -n 1 > /dev/null; echo '; object 0: open'; exit 3");
         let finder = Ok(shell("echo 1; exec sleep 1000"));
         assert_eq!(run_of(verifier, finder, None), Status::UNDECIDED);
     }
@@ -287,22 +328,46 @@ mod tests {
         assert_eq!(run_of(missing, finder(), None), Status::BROKEN);
     }
 
-    #[test]
-    fn the_status_is_that_of_the_verifier_and_lines_are_those_of_an_answer() {
-        for status in [0, 1, 2, 3, 4, 64] {
-            let verifier = shell(&format!("echo yes; exit {status}"));
-            let judged = run(verifier, Ok(shell("cat /dev/zero")), Limit::begin(None));
-            let answer = judged.answer.unwrap_or_else(|status| panic!("{status:?}"));
-            assert_eq!(answer.status, Status(status));
-            let lines = if status < 4 { &b"yes\n"[..] } else { b"" };
-            assert_eq!(answer.lines, lines, "{status}");
-        }
-    }
+    /// What a verifier prints, in words of printf, how it ends, and the status of the judgement.
+    const ENDS: [(&str, &str, u8); 26] = [
+        (r"yes: 3 operations, 1 objects\nqueue: 1 objects, 3 operations\n", "exit 0", 0),
+        (r"yes: 3 operations, 1 objects\n", "exit 1", 70),
+        (r"yes: 3 operations, 1 objects\n", "exit 3", 70),
+        (r"yes: 3 operations, 1 objects\n", "exit 4", 4),
+        (r"yes: 3 operations, 1 objects\n", "exit 64", 70),
+        (r"yes: 3 operations, 1 objects\n", "exit 101", 70),
+        (r"yes: 3 operations, 1 objects\n", "kill -9 $$", 3),
+        (r"yes: 3 operations, 1 objects", "exit 0", 70),
+        (r"yes: 3 opera", "exit 0", 70),
+        (r"yes: 3 opera\n", "exit 0", 70),
+        (r"\n", "exit 0", 70),
+        ("", "exit 0", 70),
+        ("", "exit 1", 70),
+        ("", "exit 2", 70),
+        ("", "exit 3", 70),
+        ("", "exit 4", 4),
+        (r"; object 0: impossible\n; {:object 0, :cuts []}\n", "exit 1", 1),
+        (r"; object 0: impossible\n; {:object 0, :cuts []}\n", "exit 0", 70),
+        (r"; object 0: impossible\n; {:object 0, :cuts []}\n", "exit 3", 70),
+        (r"; object 0: impossible\n; {:object 0, :cu", "exit 1", 70),
+        (r"; object 0: open\n", "exit 1", 70),
+        (r"no: C1 object 0 has no certificate\n", "exit 1", 70),
+        (r"malformed history: H8 at map 2\n", "exit 2", 2),
+        (r"malformed evidence: E3 at byte 0\n", "exit 3", 3),
+        (r"out of memory\n", "exit 3", 3),
+        (r"\377\n", "exit 3", 70),
+    ];
 
     #[test]
-    fn a_verifier_that_is_killed_after_its_lines_has_no_answer() {
-        let verifier = shell("echo yes: 3 operations, 1 objects; kill -9 $$");
-        let judged = run(verifier, Ok(shell("")), Limit::begin(None));
-        assert_eq!(judged.answer.err(), Some(Status::UNDECIDED));
+    fn lines_and_status_fit_or_there_is_no_answer() {
+        for (lines, ends, wanted) in ENDS {
+            let verifier = shell(&format!("printf '{lines}'; {ends}"));
+            let judged = run(Ok(verifier), Ok(shell("cat /dev/zero")), Limit::begin(None));
+            let status = match judged {
+                Ok(judged) => judged.answer.status,
+                Err(status) => status,
+            };
+            assert_eq!(status, Status(wanted), "{lines}, {ends}");
+        }
     }
 }

@@ -1,7 +1,7 @@
 //! The time limit of the search for evidence, and its progress messages.
 
 use crate::program::note;
-use crate::signals::{catch_sigterm, got_sigterm};
+use crate::system::{catch_sigterm, got_sigterm};
 use std::time::{Duration, Instant};
 
 /// How often the limit is checked.

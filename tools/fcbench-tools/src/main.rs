@@ -17,8 +17,8 @@ mod import;
 mod judge;
 mod limit;
 mod program;
-mod signals;
 mod status;
+mod system;
 mod terminal;
 
 use command_line::Command;

@@ -1,40 +1,55 @@
 //! The verifier.
 
 use crate::status::Status;
+use crate::system::{is_output_closed, tie};
 use std::env;
-use std::ffi::OsString;
 use std::fs;
-use std::io::{self, Write};
+use std::io::{self, StdoutLock, Write};
 use std::os::unix::fs::FileTypeExt;
-use std::process::Command;
+use std::path::PathBuf;
+use std::process::{Child, Command, Stdio};
 
 const NAME: &str = "fcbench";
 
-/// Where the verifier is: what the environment variable FCBENCH says, otherwise next to this
-/// program, otherwise on the path.
-fn path() -> OsString {
-    if let Some(path) = env::var_os("FCBENCH") {
-        return path;
-    }
-    let beside = env::current_exe().ok().map(|own| own.with_file_name(NAME));
-    beside.filter(|path| path.is_file()).map_or_else(|| NAME.into(), OsString::from)
+/// Where the verifier is: the file that the environment variable FCBENCH names, otherwise the one
+/// next to this program. It is never looked for on the PATH, where another program may have its
+/// name.
+fn path() -> io::Result<PathBuf> {
+    let path = match env::var_os("FCBENCH") {
+        Some(named) => PathBuf::from(named),
+        None => env::current_exe()?.with_file_name(NAME),
+    };
+    fs::canonicalize(&path)
+        .map_err(|error| io::Error::new(error.kind(), format!("{}: {error}", path.display())))
 }
 
-/// The verifier with these arguments, and with a limit of steps if one is given.
-pub fn proved(words: &[&str], steps: Option<u64>) -> Command {
-    let mut command = Command::new(path());
+/// The verifier with these arguments. On Linux it is killed when this program ends.
+pub fn proved(words: &[&str]) -> io::Result<Command> {
+    let mut command = Command::new(path()?);
     command.args(words);
-    if let Some(steps) = steps {
-        command.args(["--steps", &steps.to_string()]);
-    }
-    command
+    tie(&mut command);
+    Ok(command)
 }
 
 /// `fcbench verify` of a history by this many workers, which reads evidence from its standard
 /// input.
-pub fn verifier(history: &str, steps: Option<u64>, workers: usize) -> Command {
+pub fn verifier(history: &str, steps: Option<u64>, workers: usize) -> io::Result<Command> {
     let workers = workers.to_string();
-    proved(&["verify", history, "/dev/stdin", "--workers", &workers], steps)
+    let mut verifier = proved(&["verify", history, "/dev/stdin", "--workers", &workers])?;
+    if let Some(steps) = steps {
+        verifier.args(["--steps", &steps.to_string()]);
+    }
+    Ok(verifier)
+}
+
+/// Starts the verifier with a pipe for its input and one for its output, or reports why it cannot.
+pub fn start(verifier: io::Result<Command>) -> Result<Child, Status> {
+    let started = verifier
+        .and_then(|mut verifier| verifier.stdin(Stdio::piped()).stdout(Stdio::piped()).spawn());
+    started.map_err(|error| {
+        say(format_args!("the verifier cannot be started: {error}"));
+        Status::BROKEN
+    })
 }
 
 /// Returns a path by which both programs can read a history: that of its file, if it is named by
@@ -63,10 +78,21 @@ pub fn output_failed(error: io::Error) -> Status {
     Status::FAILED
 }
 
+/// Standard output, unless this program was started without one.
+pub fn output() -> io::Result<StdoutLock<'static>> {
+    if is_output_closed() {
+        return Err(io::Error::other("standard output is closed"));
+    }
+    Ok(io::stdout().lock())
+}
+
 /// Writes a text to standard output, or reports why it cannot.
 pub fn put_out(text: &str) -> Result<(), Status> {
-    let mut out = io::stdout().lock();
-    out.write_all(text.as_bytes()).and_then(|()| out.flush()).map_err(output_failed)
+    let written = output().and_then(|mut out| {
+        out.write_all(text.as_bytes())?;
+        out.flush()
+    });
+    written.map_err(output_failed)
 }
 
 /// Writes a line to standard error. If that fails, the command goes on without it.

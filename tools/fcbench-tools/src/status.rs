@@ -17,13 +17,8 @@ impl Status {
     pub const FAILED: Status = Status(4);
     /// The command line is wrong.
     pub const USAGE: Status = Status(64);
-    /// The verifier could not be started, or the finder or the drawing failed.
+    /// The verifier could not be started or did not answer, or the finder or the drawing failed.
     pub const BROKEN: Status = Status(70);
-
-    /// Whether a command that ends so has printed an answer: yes, no, malformed, or undecided.
-    pub fn is_answer(self) -> bool {
-        self.0 <= Status::UNDECIDED.0
-    }
 
     /// That of a program that ended by itself. `None`: a signal ended it.
     pub fn of(ended: ExitStatus) -> Option<Status> {

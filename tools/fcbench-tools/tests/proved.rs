@@ -1,8 +1,9 @@
 //! `judge` and `draw` with a stand-in for the verifier, which answers by a table.
 
+use std::env;
 use std::fs;
 use std::os::unix::fs::PermissionsExt;
-use std::path::PathBuf;
+use std::path::{Path, PathBuf};
 use std::process::{Command, Output, Stdio};
 
 /// What the stand-in answers: of each history to one evidence alone. Everything else is open.
@@ -75,11 +76,13 @@ fn judge_answers_what_the_proved_program_answers() {
 
 #[test]
 fn judge_passes_steps_and_workers_on() {
-    let program = script("steps", "#!/bin/sh\ncat > /dev/null\nprintf '%s ' \"$@\"\nexit 3\n");
+    let says = "echo '; object 0: open'; printf '; %s\\n' \"$*\"";
+    let program = script("steps", &format!("#!/bin/sh\ncat > /dev/null\n{says}\nexit 3\n"));
     let history = example("queue.history.edn");
     let words = ["judge", &history, "--steps", "17", "--workers", "3"];
     let (status, lines, _) = said(&run(&program, &words));
-    let wanted = format!("verify {history} /dev/stdin --workers 3 --steps 17 ");
+    let wanted =
+        format!("; object 0: open\n; verify {history} /dev/stdin --workers 3 --steps 17\n");
     assert_eq!((status, lines), (3, wanted));
 }
 
@@ -91,6 +94,28 @@ fn a_proved_program_that_is_not_there_is_status_70() {
         assert_eq!((status, lines.as_str()), (70, ""), "{word}");
         assert!(errors.contains("cannot be started"), "{errors}");
     }
+}
+
+/// Runs the tools with this alone as FCBENCH, and with this folder first on the PATH.
+fn judged_by(named: Option<&str>, folder: &Path) -> (i32, String, String) {
+    let mut tools = Command::new(env!("CARGO_BIN_EXE_fcbench-tools"));
+    let path = env::var("PATH").expect("a path");
+    tools.env("PATH", format!("{}:{path}", folder.display())).env_remove("FCBENCH");
+    tools.current_dir(env!("CARGO_TARGET_TMPDIR")).envs(named.map(|it| ("FCBENCH", it)));
+    said(&tools.args(["judge", &example("overlapping.history.edn")]).output().expect("an output"))
+}
+
+#[test]
+fn no_program_of_the_path_is_the_verifier() {
+    let program = script("of_the_path", STAND_IN);
+    let folder = program.parent().expect("a folder");
+    for named in [None, Some("fcbench"), Some("true"), Some("")] {
+        let (status, lines, errors) = judged_by(named, folder);
+        assert_eq!((status, lines.as_str()), (70, ""), "{named:?}");
+        assert!(errors.contains("the verifier cannot be started"), "{errors}");
+    }
+    let named = program.to_str().expect("a path");
+    assert_eq!(judged_by(Some(named), folder).0, 0);
 }
 
 #[test]
@@ -112,7 +137,7 @@ fn lines_without_their_status_are_not_handed_on() {
         ("aborts", "kill -ABRT $$", 3),
         ("unreadable_late", "exit 4", 4),
         ("no_verifier", "exit 70", 70),
-        ("other", "exit 101", 101),
+        ("other", "exit 101", 70),
     ] {
         let program = script(name, &format!("{says}{ends}\n"));
         for word in ["judge", "draw"] {

@@ -23,6 +23,7 @@ mod history;
 mod kinds;
 mod lexer;
 mod maps;
+mod order_dependence;
 mod orders;
 mod places;
 mod reader;
@@ -48,10 +49,10 @@ pub use kinds::{
 };
 pub use lexer::{Lexer, Token, TokenKind, ends_word};
 pub use places::{Places, PlacesFault};
-pub use reader::{LONGEST, read_history, read_history_from};
+pub use reader::{LONGEST, count_returned, read_history, read_history_from};
 pub use reasons::{
     Facts, FirstEvent, FirstOperation, FoundReason, Lost, LostValue, Pattern, Sentence, Shown,
-    Trial, Undone,
+    Trial, Undone, WhyUndone,
 };
 pub use search::TryFirst;
-pub use statistics::{OVERLAP, SILENT_PUTS, Statistics, warnings};
+pub use statistics::{OF_A_YES, SILENT_PUTS, Statistics, warnings};

@@ -40,6 +40,8 @@ enum Process {
 #[derive(Default)]
 struct Builder {
     maps: u32,
+    /// How many operations returned.
+    returned: u32,
     objects: Vec<ObjectHistory>,
     places: NumberTable<u32, usize>,
     runs: Vec<Run>,
@@ -102,6 +104,7 @@ impl Builder {
         (*process, call.end) = match event.of_type {
             EventType::Ok => {
                 let reply = call.op.function.reply(event.value?)?;
+                self.returned += 1;
                 (Process::Idle, End::Returned { at, reply })
             }
             EventType::Fail => (Process::Idle, End::Failed),
@@ -243,11 +246,11 @@ impl Reading {
         }
     }
 
-    /// The history, if all was read.
-    fn end(mut self) -> Option<History> {
+    /// Everything was read. `None`: it is no history.
+    fn end(mut self) -> Option<Builder> {
         self.tried = 0;
         self.add_rest()?;
-        is_blank(&self.rest).then(|| self.builder.history())
+        is_blank(&self.rest).then_some(self.builder)
     }
 }
 
@@ -271,11 +274,27 @@ pub fn read_history_from(source: impl Read, workers: usize) -> io::Result<Option
                 return Ok(None);
             }
             let Some((piece, finding)) = ahead.pop_front() else {
-                return Ok(reading.end());
+                return Ok(reading.end().map(Builder::history));
             };
             if reading.add(&piece, finding.end(&piece)).is_none() {
                 return Ok(None);
             }
         }
     })
+}
+
+/// How many operations of the text that a source gives returned. It reads no further than where
+/// `enough` of them have. `None`: the text, as far as it was read, is no history.
+pub fn count_returned(source: impl Read, enough: u32) -> io::Result<Option<u32>> {
+    let (mut pieces, mut reading) = (Pieces::of(source), Reading::default());
+    while reading.builder.returned < enough {
+        let Some(piece) = pieces.next()? else {
+            return Ok(reading.end().map(|builder| builder.returned));
+        };
+        let is_read = pieces.length <= LONGEST && reading.add(&piece, Found::of(&piece)).is_some();
+        if !is_read {
+            return Ok(None);
+        }
+    }
+    Ok(Some(reading.builder.returned))
 }

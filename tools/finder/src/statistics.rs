@@ -2,11 +2,15 @@
 
 use crate::history::{End, History, ObjectHistory, Operation};
 use crate::kinds::{Function, Reply, Shape, functions};
+use crate::order_dependence::depends_on_order;
+use crate::splitmix::NumberTable;
 use std::collections::HashSet;
 use std::fmt::{self, Display, Formatter};
+use std::iter::Sum;
 
 /// How many operations a history has, and how they overlap. Only operations on one object are
-/// compared, since two objects share no order.
+/// compared, since two objects share no order; of a map only those on one key, and of a set those on
+/// one element.
 #[derive(Clone, Copy, Debug, Default, PartialEq, Eq)]
 pub struct Statistics {
     /// Those that did not fail.
@@ -25,15 +29,14 @@ fn end_of(operation: &Operation) -> u32 {
 }
 
 impl Statistics {
-    fn of_object(object: &ObjectHistory) -> Statistics {
-        let all: Vec<&Operation> = object.ops.iter().filter(|it| !it.has_failed()).collect();
+    /// Those of operations that are in the order of their invocations. None of them failed.
+    fn of_operations(all: &[&Operation]) -> Statistics {
         let mut ends: Vec<u32> = all.iter().map(|it| end_of(it)).collect();
         ends.sort_unstable();
         let (mut latest_end, mut over) = (0, 0);
         let mut statistics = Statistics {
             operations: all.len(),
             pending: all.iter().filter(|it| it.is_pending()).count(),
-            failed: object.ops.len() - all.len(),
             ..Statistics::default()
         };
         for (place, operation) in all.iter().enumerate() {
@@ -47,22 +50,36 @@ impl Statistics {
         statistics
     }
 
+    fn of_object(object: &ObjectHistory) -> Statistics {
+        let done = || object.ops.iter().filter(|it| !it.has_failed());
+        let mut keys = NumberTable::<i64, Vec<&Operation>>::default();
+        for operation in done() {
+            keys.entry(operation.op.key().unwrap_or(0)).or_default().push(operation);
+        }
+        let all = keys.values().map(|it| Statistics::of_operations(it)).sum();
+        Statistics { failed: object.ops.len() - done().count(), ..all }
+    }
+
     /// The statistics of all objects together.
     pub fn of(history: &History) -> Statistics {
-        history.objects.iter().map(Statistics::of_object).fold(Statistics::default(), |sum, it| {
-            Statistics {
-                operations: sum.operations + it.operations,
-                overlapping: sum.overlapping + it.overlapping,
-                at_once: sum.at_once.max(it.at_once),
-                pending: sum.pending + it.pending,
-                failed: sum.failed + it.failed,
-            }
-        })
+        history.objects.iter().map(Statistics::of_object).sum()
     }
 
     /// Whether so few operations overlap that a race could hardly show.
     pub fn is_sequential(&self) -> bool {
         self.operations > 1 && self.overlapping * 20 < self.operations
+    }
+}
+
+impl Sum for Statistics {
+    fn sum<I: Iterator<Item = Statistics>>(all: I) -> Statistics {
+        all.fold(Statistics::default(), |sum, it| Statistics {
+            operations: sum.operations + it.operations,
+            overlapping: sum.overlapping + it.overlapping,
+            at_once: sum.at_once.max(it.at_once),
+            pending: sum.pending + it.pending,
+            failed: sum.failed + it.failed,
+        })
     }
 }
 
@@ -172,10 +189,28 @@ fn named(word: &str, all: &[u32]) -> Option<String> {
     }
 }
 
-/// Words of two warnings, by which `judge` knows them again: it prints the first only with a yes,
-/// and the second only without one.
-pub const OVERLAP: &str = " overlap";
+/// Words of warnings, by which `judge` knows them again: it prints those with the first only with a
+/// yes, and the one with the second only without one.
+pub const OF_A_YES: &str = " show in this history";
 pub const SILENT_PUTS: &str = "every :put replied nil";
+
+/// Why a race could not have led to a no, or hardly.
+fn race_warning(history: &History, statistics: &Statistics) -> Option<String> {
+    let Statistics { operations, overlapping, .. } = *statistics;
+    if operations > 0 && !depends_on_order(history) {
+        Some(format!(
+            "no reply depends on the order of operations of different processes: a race cannot{OF_A_YES}"
+        ))
+    } else if !statistics.is_sequential() {
+        None
+    } else if overlapping == 0 {
+        Some(format!("no two operations overlap: a race cannot{OF_A_YES}"))
+    } else {
+        Some(format!(
+            "only {overlapping} of {operations} operations overlap another one: a race can hardly{OF_A_YES}"
+        ))
+    }
+}
 
 /// What is suspicious in a history, in words.
 pub fn warnings(history: &History) -> Vec<String> {
@@ -189,18 +224,7 @@ pub fn warnings(history: &History) -> Vec<String> {
             "all {failed} calls of :{f} failed, so none is judged. If they found nothing, record :ok with :value nil"
         ));
     }
-    if statistics.is_sequential() {
-        let few = match statistics.overlapping {
-            0 => format!("no two operations{OVERLAP}"),
-            some => {
-                format!("only {some} of {} operations{OVERLAP} another one", statistics.operations)
-            }
-        };
-        all.push(format!(
-            "{few}: a race {} show in this history",
-            if statistics.overlapping == 0 { "cannot" } else { "can hardly" }
-        ));
-    }
+    all.extend(race_warning(history, &statistics));
     if let Some(event) = named("event", &strange_replies(history)) {
         all.push(format!(
             "the reply of {event} is not its argument: the recorder is probably wrong, not the store"
@@ -248,7 +272,7 @@ mod tests {
 
     #[test]
     fn nothing_overlaps() {
-        let text = call(0, ":f :enqueue, :value 1") + &call(1, ":f :enqueue, :value 2");
+        let text = call(0, ":f :write, :value 1") + &answered(1, ":f :read", "1", 0);
         let wanted =
             "0 % of 2 operations overlap another one, at most 1 at once; 0 pending, 0 failed";
         assert_eq!(summary_of(&text), wanted);
@@ -256,7 +280,35 @@ mod tests {
             warnings_of(&text),
             ["no two operations overlap: a race cannot show in this history"]
         );
-        assert_eq!(warnings_of(&call(0, ":f :enqueue, :value 1")), [""; 0]);
+    }
+
+    const NO_ORDER: &str = "no reply depends on the order of operations of different processes: a race cannot show in this history";
+
+    #[test]
+    fn no_reply_depends_on_the_order() {
+        for text in [
+            call(0, ":f :enqueue, :value 1"),
+            call(0, ":f :enqueue, :value 1") + &call(1, ":f :enqueue, :value 2"),
+        ] {
+            assert_eq!(warnings_of(&text), [NO_ORDER], "{text}");
+        }
+    }
+
+    #[test]
+    fn overlap_is_counted_for_each_key_and_each_element() {
+        let both = |f: &str, one: &str, other: &str| {
+            let call = |value: &str| format!(":f :{f}, :value {value}");
+            let text = event(0, "invoke", &call(one), 0) + &event(1, "invoke", &call(other), 0);
+            let statistics = Statistics::of(&read_history(text.as_bytes()).expect("a history"));
+            (statistics.overlapping, statistics.at_once)
+        };
+        for (f, one, same, other) in
+            [("assoc", "[1 5]", "[1 6]", "[2 6]"), ("get", "1", "1", "2"), ("add", "1", "1", "2")]
+        {
+            assert_eq!(both(f, one, same), (2, 2), "{f}");
+            assert_eq!(both(f, one, other), (0, 1), "{f}");
+        }
+        assert_eq!(both("enqueue", "1", "2"), (2, 2));
     }
 
     #[test]
@@ -272,17 +324,18 @@ mod tests {
         let wanted =
             "66 % of 3 operations overlap another one, at most 2 at once; 1 pending, 1 failed";
         assert_eq!(summary_of(&text), wanted);
-        assert_eq!(warnings_of(&text), [""; 0]);
+        assert_eq!(warnings_of(&text), [NO_ORDER]);
     }
 
     #[test]
     fn few_overlap() {
         let mut text: String =
             (0..60).map(|value| call(0, &format!(":f :enqueue, :value {value}"))).collect();
-        text += &(event(0, "invoke", ":f :enqueue, :value 98", 0)
+        text += &(answered(2, ":f :dequeue", "0", 0)
+            + &event(0, "invoke", ":f :enqueue, :value 98", 0)
             + &event(1, "invoke", ":f :enqueue, :value 99", 0));
         let wanted =
-            "only 2 of 62 operations overlap another one: a race can hardly show in this history";
+            "only 2 of 63 operations overlap another one: a race can hardly show in this history";
         assert_eq!(warnings_of(&text), [wanted]);
     }
 

@@ -1,6 +1,8 @@
 //! The sentence of each pattern.
 
-use finder::{Counted, Facts, FirstEvent, Kind, Lost, LostValue, Pattern, Sentence, Undone};
+use finder::{
+    Counted, Facts, FirstEvent, Kind, Lost, LostValue, Pattern, Sentence, Undone, WhyUndone,
+};
 
 fn kind(word: &str) -> Kind {
     finder::kind(word).expect("a kind")
@@ -105,36 +107,45 @@ fn facts_beside_a_pattern_are_said() {
     let said = |kind, pattern, facts| {
         Sentence { facts, ..Sentence::of_pattern(kind, None, pattern) }.to_string()
     };
-    let undone = |count, were_refused| Facts {
-        undone: Some(Undone { first: 12, count, were_refused }),
-        ..Facts::default()
-    };
+    let undone =
+        |count, why| Facts { undone: Some(Undone { first: 12, count, why }), ..Facts::default() };
+    let refused = |name| WhyUndone::Refused(Some(name));
     let never = || Pattern::NeverSet(7);
     for (kind, facts, wanted) in [
         (
             kind("register"),
-            undone(1, false),
+            undone(1, WhyUndone::Failed),
             "value 7 was read and only written by event 12, which failed",
         ),
         (
             kind("queue"),
-            undone(1, false),
+            undone(1, WhyUndone::Failed),
             "value 7 was dequeued and only enqueued by event 12, which failed",
         ),
         (
             kind("map"),
-            undone(3, false),
+            undone(3, WhyUndone::Failed),
             "value 7 was seen and only put by 3 operations that failed, the first of them event 12",
         ),
         (
             kind("register"),
-            undone(1, true),
+            undone(1, refused("cas")),
             "value 7 was read and only written by the :cas of event 12, which was refused",
         ),
         (
             kind("register"),
-            undone(2, true),
+            undone(2, refused("cas")),
             "value 7 was read and only written by 2 :cas that were refused, the first of them event 12",
+        ),
+        (
+            kind("register"),
+            undone(1, refused("create")),
+            "value 7 was read and only written by the :create of event 12, which was refused",
+        ),
+        (
+            kind("register"),
+            undone(2, WhyUndone::Refused(None)),
+            "value 7 was read and only written by 2 operations that were refused, the first of them event 12",
         ),
     ] {
         assert_eq!(said(kind, never(), facts), wanted);

@@ -18,6 +18,7 @@ pub use asides::Asides;
 pub use faults::{fault_lines, malformed_page, memory_page};
 pub use judged_page::{Drawn, Options, Order, orders_in};
 pub use verdict::{
-    Answer, Fault, FormFaultKind, MapFaultKind, OrderFault, Refusal, TextFaultKind, Verdict, Which,
+    Answer, Asked, Fault, FormFaultKind, MapFaultKind, OrderFault, Refusal, TextFaultKind, Verdict,
+    Which,
 };
 pub use words::Words;

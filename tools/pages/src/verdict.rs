@@ -143,7 +143,18 @@ pub enum Verdict {
     /// These objects have no order.
     Judged(Vec<(u32, Answer)>),
     Malformed(Fault),
+    /// The evidence denotes no claims, so nothing is decided.
+    MalformedEvidence,
     NoMemory,
+}
+
+/// The command of the proved program that said it.
+#[derive(Clone, Copy, Debug, PartialEq, Eq)]
+pub enum Asked {
+    /// Of a history and evidence, which `verify` judges.
+    Verify,
+    /// Of a history and certificates, which `check` judges.
+    Check,
 }
 
 impl TextFaultKind {
@@ -296,36 +307,83 @@ impl Refusal {
 /// As `; object 3: out of steps after 10`.
 fn answer_in(line: &str) -> Option<(u32, Answer)> {
     let (object, said) = line.strip_prefix("; object ")?.split_once(": ")?;
-    let answer = match said.split("; ").next()? {
+    let answer = match said {
         "impossible" => Answer::Impossible,
         "out of memory" => Answer::OutOfMemory,
-        said if said.starts_with("out of steps") => Answer::OutOfSteps,
-        _ => Answer::Open,
+        "open" => Answer::Open,
+        _ => {
+            let _steps: u64 = said.strip_prefix("out of steps after ")?.parse().ok()?;
+            Answer::OutOfSteps
+        }
     };
     Some((object.parse().ok()?, answer))
+}
+
+/// Whether these words are two counts with these nouns, as `3 operations, 1 objects`.
+fn are_counts(words: &str, first: &str, second: &str) -> bool {
+    let is_count = |words: &str, noun: &str| {
+        let count = words.strip_suffix(noun).and_then(|it| it.strip_suffix(' '));
+        count.is_some_and(|it| it.parse::<u64>().is_ok())
+    };
+    words
+        .split_once(", ")
+        .is_some_and(|(one, other)| is_count(one, first) && is_count(other, second))
+}
+
+/// Whether these are the lines of a yes: the counts of the history, and those of each kind.
+fn are_of_yes(lines: &str) -> bool {
+    let mut lines = lines.lines();
+    let first = lines.next().and_then(|line| line.strip_prefix("yes: "));
+    let is_of_kind = |line: &str| {
+        line.split_once(": ").is_some_and(|(_, counts)| are_counts(counts, "objects", "operations"))
+    };
+    first.is_some_and(|counts| are_counts(counts, "operations", "objects")) && lines.all(is_of_kind)
 }
 
 impl Verdict {
     /// Reads the lines of a judgement or a check. `None`: they are none.
     pub fn read(lines: &str) -> Option<Verdict> {
         let first = lines.lines().next()?;
-        if first == "out of memory" {
-            return Some(Verdict::NoMemory);
+        let is_one_line = lines.lines().count() == 1;
+        let (code, words) = first.split_once(": ").unwrap_or((first, ""));
+        let verdict = match code {
+            "yes" => are_of_yes(lines).then_some(Verdict::Yes),
+            "no" => Refusal::read(words).map(Verdict::No),
+            "out of memory" => Some(Verdict::NoMemory),
+            "malformed history" => Fault::read(Which::History, words).map(Verdict::Malformed),
+            "malformed certificates" => {
+                Fault::read(Which::Certificates, words).map(Verdict::Malformed)
+            }
+            "malformed evidence" => Some(Verdict::MalformedEvidence),
+            _ => {
+                let answers: Vec<_> = lines.lines().filter_map(answer_in).collect();
+                return (!answers.is_empty()).then_some(Verdict::Judged(answers));
+            }
+        };
+        verdict.filter(|it| is_one_line || *it == Verdict::Yes)
+    }
+
+    /// Whether some object has no valid order.
+    fn has_impossible(&self) -> bool {
+        let is_impossible = |it: &(u32, Answer)| it.1 == Answer::Impossible;
+        matches!(self, Verdict::Judged(answers) if answers.iter().any(is_impossible))
+    }
+
+    /// The exit status with which this command says it, as the table of docs/commands.md has it.
+    /// `None`: it never says it.
+    pub fn status(&self, asked: Asked) -> Option<u8> {
+        match (self, asked) {
+            (Verdict::Yes, _) => Some(0),
+            (Verdict::Judged(_), Asked::Verify) => Some(if self.has_impossible() { 1 } else { 3 }),
+            (Verdict::No(_), Asked::Check) => Some(1),
+            (Verdict::Malformed(fault), _) => {
+                let is_read = asked == Asked::Check || fault.which() == Which::History;
+                is_read.then_some(2)
+            }
+            (Verdict::MalformedEvidence, Asked::Verify) | (Verdict::NoMemory, _) => Some(3),
+            (Verdict::Judged(_) | Verdict::MalformedEvidence, Asked::Check)
+            | (Verdict::No(_), Asked::Verify) => None,
         }
-        if first.starts_with("yes: ") {
-            return Some(Verdict::Yes);
-        }
-        if let Some(words) = first.strip_prefix("no: ") {
-            return Some(Verdict::No(Refusal::read(words)?));
-        }
-        if let Some(words) = first.strip_prefix("malformed history: ") {
-            return Some(Verdict::Malformed(Fault::read(Which::History, words)?));
-        }
-        if let Some(words) = first.strip_prefix("malformed certificates: ") {
-            return Some(Verdict::Malformed(Fault::read(Which::Certificates, words)?));
-        }
-        let answers: Vec<_> = lines.lines().filter_map(answer_in).collect();
-        (!answers.is_empty()).then_some(Verdict::Judged(answers))
     }
 }
 
@@ -336,7 +394,10 @@ mod tests {
     #[test]
     fn reads_lines() {
         let read = |lines| Verdict::read(lines).expect(lines);
-        assert_eq!(read("yes: 4 operations, 1 objects\nqueue: 1"), Verdict::Yes);
+        assert_eq!(
+            read("yes: 4 operations, 1 objects\nqueue: 1 objects, 4 operations"),
+            Verdict::Yes
+        );
         let no = |object, fault| Verdict::No(Refusal::BadOrder { object, fault });
         assert_eq!(
             read("no: C5 object 7: 0 returned before 2 was invoked"),
@@ -363,7 +424,45 @@ mod tests {
             read("; object 0: out of steps after 10\n; object 2: impossible\n; events 1 and 2"),
             Verdict::Judged(vec![(0, Answer::OutOfSteps), (2, Answer::Impossible)])
         );
-        assert_eq!(Verdict::read("no: C8"), None);
-        assert_eq!(Verdict::read("; events 1"), None);
+        assert_eq!(read("malformed evidence: E3 at byte 0\n"), Verdict::MalformedEvidence);
+        assert_eq!(read("out of memory\n"), Verdict::NoMemory);
+        for lines in [
+            "",
+            "no: C8",
+            "; events 1",
+            "yes",
+            "yes: 3 operat",
+            "yes: 3 operations, 1 objects\nqueue: 1 obj",
+            "yes: 3 operations, 1 objects\n; object 0: impossible",
+            "no: C1 object 3 has no certificate\nyes: 3 operations, 1 objects",
+            "out of memory\nyes: 3 operations, 1 objects",
+            "; object 0: imposs",
+            "; object 0: out of steps after",
+            "object 0: impossible",
+        ] {
+            assert_eq!(Verdict::read(lines), None, "{lines}");
+        }
+    }
+
+    #[test]
+    fn each_verdict_has_its_status() {
+        let statuses = |lines: &str| {
+            let verdict = Verdict::read(lines).expect(lines);
+            [Asked::Verify, Asked::Check].map(|asked| verdict.status(asked))
+        };
+        for (lines, wanted) in [
+            ("yes: 4 operations, 1 objects\nqueue: 1 objects, 4 operations\n", [Some(0), Some(0)]),
+            ("yes: 0 operations, 0 objects\n", [Some(0), Some(0)]),
+            ("; object 0: impossible\n; events 1 and 2\n", [Some(1), None]),
+            ("; object 0: open\n; object 2: impossible\n", [Some(1), None]),
+            ("no: C1 object 3 has no certificate\n", [None, Some(1)]),
+            ("malformed history: H8 at map 2\n", [Some(2), Some(2)]),
+            ("malformed certificates: K1 at form 0\n", [None, Some(2)]),
+            ("; object 0: open\n; object 2: out of steps after 10\n", [Some(3), None]),
+            ("malformed evidence: E3 at byte 0\n", [Some(3), None]),
+            ("out of memory\n", [Some(3), Some(3)]),
+        ] {
+            assert_eq!(statuses(lines), wanted, "{lines}");
+        }
     }
 }

@@ -35,6 +35,8 @@ pub struct Draw {
     pub certificates: Option<String>,
     pub names: Option<String>,
     pub steps: Option<u64>,
+    /// How many operations must have returned for a page on a yes, or on what is not decided.
+    pub at_least: u32,
     pub options: pages::Options,
 }
 
@@ -46,6 +48,10 @@ pub struct Judge {
     pub shows_all: bool,
     /// The table of names to use in the answer, if there is one.
     pub names: Option<String>,
+    /// How many operations must have returned for a yes, or for an answer that is undecided.
+    pub at_least: u32,
+    /// Whether there is no yes with a warning.
+    pub is_strict: bool,
 }
 
 /// What is imported.
@@ -71,6 +77,8 @@ pub enum Command {
 const MOST_WORKERS: usize = 16;
 const MOST_STEPS: u64 = 1_000_000_000;
 const MOST_SECONDS: u64 = 1_000_000;
+/// More do not return in 1,000,000 maps.
+const MOST_OPERATIONS: u64 = 500_000;
 
 fn one_for_each_processor() -> usize {
     thread::available_parallelism().map_or(1, NonZero::get).min(MOST_WORKERS)
@@ -89,10 +97,18 @@ fn find_of(mut words: Words) -> Result<Find, Fault> {
     })
 }
 
+/// How many operations must have returned: one, if nothing else is said.
+fn least_of(words: &mut Words) -> Result<u32, Fault> {
+    let least = words.take_number("--at-least", 0, MOST_OPERATIONS)?;
+    Ok(least.map_or(1, |number| number as u32))
+}
+
 fn judge_of(mut words: Words) -> Result<Judge, Fault> {
     let shows_all = words.take_flag("--all");
     let names = words.take_value("--names");
-    Ok(Judge { find: find_of(words)?, shows_all, names })
+    let at_least = least_of(&mut words)?;
+    let is_strict = words.take_flag("--strict");
+    Ok(Judge { find: find_of(words)?, shows_all, names, at_least, is_strict })
 }
 
 fn import_of(mut words: Words) -> Result<Import, Fault> {
@@ -128,8 +144,9 @@ fn draw_of(mut words: Words) -> Result<Draw, Fault> {
     }
     let steps = words.take_number("--steps", 0, MOST_STEPS)?;
     let names = words.take_value("--names");
+    let at_least = least_of(&mut words)?;
     let (history, certificates) = words.files()?;
-    Ok(Draw { history, certificates, names, steps, options })
+    Ok(Draw { history, certificates, names, steps, at_least, options })
 }
 
 /// Reads the words after a command's name.
@@ -183,7 +200,13 @@ mod tests {
         };
         assert_eq!(parsed("find h.edn"), Some(Command::Find(find.clone())));
         let find = Find { workers: 4, steps: Some(0), ..find };
-        let judge = Judge { find: find.clone(), shows_all: false, names: None };
+        let judge = Judge {
+            find: find.clone(),
+            shows_all: false,
+            names: None,
+            at_least: 1,
+            is_strict: false,
+        };
         for line in [
             "judge --steps 0 h.edn --workers 4",
             "judge --steps=0 --workers +4 h.edn",
@@ -193,8 +216,14 @@ mod tests {
             assert_eq!(parsed(line), Some(Command::Judge(judge.clone())), "{line}");
         }
         let find = Find { seconds: Some(60), ..find };
-        let judge = Judge { find: find.clone(), shows_all: true, names: Some("n.edn".into()) };
-        let line = "judge --steps 0 --all h.edn --workers 4 --names=n.edn --seconds 60";
+        let judge = Judge {
+            find: find.clone(),
+            shows_all: true,
+            names: Some("n.edn".into()),
+            at_least: 100,
+            is_strict: true,
+        };
+        let line = "judge --steps 0 --all h.edn --workers 4 --names=n.edn --seconds 60 --strict --at-least 100";
         assert_eq!(parsed(line), Some(Command::Judge(judge)));
         let find =
             Find { history: "-h.edn".into(), shows_progress: true, summarizes: true, ..find };
@@ -213,10 +242,11 @@ mod tests {
             certificates: Some("c.edn".into()),
             names: Some("n.edn".into()),
             steps: None,
+            at_least: 0,
             options: pages::Options { object: Some(3), from: None, to: Some(9) },
         };
         assert_eq!(
-            parsed("draw h.edn --to 9 c.edn --names n.edn --object 3"),
+            parsed("draw h.edn --to 9 c.edn --names n.edn --object 3 --at-least=0"),
             Some(Command::Draw(draw))
         );
         let import = Import {
@@ -249,7 +279,7 @@ mod tests {
     }
 
     /// Command lines, and the sentence for each.
-    const REFUSED: [(&str, &str); 44] = [
+    const REFUSED: [(&str, &str); 47] = [
         ("", "a command is missing"),
         ("other h.edn", "no such command: 'other'"),
         ("-- judge h.edn", "no such command: '--'"),
@@ -306,6 +336,12 @@ mod tests {
             "draw a --seconds 1",
             "draw has no option '--seconds'; to name such a file, put -- before it",
         ),
+        ("judge a --at-least 500001", "--at-least takes a number from 0 to 500000, not '500001'"),
+        (
+            "find a --at-least 1",
+            "find has no option '--at-least'; to name such a file, put -- before it",
+        ),
+        ("draw a --strict", "draw has no option '--strict'; to name such a file, put -- before it"),
         ("find a --places", "--places needs a value, <FILE>"),
         (
             "judge a --places b",

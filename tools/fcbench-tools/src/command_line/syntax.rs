@@ -89,6 +89,11 @@ const STEPS: OptionSpec = OptionSpec::valued(
     "N",
     "limit of the last search for each object, 0 to 1000000000 (default 1000000, or 100 for each operation if that is more)",
 );
+const AT_LEAST: OptionSpec = OptionSpec::valued(
+    "--at-least",
+    "N",
+    "if fewer than N operations returned, 0 to 500000 (default 1), say so and end with 3 in place of a yes or of undecided",
+);
 const WORKERS: OptionSpec = OptionSpec::valued(
     "--workers",
     "N",
@@ -107,6 +112,7 @@ pub const JUDGE: Syntax = Syntax {
     other_file: None,
     options: &[
         &OptionSpec::flag("--all", "show all operations on a terminal, instead of at most 200"),
+        &AT_LEAST,
         &OptionSpec::valued(
             "--names",
             "FILE",
@@ -117,6 +123,10 @@ pub const JUDGE: Syntax = Syntax {
             "N",
             "stop searching after N seconds, 1 to 1000000 (or at SIGTERM), and judge by what was found.\n\
              The answer usually follows within a second",
+        ),
+        &OptionSpec::flag(
+            "--strict",
+            "end with 3 in place of a yes if there is a warning about the history",
         ),
         &OptionSpec::flag(
             "--summary",
@@ -163,6 +173,7 @@ pub const DRAW: Syntax = Syntax {
     file: "HISTORY",
     other_file: Some("CERTS"),
     options: &[
+        &AT_LEAST,
         &OptionSpec::valued("--object", "N", "draw this object alone"),
         &OptionSpec::valued("--from", "N", "draw the events from this one on"),
         &OptionSpec::valued("--to", "N", "draw the events before this one"),

@@ -1,6 +1,6 @@
 //! Operations and replies, and what they do in the words of the families.
 
-use super::cells::Effect;
+use super::cells::{Effect, Need};
 use super::room::{Does, Family, Function, Kind};
 use std::fmt::{self, Display, Formatter};
 
@@ -221,6 +221,26 @@ impl Op {
     /// Whether the operation only looks at its cell.
     pub fn only_looks(self) -> bool {
         self.function.only_looks()
+    }
+
+    /// Whether the reply would differ, or the operation would not be possible, with another content
+    /// of the object.
+    pub fn depends(self, reply: Reply) -> bool {
+        match self.function.does {
+            Does::Puts => false,
+            Does::Takes | Does::Acquires | Does::Releases | Does::Adds | Does::Counts => true,
+            Does::Accesses(_) => self.effect(Some(reply)).is_some_and(|it| it.need != Need::Any),
+        }
+    }
+
+    /// Whether the operation may change what the object contains. No reply: it is pending.
+    pub fn may_change(self, reply: Option<Reply>) -> bool {
+        match self.function.does {
+            Does::Puts | Does::Acquires | Does::Releases => true,
+            Does::Takes => reply != Some(Reply::Value(None)),
+            Does::Adds | Does::Counts => self.adds() != Some(0),
+            Does::Accesses(_) => self.effect(reply).is_some_and(|it| it.sets.is_some()),
+        }
     }
 
     /// Whether the reply tells what the object contains after the operation.

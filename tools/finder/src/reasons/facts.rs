@@ -6,13 +6,22 @@ use crate::history::{ObjectHistory, Operation};
 use crate::kinds::{Op, Reply};
 
 /// Operations that would have put a value in, or set it, and did not: all failed, or all were
-/// refused, being compare-and-sets.
+/// refused.
 #[derive(Clone, Copy, Debug, PartialEq, Eq)]
 pub struct Undone {
     /// The number of the first one's invocation.
     pub first: u32,
     pub count: usize,
-    pub were_refused: bool,
+    pub why: WhyUndone,
+}
+
+/// Why operations did not take place.
+#[derive(Clone, Copy, Debug, PartialEq, Eq)]
+pub enum WhyUndone {
+    Failed,
+    /// The object contained something else than they ask for. All are of this function, if it is
+    /// one.
+    Refused(Option<&'static str>),
 }
 
 /// What a sentence says beside its pattern.
@@ -31,15 +40,23 @@ fn would_put(op: Op, key: Option<i64>, value: i64) -> bool {
 
 impl Undone {
     fn of(history: &ObjectHistory, key: Option<i64>, value: i64) -> Option<Undone> {
-        let of = |were_refused: bool, is_undone: fn(&Operation) -> bool| {
-            let would = |o: &&Operation| is_undone(o) && would_put(o.op, key, value);
-            let mut all = history.ops.iter().filter(would);
-            let first = all.next()?.number;
-            Some(Undone { first, count: 1 + all.count(), were_refused })
+        let would = |o: &&Operation| would_put(o.op, key, value);
+        let all = |is_undone: fn(&Operation) -> bool| {
+            history.ops.iter().filter(would).filter(move |o| is_undone(o))
         };
-        of(false, Operation::has_failed).or_else(|| {
-            of(true, |o| o.op.function.may_be_refused() && o.reply().is_some_and(Reply::is_refusal))
-        })
+        let failed = all(Operation::has_failed);
+        let is_refused = |o: &Operation| o.reply().is_some_and(Reply::is_refusal);
+        let refused = all(is_refused).filter(|_| history.kind.has_values_in_cells());
+        let mut undone = failed.clone().chain(refused.clone());
+        let first = undone.next()?;
+        let count = failed.count();
+        if count > 0 {
+            return Some(Undone { first: first.number, count, why: WhyUndone::Failed });
+        }
+        let name = first.op.name();
+        let is_one = refused.clone().all(|o| o.op.name() == name);
+        let why = WhyUndone::Refused(is_one.then_some(name));
+        Some(Undone { first: first.number, count: refused.count(), why })
     }
 }
 
@@ -59,8 +76,9 @@ impl Facts {
         };
         let found =
             |o: &Operation| o.op.only_looks() && o.reply() == Some(Reply::Value(Some(value)));
-        let swapped =
-            |o: &Operation| matches!(o.reply(), Some(Reply::Swapped(old, _)) if old == value);
+        let swapped = |o: &Operation| {
+            matches!(o.reply(), Some(Reply::Swapped(..))) && o.op.argument.expected() == Some(value)
+        };
         Facts {
             is_by_swap: history.kind.is_lone_cell()
                 && part.ops.iter().any(swapped)

@@ -20,7 +20,7 @@ mod wholes;
 pub(crate) use cells::{lock_patterns, rare_lock_patterns};
 pub(crate) use cells::{mutex_patterns, rare_mutex_patterns};
 pub(crate) use containers::{Interval, Runs, extracts, queue_pairs, stack_pairs};
-pub use facts::{Facts, Undone};
+pub use facts::{Facts, Undone, WhyUndone};
 pub use lost::{Lost, LostValue};
 pub use pattern::{FirstEvent, FirstOperation, Pattern, Sentence};
 pub(crate) use plan::Candidate;

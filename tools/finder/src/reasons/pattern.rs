@@ -1,6 +1,6 @@
 //! Patterns: what is wrong in a history, and the sentence that says it.
 
-use super::{Facts, Lost, Undone};
+use super::{Facts, Lost, Undone, WhyUndone};
 use crate::cuts::{Counted, Cut};
 use crate::history::{ObjectHistory, Operation};
 use crate::kinds::{Does, Gives, Kind, Need, Op, Reply, Words};
@@ -184,17 +184,21 @@ impl Display for Sentence {
 }
 
 impl Undone {
-    /// Those that alone would have put the value in, where this is the name of what was refused.
-    fn text(self, swap: &str) -> String {
-        let Undone { first, count, were_refused } = self;
-        match (count, were_refused) {
-            (1, false) => format!("event {first}, which failed"),
-            (1, true) => format!("the :{swap} of event {first}, which was refused"),
-            (_, false) => {
+    /// Those that alone would have put the value in.
+    fn text(self) -> String {
+        let Undone { first, count, why } = self;
+        match (count, why) {
+            (1, WhyUndone::Failed) => format!("event {first}, which failed"),
+            (1, WhyUndone::Refused(name)) => {
+                let of = name.map_or(String::new(), |name| format!("the :{name} of "));
+                format!("{of}event {first}, which was refused")
+            }
+            (_, WhyUndone::Failed) => {
                 format!("{count} operations that failed, the first of them event {first}")
             }
-            (_, true) => {
-                format!("{count} :{swap} that were refused, the first of them event {first}")
+            (_, WhyUndone::Refused(name)) => {
+                let those = name.map_or("operations".to_owned(), |name| format!(":{name}"));
+                format!("{count} {those} that were refused, the first of them event {first}")
             }
         }
     }
@@ -218,7 +222,7 @@ impl Sentence {
             }
             Pattern::NeverSet(_) => match self.facts.undone {
                 Some(undone) => {
-                    let undone = undone.text(self.kind.swap_name());
+                    let undone = undone.text();
                     write!(f, "value {element} was {seen} and only {put} by {undone}")
                 }
                 None => write!(f, "value {element} was {seen} and never {put}"),
@@ -359,7 +363,7 @@ impl Pattern {
         };
         Some(match *self {
             Pattern::NeverSet(value) => match facts.undone {
-                Some(undone) => (value, format!("{seen} and only {put} by {}", undone.text(swap))),
+                Some(undone) => (value, format!("{seen} and only {put} by {}", undone.text())),
                 None => (value, format!("{seen} and never {put}")),
             },
             Pattern::TooEarly(value) => (value, format!("{seen} before it was {put}")),
