@@ -17,8 +17,9 @@ use Rattle.history_commands.specs.Outputs.{status_number}
 use Rattle.history_commands.specs.declared.status.Status.{Status}
 use Rattle.history_commands.specs.declared.status.Status.TheVariants.{Yes, No, Malformed, Undecided, Failed}
 use Rattle.commands.specs.Leaves.{Leaves}
-use Rattle.commands.specs.Sharded.{AreMapsCounted, AreShardsRead, FolderHoldsSplit, FolderContents, IsMergeOfFolder}
-use Rattle.commands.specs.Sharded.{IsSplitOutput}
+use Rattle.commands.specs.Sharded.{AreMapsCounted, AreShardsOf, AreShardsRead, FolderContents, FolderHoldsLines}
+use Rattle.commands.specs.Sharded.{FolderHoldsSplit, IsMergeOfFolder, IsSplitOutput}
+use Rattle.commands.proofs.LostLines.{all_lines}
 use Rattle.history_commands.proofs.Numbers.{no_by_number, yes_by_number}
 use Rattle.commands.proofs.StatusMeanings.{memory_not_no, memory_not_yes, no_not_failed, yes_not_failed}
 
@@ -51,6 +52,17 @@ module _ {X : Type 0} (IsAt : ℕ → X → Type 0) where
         subst (IsAt k) (sym (get_or_push xs x d k last)) (subst (λ n. IsAt n x) last own)
   ]
 
+-- if each shard was read with its text, and is linearizable, then so is the full history
+by_texts : (shards : List Shard) (count : ℕ) → 0 < count → length shards ≡ count → (whole : List ℕ) (files : Files)
+    → AreShardsOf count whole files → ((s : ℕ) (d : Shard) → s < length shards → (get_or shards s d).text ≡ files.texts s)
+    → All (λ s. IsLinearizableText s.text) shards → IsLinearizableAtAnyLength whole
+by_texts shards count some each whole files divided own all =
+    linearizable_where_judged (shard_among count) name_in_shard whole files.texts divided.split
+    (λ s. elim (cases_lt s (length shards)) [
+      | inl below ↦ inr (subst IsLinearizableText (own s no_shard below) (all s no_shard below))
+      | inr past ↦ inl (empty_past count some s (subst (λ n. n ≤ s) each past) whole files divided)
+    ])
+
 module _ (holds : FolderContents) (counts : List ℕ) (limit : ℕ) (shards : List Shard)
     (long : length shards ≡ length counts) (read : AreShardsRead holds counts limit shards) where
   -- what applies to the text of each shard, with the maps that it was given
@@ -67,6 +79,23 @@ module _ (holds : FolderContents) (counts : List ℕ) (limit : ℕ) (shards : Li
         subst (λ n. IsCounted n shard.text) own.2 (all s no_shard inside),
       )
 
+  -- texts with first lines of the shards, and as many maps as the shards were given, are whole
+  pub linearizable_by_lines : 0 < length counts → (whole : List ℕ) → FolderHoldsLines holds counts whole
+      → All (λ s. HasMaps s.maps s.text) shards → All (λ s. IsLinearizableText s.text) shards
+      → IsLinearizableAtAnyLength whole
+  linearizable_by_lines some whole split counted all =
+      by_texts shards (length counts) some long whole split.files split.shards own all
+    where
+      own : (s : ℕ) (d : Shard) → s < length shards → (get_or shards s d).text ≡ split.files.texts s
+      own s d below =
+          let shard = get_or shards s d in
+          let inside : s < length counts = subst (λ n. s < n) long below in
+          let is_read = read s d below in
+          let lines = split.lines s shard.text shard.table shard.evidence inside is_read.4 in
+          let has = counted s d below in
+          all_lines split.shards.split s shard.text lines.0 lines.1 has.events lines.2 lines.3 has.denoted
+          (has.counted ∙ (is_read.2 ∙ split.counted s inside))
+
   module _ (count : ℕ) (some : 0 < count) (each : length shards ≡ count) (whole : List ℕ)
       (split : FolderHoldsSplit holds count whole) where
     abbrev files : Files
@@ -78,11 +107,7 @@ module _ (holds : FolderContents) (counts : List ℕ) (limit : ℕ) (shards : Li
         split.2 s shard.text shard.table shard.evidence (subst (λ n. s < n) each below) (read s d below).4
 
     pub whole_linearizable : All (λ s. IsLinearizableText s.text) shards → IsLinearizableAtAnyLength whole
-    whole_linearizable all = linearizable_where_judged (shard_among count) name_in_shard whole files.texts split.1.split
-        (λ s. elim (cases_lt s (length shards)) [
-          | inl below ↦ inr (subst IsLinearizableText (own_text s no_shard below) (all s no_shard below))
-          | inr past ↦ inl (empty_past count some s (subst (λ n. n ≤ s) each past) whole files split.1)
-        ])
+    whole_linearizable all = by_texts shards count some each whole files split.1 own_text all
 
     pub whole_refuted : Any (λ s. IsNotLinearizableText s.text) shards → IsLinearizableAtAnyLength whole → ⊥
     whole_refuted (k, s, below, is, not) =
@@ -128,6 +153,17 @@ module _ (holds : FolderContents) (counts : List ℕ) (limit : ℕ) {before afte
         | inl merged ↦ each_counted holds counts limit merged.0 merged.1 merged.2 HasMapsOrIsLarge
             (merged.3.none_miscounted (λ bad. cc))
         | inr memory ↦ absurd (memory_not_no w.0 memory.0 no)
+      ]
+
+  pub shows_whole : 0 < length counts → number ≡ status_number Yes → (whole : List ℕ)
+      → FolderHoldsLines holds counts whole → IsLinearizableAtAnyLength whole
+  shows_whole some e whole split =
+      let w = h.written (yes_not_failed number e) in
+      let yes : w.0 ≡ Yes = yes_by_number w.0 (sym w.3 ∙ e) in
+      elim w.2 [
+        | inl merged ↦ linearizable_by_lines holds counts limit merged.0 merged.1 merged.2 some whole split
+            (merged.3.counted yes) (merged.3.linearizable yes)
+        | inr memory ↦ absurd (memory_not_yes w.0 memory.0 yes)
       ]
 
   module _ (count : ℕ) (some : 0 < count) (long : length counts ≡ count) (whole : List ℕ)

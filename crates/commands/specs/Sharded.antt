@@ -1,5 +1,5 @@
 -- What the commands on a folder of shards print.
-use Rattle.std.specs.Prelude.{◌≡◌, ◌<◌, ◌⊎◌, ℕ, false, List, Option, get_or, length, nat_lt}
+use Rattle.std.specs.Prelude.{◌≡◌, ◌<◌, ◌⊎◌, ◌++◌, ℕ, false, List, Option, get_or, length, nat_lt}
 use Rattle.std.specs.Prelude.{⊤, if◌then◌else◌, slice_index}
 use Rattle.std.specs.List.{list_any}
 use Rattle.history.specs.Faults.{max_maps}
@@ -11,6 +11,7 @@ use Rattle.report.specs.declared.verdict.Fault.TheVariants.{HistoryText, History
 use Rattle.report.specs.declared.verdict.Verdict.TheVariants as verdict
 use Rattle.shards.specs.Dividing.{Files, IsDivided, name_in_shard, shard_among}
 use Rattle.shards.specs.Folders.{WasDivided}
+use Rattle.shards.specs.ShardTexts.{SpelledMap, map_lines, maps_of_shard}
 use Rattle.shards.specs.SplitFaults.{IsSplitFault}
 use Rattle.shards.specs.declared.division.Division.{Division}
 use Rattle.shards.specs.declared.fault.SplitFault.TheVariants as split
@@ -95,6 +96,18 @@ AreMapsCounted holds IsCounted counts = (s : ℕ) → s < length counts
 -- these files are the shards of a full history, as a split of it makes them
 abbrev pub AreShardsOf : ℕ → List ℕ → Files → Type 0
 AreShardsOf count whole files = IsDivided (shard_among count) name_in_shard whole files
+
+-- The files hold the first lines of the texts of the shards of a full history: of each text all
+-- lines, or fewer, or none. The shards were given these numbers of maps, as a split tells them.
+pub record FolderHoldsLines (holds : FolderContents) (counts whole : List ℕ) : Type 0 where
+  pub files : Files
+  pub shards : AreShardsOf (length counts) whole files
+  pub counted : (s : ℕ) → s < length counts → slice_index counts s
+      ≡ length (maps_of_shard (shard_among (length counts)) s shards.split.maps)
+  pub lines : (s : ℕ) (text table evidence : List ℕ) → s < length counts
+      → holds s text table evidence → (kept lost : List SpelledMap)
+      × (maps_of_shard (shard_among (length counts)) s shards.split.maps ≡ kept ++ lost)
+      × (text ≡ map_lines kept)
 
 -- The files hold the texts of the shards of a full history.
 abbrev pub FolderHoldsSplit : FolderContents → ℕ → List ℕ → Type 0

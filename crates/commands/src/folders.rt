@@ -7,7 +7,8 @@ ghost use Rattle.history_commands.specs.Merged.{AreMerged, HasMaps, HasMapsOrIsL
 ghost use Rattle.history_commands.specs.Outputs.{IsExactly, status_number};
 ghost use Rattle.commands.specs.Leaves.{Leaves};
 ghost use Rattle.commands.specs.Sharded as spec;
-ghost use Rattle.commands.specs.Sharded.{AreMapsCounted, AreShardsRead, FolderHoldsSplit};
+ghost use Rattle.commands.specs.Sharded.{AreMapsCounted, AreShardsRead, FolderHoldsLines};
+ghost use Rattle.commands.specs.Sharded.{FolderHoldsSplit};
 ghost use Rattle.commands.specs.Sharded.{IsMergeOf, IsMergeOfFolder};
 ghost use Rattle.commands.specs.Sharded.{IsSplitOutput, IsWhereTooFewShards, split_fault_line};
 ghost use Rattle.history.specs.Faults.{max_maps};
@@ -348,6 +349,10 @@ pub fn merge_shards<F: ShardFiles, S: Sink>(
     ensures refuted { IfOk result (λ number. number ≡ status_number Status.No →
         (whole : List ℕ) → FolderHoldsSplit (F.holds files.now) shards whole →
         ¬ IsLinearizableAtAnyLength whole) }
+    // So a folder whose texts lost their last lines leads to no false yes.
+    ensures whole { IfOk result (λ number. number ≡ status_number Status.Yes →
+        (whole : List ℕ) → FolderHoldsLines (F.holds files.now) counts.now whole →
+        IsLinearizableAtAnyLength whole) }
     ensures counted { IfOk result (λ number. number ≡ status_number Status.Yes →
         AreMapsCounted (F.holds files.now) HasMaps counts.now) }
     ensures none_miscounted { IfOk result (λ number. number ≡ status_number Status.No →

@@ -1,6 +1,7 @@
 use Rattle.commands.specs.Sharded.{IsMergeOf}
 use Rattle.commands.proofs.Leaving.{leaves_as, made_as}
-use Rattle.commands.proofs.Merges.{shows_counted, shows_linearizable, shows_none_miscounted, shows_refuted}
+use Rattle.std.proofs.Common.{◌<◌, subst, sym}
+use Rattle.commands.proofs.Merges.{shows_counted, shows_linearizable, shows_none_miscounted, shows_refuted, shows_whole}
 use Rattle.commands.proofs.folders.merge_shards.Goals as goal
 
 pub returns : goal.returns
@@ -15,6 +16,8 @@ returns g c =
           shows_linearizable holds counts c.args.steps left count c.requires.some c.requires.one_each whole split yes;
       refuted = λ no whole split.
           shows_refuted holds counts c.args.steps left count c.requires.some c.requires.one_each whole split no;
+      whole = shows_whole holds counts c.args.steps left
+          (subst (λ n. 0 < n) (sym c.requires.one_each) c.requires.some);
       counted = shows_counted holds counts c.args.steps left;
       none_miscounted = shows_none_miscounted holds counts c.args.steps left;
       leaves = left;
