@@ -28,7 +28,8 @@ FILES = {
 def shard(folder, history, evidence):
     """The files of a folder with one shard, whose places are those of the whole."""
     places = "".join(f"{number}\n" for number in range(history.count("{")))
-    return {f"{folder}/shards": f"1\n{history.count('{')}\n", f"{folder}/0.edn": history, f"{folder}/0.places": places, f"{folder}/0.evidence": evidence}
+    texts = {"shards": f"1\n{history.count('{')}\n", "0.edn": history, "0.places": places, "0.evidence": evidence}
+    return {f"{folder}/{name}": text for name, text in texts.items()}
 
 
 FILES.update(shard("valid", worked_rows.OVERLAPPING, worked_rows.order(1, 0, 4)))

@@ -54,7 +54,8 @@ module _ {X : Type 0} (IsAt : ℕ → X → Type 0) where
 
 -- if each shard was read with its text, and is linearizable, then so is the full history
 by_texts : (shards : List Shard) (count : ℕ) → 0 < count → length shards ≡ count → (whole : List ℕ) (files : Files)
-    → AreShardsOf count whole files → ((s : ℕ) (d : Shard) → s < length shards → (get_or shards s d).text ≡ files.texts s)
+    → AreShardsOf count whole files
+    → ((s : ℕ) (d : Shard) → s < length shards → (get_or shards s d).text ≡ files.texts s)
     → All (λ s. IsLinearizableText s.text) shards → IsLinearizableAtAnyLength whole
 by_texts shards count some each whole files divided own all =
     linearizable_where_judged (shard_among count) name_in_shard whole files.texts divided.split

@@ -78,8 +78,8 @@ AreShardsRead holds counts limit shards =
 -- the output of a merge of the shards that were given these numbers of maps, and were read
 abbrev pub IsMergeOf : FolderContents → List ℕ → ℕ → Status → List ℕ → Type 0
 IsMergeOf holds counts limit status out =
-    (shards : List Shard) × (length shards ≡ length counts) × AreShardsRead holds counts limit shards
-    × IsMerge shards status out
+    (shards : List Shard) × (length shards ≡ length counts)
+    × AreShardsRead holds counts limit shards × IsMerge shards status out
 
 -- the output of a merge of the shards that were given these numbers of maps, and were read; or one
 -- line says that an allocation failed

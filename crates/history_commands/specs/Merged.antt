@@ -1,6 +1,6 @@
 -- The merge of the findings on the shards of a history: the answer for each, and the output.
-use Rattle.std.specs.Prelude.{◌≡◌, ◌≢◌, ◌⊎◌, ℕ, false, List, [], ◌∷◌, ◌++◌, codes, decimal, map, fold}
-use Rattle.std.specs.Prelude.{nat_lt, if◌then◌else◌, All, Any, length}
+use Rattle.std.specs.Prelude.{◌≡◌, ◌≢◌, ◌⊎◌, ℕ, false, List, [], ◌∷◌, ◌++◌, codes, decimal, map}
+use Rattle.std.specs.Prelude.{fold, nat_lt, if◌then◌else◌, All, Any, length}
 use Rattle.std.specs.List.{AllZip, flat_map, list_all, list_any}
 use Rattle.std.specs.List.Sorted.{IsNonDecreasingBy, IsPermutation}
 use Rattle.edn_reader.specs.declared.fault.FaultKind.TheVariants.{TooLong}

@@ -53,9 +53,10 @@ impl Merging {
     }
 
     /// Takes one more shard: its number, its text, its table, and evidence on it, which may be any
-    /// bytes. A text that has another number of maps than the shard was given is malformed. The evidence has the numbers of events in the full history, and the names of objects
+    /// bytes. The evidence has the numbers of events in the full history, and the names of objects
     /// in the shard; the lines have those of the full history. A search for which a claim names no
     /// number of steps has the limit `steps`. No evidence is the empty text, which claims nothing.
+    /// A text that has another number of maps than the shard was given counts as malformed.
     ///
     /// An error: an allocation failed, and no clause says what is known afterwards.
     pub fn take(

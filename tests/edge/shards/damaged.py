@@ -7,7 +7,7 @@ from .worked_wholes import MERGED, MERGED_YES, ORDERS, reason_on, refuted_on
 from ..running import at_once
 from ..text_writers import invoke, lines
 
-# What is said of a file `shards` without the numbers of maps.
+# What merge says of a file `shards` without the numbers of maps.
 UNCOUNTED = "it does not say how many maps each shard has, since it was changed, or an older split wrote it: split the history again"
 # A linearizable whole and one that is not, how many shards each has, the evidence for its objects, and the status of merge. Each object is in a
 # shard of its own. Shards 1 and 2 of the first whole have as many maps as each other, and no others.
@@ -171,7 +171,7 @@ def files_of_another_split(program, report):
 
 
 def synced_splits(program, report):
-    """split that is killed at any sync leaves no file `shards` until all shards are on the disk. If a sync fails it ends with 4 and leaves no files."""
+    """split that is killed at a sync leaves no file `shards` until all shards are on the disk. If a sync fails it ends with 4 and leaves no files."""
     program.write("whole.edn", MERGED)
     syncs = program.syncs("split", "whole.edn", "counted", "--shards", "4")
     # Both files of each shard that has maps, the names, the file shards, and its name.
