@@ -264,9 +264,12 @@ pub fn split_history<F: Source, D: Folder, S: Sink>(
         (S.sent sink.old) e.status (S.sent sink.new) (S.broken sink.new)) }
     ensures nothing_written { OnErr result (sink.new ≡ sink.old) }
 {
-    let SplitOutput { output, counts } = split_output(alloc, history, folder, shards)?;
-    let status = write_output(Ok(output), sink);
-    Ok(SplitEnd { status, counts })
+    let done = split_output(alloc, history, folder, shards)?;
+    let status = write_output(Ok(done.output), sink);
+    Ok(SplitEnd {
+        status,
+        counts: done.counts,
+    })
 }
 
 /// Reads and verifies all shards, or returns the one that cannot be read. Returns `None` if an

@@ -26,7 +26,7 @@ loop-shard-preserved g c =
     let s : Shard = record {
       number = c.loop-shard.shard;
       count = c.args.shards;
-      maps = slice_index c.args.counts.now c.loop-shard.shard;
+      maps = slice_index c.args.counts.now c.from.result;
       text = maps.result.now;
       table = places.result.now;
       evidence = evidence.result.now;
@@ -37,7 +37,7 @@ loop-shard-preserved g c =
       i.0 ++ s ∷ [],
       length-append i.0 (s ∷ []) ∙ ap (λ n. n + 1) i.1,
       read_more (IsReadAs holds c.args.counts.now c.args.steps) i.0 s i.2
-          (sym i.1, sym c.requires.one_each, ap (slice_index c.args.counts.now) (sym i.1), refl, held),
+          (sym i.1, sym c.requires.one_each, ap (slice_index c.args.counts.now) (c.from.ensures ∙ sym i.1), refl, held),
       c.in-Ok-take.ensures i.0 i.3,
     )
 

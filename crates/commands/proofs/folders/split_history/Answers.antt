@@ -8,6 +8,6 @@ returns g c =
     let left = leaves_as c.write_output-status.ensures.leaves
     (made_is (IsSplitOutput c.args.shards (g.F.Source.remaining c.args.history.now)
     (g.F.Source.remaining c.split_output.new.history) (g.D.Folder.files c.args.folder.now)
-    (g.D.Folder.files c.split_output.new.folder) c.in_ok-split_output.counts.items) c.in_ok-split_output.output
-    c.in_ok-split_output.ensures.made) in
+    (g.D.Folder.files c.split_output.new.folder) c.in_ok-done.done.counts.items)
+    c.in_ok-done.done.output c.in_ok-done.ensures.made) in
     record { divided = shows_divided _ _ _ _ _ _ left; few_shards = tt; leaves = left; nothing_written = tt }
