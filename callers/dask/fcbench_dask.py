@@ -79,10 +79,10 @@ class Shards:
     def __init__(self, folder):
         self.folder = os.path.abspath(folder)
         with open(f"{self.folder}/shards", encoding="ascii") as file:
-            number = file.read()
-        if not number.endswith("\n"):
+            counts = file.read()
+        if not counts.endswith("\n"):
             raise OSError(f"{self.folder}/shards is cut")
-        self.count = int(number)
+        self.count = int(counts.splitlines()[0])
 
     def stem(self, shard):
         return f"{self.folder}/{shard}"

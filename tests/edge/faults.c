@@ -3,13 +3,16 @@
    REFUSE_AT=N            the Nth allocation is refused, counted from 1
    FAIL_READ_AT=N         the Nth read fails, also one at a place of the file
    FAIL_FILE_WRITE_AT=N   the Nth write to a file fails, of those to other files than standard output and standard error
+   FAIL_SYNC_AT=N         the Nth fsync fails
+   KILL_AT_SYNC=N         the program is killed at the Nth fsync
    READ_AT_MOST=N         a read takes at most N bytes
    WRITE_AT_MOST=N        a write takes at most N bytes
    WRITE_IN_ALL=N         standard output takes N bytes in all, and then each write fails
-   COUNT_TO=FILE          the number of allocations, of reads and of writes to such files is written to FILE at the end */
+   COUNT_TO=FILE          the number of allocations, of reads, of writes to such files and of calls of fsync is written to FILE at the end */
 #define _GNU_SOURCE
 #include <errno.h>
 #include <fcntl.h>
+#include <signal.h>
 #include <stdatomic.h>
 #include <stdio.h>
 #include <stdlib.h>
@@ -21,8 +24,8 @@ extern void *__libc_calloc(size_t, size_t);
 extern void *__libc_realloc(void *, size_t);
 extern void *__libc_memalign(size_t, size_t);
 
-static atomic_long allocations, reads, file_writes, written;
-static long refuse_at, fail_read_at, fail_file_write_at, read_at_most, write_at_most, write_in_all;
+static atomic_long allocations, reads, file_writes, syncs, written;
+static long refuse_at, fail_read_at, fail_file_write_at, fail_sync_at, kill_at_sync, read_at_most, write_at_most, write_in_all;
 static int is_ready;
 
 static long number(const char *name) {
@@ -34,6 +37,8 @@ __attribute__((constructor)) static void begin(void) {
     refuse_at = number("REFUSE_AT");
     fail_read_at = number("FAIL_READ_AT");
     fail_file_write_at = number("FAIL_FILE_WRITE_AT");
+    fail_sync_at = number("FAIL_SYNC_AT");
+    kill_at_sync = number("KILL_AT_SYNC");
     read_at_most = number("READ_AT_MOST");
     write_at_most = number("WRITE_AT_MOST");
     write_in_all = getenv("WRITE_IN_ALL") ? number("WRITE_IN_ALL") : -1;
@@ -44,7 +49,7 @@ static void say_counts(void) {
     const char *name = getenv("COUNT_TO");
     if (!name) return;
     char text[96];
-    int n = snprintf(text, sizeof text, "%ld %ld %ld\n", atomic_load(&allocations), atomic_load(&reads), atomic_load(&file_writes));
+    int n = snprintf(text, sizeof text, "%ld %ld %ld %ld\n", atomic_load(&allocations), atomic_load(&reads), atomic_load(&file_writes), atomic_load(&syncs));
     int fd = open(name, O_WRONLY | O_CREAT | O_TRUNC, 0600);
     if (fd >= 0) {
         if (syscall(SYS_write, fd, text, n) != n) abort();
@@ -120,4 +125,14 @@ ssize_t write(int fd, const void *from, size_t n) {
     ssize_t took = syscall(SYS_write, fd, from, n > (size_t)room ? (size_t)room : n);
     if (took > 0) atomic_fetch_add(&written, took);
     return took;
+}
+
+int fsync(int fd) {
+    long at = atomic_fetch_add(&syncs, 1) + 1;
+    if (at == kill_at_sync) raise(SIGKILL);
+    if (at == fail_sync_at) {
+        errno = EIO;
+        return -1;
+    }
+    return syscall(SYS_fsync, fd);
 }

@@ -97,12 +97,16 @@ class Program:
 
     def counts(self, *words):
         """Runs the program of these words, and returns also how many allocations and reads it made."""
-        ran, (allocations, reads, _) = self.counted(*words)
+        ran, (allocations, reads, *_) = self.counted(*words)
         return ran, allocations, reads
 
     def file_writes(self, *words):
         """How many writes to files a run of these words makes."""
         return self.counted(*words)[1][2]
+
+    def syncs(self, *words):
+        """How often a run of these words waits until a file is on the disk."""
+        return self.counted(*words)[1][3]
 
     def instructions(self, *words):
         """How many instructions a run takes, as valgrind counts them in each of its processes. Of its tools that count them this one takes the least

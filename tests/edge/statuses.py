@@ -28,7 +28,8 @@ FILES = {
 def shard(folder, history, evidence):
     """The files of a folder with one shard, whose places are those of the whole."""
     places = "".join(f"{number}\n" for number in range(history.count("{")))
-    return {f"{folder}/shards": "1\n", f"{folder}/0.edn": history, f"{folder}/0.places": places, f"{folder}/0.evidence": evidence}
+    texts = {"shards": f"1\n{history.count('{')}\n", "0.edn": history, "0.places": places, "0.evidence": evidence}
+    return {f"{folder}/{name}": text for name, text in texts.items()}
 
 
 FILES.update(shard("valid", worked_rows.OVERLAPPING, worked_rows.order(1, 0, 4)))
@@ -36,7 +37,7 @@ FILES.update(shard("refuted", worked_rows.THREE_VALUES, worked_rows.TWO_OF_THREE
 FILES.update(shard("faulty", worked_rows.AFTER_INFO, ""))
 FILES.update(shard("open", worked_rows.OVERLAPPING, ""))
 # A folder for each status that a worker may have: the fast form of a merge believes it.
-FILES.update({f"believed.{number}/{name}": text for number in range(4) for name, text in (("shards", "1\n"), ("0.status", f"{number}\n"))})
+FILES.update({f"believed.{number}/{name}": text for number in range(4) for name, text in (("shards", "1\n2\n"), ("0.status", f"{number}\n"))})
 FULL = "/dev/full"
 NO_VERIFIER = {"env": {"FCBENCH": "/not/there"}}
 NO_MEMORY = {"faults": {"REFUSE_AT": 1}}

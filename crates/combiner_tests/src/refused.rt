@@ -2,10 +2,10 @@
 
 use crate::bench::{Bench, Setup};
 use crate::steps::Step::{
-    Combines, Enlists, Gets, LacksMemory, MayGet, Polls, Posts, ReservesTooMuch,
+    Combines, Enlists, Gets, IsRefused, LacksMemory, MayGet, Polls, Posts, ReservesTooMuch,
 };
 use crate::steps::{NIL, NOTHING, Play, REFUSED, Step, take_turns};
-use publication::Enlist;
+use publication::{Enlist, Post};
 use seq_objects::{AnyOp, Kind};
 use std::test::Fail;
 
@@ -59,6 +59,40 @@ fn a_pass_whose_log_cannot_grow_serves_nothing(rt: HostRuntime) -> Result<(), Fa
         println!(rt; "the first pass served nothing")?;
         after = [(0, Polls(NOTHING)), (0, Combines(2, 1)), (0, Gets(1))];
     }
+    let _ = take_turns(&rt, bench, &after, "after");
+    Ok(())
+}
+
+/// The desk of a lone call. If the log gets no memory in the first pass, the test prints that
+/// nothing was served, and the second pass answers the call. Then no call is left, as in the play
+/// of a lone call.
+#[test]
+fn a_lone_call_whose_pass_gets_no_memory_is_answered_later(rt: HostRuntime) -> Result<(), Fail> {
+    let setup = Setup {
+        kinds: &[Kind::Queue],
+        left: None,
+        clients: 1,
+        quota: 1,
+    };
+    let call = AnyOp::Enqueue(4);
+    let posts = [
+        (0, Posts(0, call)),
+        (0, IsRefused(0, call, Post::Outstanding)),
+    ];
+    let mut bench = take_turns(&rt, Bench::new(rt.alloc(), &setup)?, &posts, "posts");
+    let (mut answer, mut last) = (MayGet(4), 2);
+    if bench.step(&rt, &(0, LacksMemory)) {
+        println!(rt; "the first pass served nothing")?;
+        let later = [(0, Polls(NOTHING)), (0, Combines(2, 1))];
+        bench = take_turns(&rt, bench, &later, "later");
+        (answer, last) = (Gets(4), 3);
+    }
+    let after = [
+        (0, answer),
+        (0, Polls(NOTHING)),
+        (0, IsRefused(0, AnyOp::Dequeue, Post::Spent)),
+        (0, Combines(last, 0)),
+    ];
     let _ = take_turns(&rt, bench, &after, "after");
     Ok(())
 }

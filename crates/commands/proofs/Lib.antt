@@ -5,5 +5,6 @@ pub mod Meanings
 pub mod Leaving
 pub mod InMemory
 pub mod StatusMeanings
+pub mod LostLines
 pub mod Merges
 pub mod TrustedShards

@@ -1,14 +1,15 @@
 //! The commands on a folder of shards: a history of any length is divided, and its shards are
 //! judged.
 
-ghost use Rattle.std.specs.Prelude.{◌≡◌, ◌<◌, ◌⊎◌, ℕ, List, false, length, nat_lt};
+ghost use Rattle.std.specs.Prelude.{◌≡◌, ◌<◌, ◌⊎◌, ℕ, List, [], false, length, nat_lt};
 ghost use Rattle.std.specs.Prelude.{IfErr, IfOk, IfSome, OnErr};
-ghost use Rattle.history_commands.specs.Merged.{AreMerged, Shard};
+ghost use Rattle.history_commands.specs.Merged.{AreMerged, HasMaps, HasMapsOrIsLarge, Shard};
 ghost use Rattle.history_commands.specs.Outputs.{IsExactly, status_number};
 ghost use Rattle.commands.specs.Leaves.{Leaves};
 ghost use Rattle.commands.specs.Sharded as spec;
-ghost use Rattle.commands.specs.Sharded.{AreShardsRead, FolderHoldsSplit, IsMergeOf};
-ghost use Rattle.commands.specs.Sharded.{IsMergeOfFolder};
+ghost use Rattle.commands.specs.Sharded.{AreMapsCounted, AreShardsRead, FolderHoldsLines};
+ghost use Rattle.commands.specs.Sharded.{FolderHoldsSplit};
+ghost use Rattle.commands.specs.Sharded.{IsMergeOf, IsMergeOfFolder};
 ghost use Rattle.commands.specs.Sharded.{IsSplitOutput, IsWhereTooFewShards, split_fault_line};
 ghost use Rattle.history.specs.Faults.{max_maps};
 ghost use Rattle.std.specs.List.{list_any};
@@ -186,25 +187,48 @@ fn division_output(alloc: Global, division: &Division) -> Result<Output, AllocEr
     Ok(Output { status, text })
 }
 
+/// What was written of a split, and how many maps each shard has: no numbers, if the history is
+/// malformed.
+#[derive(Drop)]
+struct SplitOutput {
+    output: Output,
+    counts: Vec<u32>,
+}
+
+/// How a split ended: its exit status, and how many maps each shard has. If the history is
+/// malformed there are no numbers.
+#[derive(Drop)]
+pub struct SplitEnd {
+    pub status: u8,
+    pub counts: Vec<u32>,
+}
+
 /// Divides a history, and returns the output.
 fn split_output<F: Source, D: Folder>(
     alloc: Global,
     history: &mut F,
     folder: &mut D,
     shards: u16,
-) -> Result<Output, SplitFailure>
+) -> Result<SplitOutput, SplitFailure>
     requires history { F.broken history.old ≡ false }
     requires folder { D.broken folder.old ≡ false }
     requires some { 0 < shards }
     ensures made { IfOk result (λ o. IsSplitOutput shards
         (F.remaining history.old) (F.remaining history.new)
-        (D.files folder.old) (D.files folder.new) o.status o.text.items) }
+        (D.files folder.old) (D.files folder.new) o.counts.items
+        o.output.status o.output.text.items) }
     ensures few_shards { IfErr result (λ e. IsWhereTooFewShards shards e
         (F.remaining history.old) (F.remaining history.new)) }
 {
     match split_over(alloc, history, folder, shards) {
-        Ok(division) => Ok(division_output(alloc, &division)?),
-        Err(SplitFault::Malformed(fault)) => Ok(malformed_output(alloc, fault)?),
+        Ok(division) => Ok(SplitOutput {
+            output: division_output(alloc, &division)?,
+            counts: division.counts,
+        }),
+        Err(SplitFault::Malformed(fault)) => Ok(SplitOutput {
+            output: malformed_output(alloc, fault)?,
+            counts: Vec::new(alloc),
+        }),
         Err(SplitFault::TooFewShards(object)) => Err(SplitFailure::TooFewShards(object)),
         Err(SplitFault::NoMemory) => Err(SplitFailure::NoMemory),
         Err(SplitFault::Read) => Err(SplitFailure::Unread),
@@ -215,33 +239,37 @@ fn split_output<F: Source, D: Folder>(
 /// Divides the history that a source gives among this many shards, writes how many maps they have,
 /// and returns the exit status: 0; 2 if the history is malformed; 3 if a shard has more maps
 /// than one text may have; 4 if the output failed. Only after 0 and 3 is it known that the
-/// folder has all maps.
+/// folder has all maps, and that each shard has the number of maps that is returned.
 pub fn split_history<F: Source, D: Folder, S: Sink>(
     alloc: Global,
     history: &mut F,
     folder: &mut D,
     shards: u16,
     sink: &mut S,
-) -> Result<u8, SplitFailure>
+) -> Result<SplitEnd, SplitFailure>
     requires history { F.broken history.old ≡ false }
     requires folder { D.broken folder.old ≡ false }
     requires working { S.broken sink.old ≡ false }
     requires some { 0 < shards }
-    ensures divided { IfOk result (λ number.
-        (number ≡ status_number Status.Yes) ⊎ (number ≡ status_number Status.Undecided) →
+    ensures divided { IfOk result (λ e.
+        (e.status ≡ status_number Status.Yes) ⊎ (e.status ≡ status_number Status.Undecided) →
         (told : Division) × WasDivided shards told
         (F.remaining history.old) (F.remaining history.new)
-        (D.files folder.old) (D.files folder.new)) }
+        (D.files folder.old) (D.files folder.new) × (e.counts.items ≡ told.counts.items)) }
     ensures few_shards { IfErr result (λ e. IsWhereTooFewShards shards e
         (F.remaining history.old) (F.remaining history.new)) }
-    ensures leaves { IfOk result (λ number. Leaves (IsSplitOutput shards
+    ensures leaves { IfOk result (λ e. Leaves (IsSplitOutput shards
         (F.remaining history.old) (F.remaining history.new)
-        (D.files folder.old) (D.files folder.new))
-        (S.sent sink.old) number (S.sent sink.new) (S.broken sink.new)) }
+        (D.files folder.old) (D.files folder.new) e.counts.items)
+        (S.sent sink.old) e.status (S.sent sink.new) (S.broken sink.new)) }
     ensures nothing_written { OnErr result (sink.new ≡ sink.old) }
 {
-    let output = split_output(alloc, history, folder, shards)?;
-    Ok(write_output(Ok(output), sink))
+    let done = split_output(alloc, history, folder, shards)?;
+    let status = write_output(Ok(done.output), sink);
+    Ok(SplitEnd {
+        status,
+        counts: done.counts,
+    })
 }
 
 /// Reads and verifies all shards, or returns the one that cannot be read. Returns `None` if an
@@ -250,10 +278,12 @@ fn merge_all<F: ShardFiles>(
     alloc: Global,
     files: &F,
     shards: u16,
+    counts: &[u32],
     steps: u32,
 ) -> Result<Option<Merging>, UnreadShard>
+    requires one_each { length counts.now ≡ shards }
     ensures { IfOk result (λ made. IfSome made (λ m. (all : List Shard)
-        × (length all ≡ shards) × AreShardsRead (F.holds files.now) shards steps all
+        × (length all ≡ shards) × AreShardsRead (F.holds files.now) counts.now steps all
         × AreMerged m all)) }
 {
     let mut merging = Merging::new(alloc);
@@ -271,6 +301,7 @@ fn merge_all<F: ShardFiles>(
         let number = ShardNumber {
             number: shard,
             count: shards,
+            maps: counts[usize::from(shard)],
         };
         let Ok(()) = merging.take(alloc, number, &text, &table, &evidence, steps) else {
             return Ok(None);
@@ -284,12 +315,14 @@ fn merge_output<F: ShardFiles>(
     alloc: Global,
     files: &F,
     shards: u16,
+    counts: &[u32],
     steps: u32,
 ) -> Result<Result<Output, AllocError>, UnreadShard>
+    requires one_each { length counts.now ≡ shards }
     ensures { IfOk result (λ made. IfOk made (λ o.
-        IsMergeOf (F.holds files.now) shards steps o.status o.text.items)) }
+        IsMergeOf (F.holds files.now) counts.now steps o.status o.text.items)) }
 {
-    match merge_all(alloc, files, shards, steps)? {
+    match merge_all(alloc, files, shards, counts, steps)? {
         Some(merging) => Ok(merging.output(alloc)),
         None => Ok(Err(AllocError)),
     }
@@ -297,29 +330,41 @@ fn merge_output<F: ShardFiles>(
 
 /// Verifies each of this many shards by its evidence, judges by them the full history, of which
 /// they are a split, writes the lines, and returns the status of the worst finding on a shard, or 3
-/// if an allocation failed, or 4 if the output failed.
+/// if an allocation failed, or 4 if the output failed. `counts` says how many maps each shard was
+/// given by the split: a shard with another number of maps, as one whose files lost their last
+/// lines, is malformed.
 /// That `verify` of the full history ends with the same status is only tested. `steps` is the step
 /// limit of searches for which the evidence names none.
 pub fn merge_shards<F: ShardFiles, S: Sink>(
     alloc: Global,
     files: &F,
     shards: u16,
+    counts: &[u32],
     steps: u32,
     sink: &mut S,
 ) -> Result<u8, UnreadShard>
     requires working { S.broken sink.old ≡ false }
     requires some { 0 < shards }
+    requires one_each { length counts.now ≡ shards }
     ensures linearizable { IfOk result (λ number. number ≡ status_number Status.Yes →
         (whole : List ℕ) → FolderHoldsSplit (F.holds files.now) shards whole →
         IsLinearizableAtAnyLength whole) }
     ensures refuted { IfOk result (λ number. number ≡ status_number Status.No →
         (whole : List ℕ) → FolderHoldsSplit (F.holds files.now) shards whole →
         ¬ IsLinearizableAtAnyLength whole) }
+    // So a folder whose texts lost their last lines leads to no false yes.
+    ensures whole { IfOk result (λ number. number ≡ status_number Status.Yes →
+        (whole : List ℕ) → FolderHoldsLines (F.holds files.now) counts.now whole →
+        IsLinearizableAtAnyLength whole) }
+    ensures counted { IfOk result (λ number. number ≡ status_number Status.Yes →
+        AreMapsCounted (F.holds files.now) HasMaps counts.now) }
+    ensures none_miscounted { IfOk result (λ number. number ≡ status_number Status.No →
+        AreMapsCounted (F.holds files.now) HasMapsOrIsLarge counts.now) }
     ensures leaves { IfOk result (λ number. Leaves
-        (IsMergeOfFolder (F.holds files.now) shards steps)
+        (IsMergeOfFolder (F.holds files.now) counts.now steps)
         (S.sent sink.old) number (S.sent sink.new) (S.broken sink.new)) }
     ensures nothing_written { OnErr result (sink.new ≡ sink.old) }
 {
-    let made = merge_output(alloc, files, shards, steps)?;
+    let made = merge_output(alloc, files, shards, counts, steps)?;
     Ok(write_output(made, sink))
 }

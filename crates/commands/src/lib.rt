@@ -16,13 +16,13 @@ mod write_output;
 
 pub use command_line::{FolderLine, Line, LineFault, RunOptions, SplitLine, line};
 pub use folders::{
-    ShardFault, ShardFile, ShardFileTexts, ShardFiles, SplitFailure, UnreadShard, merge_shards,
-    split_history,
+    ShardFault, ShardFile, ShardFileTexts, ShardFiles, SplitEnd, SplitFailure, UnreadShard,
+    merge_shards, split_history,
 };
 pub use history_commands::Status;
 pub use judging::{In, NamedFile, ReadFault, read_text};
 pub use line_fault::status_of_fault;
 pub use program::{perform, perform_over};
-pub use shards::{Folder, shards_needed};
+pub use shards::{Folder, TableFault, counts_in, counts_text, shards_needed};
 pub use sources::Unread;
 pub use trusting::{StatusFiles, merge_statuses};

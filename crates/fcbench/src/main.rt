@@ -3,9 +3,9 @@
 
 mod shard_folder;
 
-use crate::shard_folder::{ShardFolder, ending_of};
+use crate::shard_folder::{CountsFault, MakeFault, ShardFolder, ending_of};
 use commands::{
-    FolderLine, In, Line, LineFault, NamedFile, ReadFault, SplitFailure, SplitLine, Status, Unread,
+    FolderLine, In, Line, LineFault, NamedFile, SplitEnd, SplitFailure, SplitLine, Status, Unread,
     UnreadShard, line, merge_shards, merge_statuses, perform_over, shards_needed, split_history,
     status_of_fault,
 };
@@ -110,6 +110,21 @@ fn report_few_shards<R: Print>(rt: &R, object: u32) -> io::Result<u8> {
     Ok(Status::Undecided.number())
 }
 
+/// Says why the folder of a split is refused.
+fn report_unmade<R: Print + Eprint>(rt: &R, name: &str, fault: &MakeFault) -> io::Result<u8> {
+    match fault {
+        MakeFault::Taken(path) => {
+            rt.eprintln(format_args!(
+                "fcbench: cannot write {name}: {path} is there already, maybe of another split"
+            ))?;
+            Ok(Status::Failed.number())
+        }
+        MakeFault::Failed(error) => {
+            report_unwritten(rt, name, error.kind() == io::ErrorKind::OutOfMemory)
+        }
+    }
+}
+
 /// Whether a split that ended with this status divided the history. With 3 it did, but a shard is
 /// too large for one text: an allocation failure is `SplitFailure::NoMemory`.
 fn is_divided(status: u8) -> bool {
@@ -122,14 +137,16 @@ fn split<R: Host>(rt: &R, line: &SplitLine) -> io::Result<u8> {
     let (history, name) = (line.history.as_str(), line.folder.as_str());
     let shards = line.shards;
     let mut folder = ShardFolder::new(rt, rt.alloc(), name);
-    if let Err(error) = folder.make(shards) {
-        return report_unwritten(rt, name, error.kind() == io::ErrorKind::OutOfMemory);
+    if let Err(fault) = folder.make(shards) {
+        return report_unmade(rt, name, &fault);
     }
     let mut source = In::new(NamedFile::new(rt, history));
     let mut output = Out::new(io::writer(rt));
     let done = split_history(rt.alloc(), &mut source, &mut folder, shards, &mut output);
-    let is_whole = match done {
-        Ok(status) => is_divided(status) && folder.complete(shards).is_ok(),
+    let is_whole = match &done {
+        Ok(SplitEnd { status, counts }) => {
+            is_divided(*status) && folder.complete(shards, counts).is_ok()
+        }
         Err(_) => false,
     };
     if !is_whole {
@@ -137,8 +154,8 @@ fn split<R: Host>(rt: &R, line: &SplitLine) -> io::Result<u8> {
     }
     match done {
         // Its lines are printed already, so no line about memory is printed.
-        Ok(status) if is_divided(status) && !is_whole => report_unwritten(rt, name, false),
-        Ok(status) => Ok(status),
+        Ok(end) if is_divided(end.status) && !is_whole => report_unwritten(rt, name, false),
+        Ok(end) => Ok(end.status),
         Err(SplitFailure::Unread) => report_unreadable(rt, history, source.is_allocation_failure()),
         Err(SplitFailure::Unwritten) => report_unwritten(rt, name, folder.is_allocation_failure()),
         Err(SplitFailure::TooFewShards(object)) => report_few_shards(rt, object),
@@ -146,22 +163,32 @@ fn split<R: Host>(rt: &R, line: &SplitLine) -> io::Result<u8> {
     }
 }
 
+/// Says why it is not known how many maps the shards in a folder were given.
+fn report_uncounted<R: Print + Eprint>(rt: &R, name: &str, fault: CountsFault) -> io::Result<u8> {
+    match fault {
+        CountsFault::NoMemory => return report_no_memory(rt),
+        CountsFault::Unread => rt.eprintln(format_args!("fcbench: cannot read {name}/shards"))?,
+        CountsFault::Misfit => rt.eprintln(format_args!(
+            "fcbench: cannot read {name}/shards: it does not say how many maps each shard has, \
+             since it was changed, or an older split wrote it: split the history again"
+        ))?,
+    }
+    Ok(Status::Failed.number())
+}
+
 /// Verifies the shards in a folder, or trusts the exit status of each.
 fn merge<R: Host>(rt: &R, name: &str, steps: u32, trust_statuses: bool) -> io::Result<u8> {
     let folder = ShardFolder::new(rt, rt.alloc(), name);
-    let shards = match folder.count() {
-        Ok(shards) => shards,
-        Err(ReadFault::NoMemory) => return report_no_memory(rt),
-        Err(ReadFault::Failed) => {
-            rt.eprintln(format_args!("fcbench: cannot read {name}/shards"))?;
-            return Ok(Status::Failed.number());
-        }
+    let counts = match folder.counts() {
+        Ok(counts) => counts,
+        Err(fault) => return report_uncounted(rt, name, fault),
     };
+    let shards = counts.len() as u16;
     let mut output = Out::new(io::writer(rt));
     let merged = if trust_statuses {
         merge_statuses(rt.alloc(), &folder, shards, &mut output)
     } else {
-        merge_shards(rt.alloc(), &folder, shards, steps, &mut output)
+        merge_shards(rt.alloc(), &folder, shards, &counts, steps, &mut output)
     };
     match merged {
         Ok(status) => Ok(status),

@@ -1,17 +1,17 @@
 //! The files of shards in a folder. Of shard 3, `3.edn` has the maps, `3.places` their numbers in
 //! the full history, and `3.evidence` and `3.status`, which others write, what was found of it. The
-//! file `shards` has the number of the shards. It is made last, so a folder without it has no full
-//! history.
+//! file `shards` has the number of the shards, and then the number of the maps of each. It is made
+//! last, so a folder without it has no full history.
 
-ghost use Rattle.std.specs.Prelude.{⊤, ◌≡◌, ◌<◌, IfOk, None, false, is_some};
+ghost use Rattle.std.specs.Prelude.{⊤, ◌≡◌, ◌<◌, ◌^◌, IfOk, None, false, is_some, length};
 
 use commands::{
     Folder, In, NamedFile, ReadFault, ShardFault, ShardFile, ShardFileTexts, ShardFiles,
-    StatusFiles, read_text,
+    StatusFiles, TableFault, counts_in, counts_text, read_text,
 };
 use edn::Failed;
 use std::alloc::{AllocError, Global};
-use std::fs::{self, File, OpenOptions};
+use std::fs::{self, File, OpenFile, OpenOptions};
 use std::io::{self, ErrorKind, Read, Write};
 use std::rt::Files;
 
@@ -24,6 +24,69 @@ pub fn ending_of(file: ShardFile) -> &'static str {
         ShardFile::Status => "status",
     }
 }
+
+/// Why the files of shards were not made.
+#[derive(Drop)]
+pub enum MakeFault {
+    /// The folder has this file, which may be one of another split.
+    Taken(String),
+    /// The folder or a file failed, or an allocation.
+    Failed(io::Error),
+}
+
+impl From<io::Error> for MakeFault {
+    fn from(error: io::Error) -> MakeFault {
+        MakeFault::Failed(error)
+    }
+}
+
+impl From<AllocError> for MakeFault {
+    fn from(error: AllocError) -> MakeFault {
+        MakeFault::Failed(io::Error::from(error))
+    }
+}
+
+/// Why the numbers of the maps of the shards were not read.
+#[derive(Clone, Copy)]
+pub enum CountsFault {
+    /// The file could not be read.
+    Unread,
+    /// It does not say how many maps each shard has.
+    Misfit,
+    NoMemory,
+}
+
+impl From<AllocError> for CountsFault {
+    fn from(_error: AllocError) -> CountsFault {
+        CountsFault::NoMemory
+    }
+}
+
+impl From<ReadFault> for CountsFault {
+    fn from(fault: ReadFault) -> CountsFault {
+        match fault {
+            ReadFault::NoMemory => CountsFault::NoMemory,
+            ReadFault::Failed => CountsFault::Unread,
+        }
+    }
+}
+
+impl From<TableFault> for CountsFault {
+    fn from(fault: TableFault) -> CountsFault {
+        match fault {
+            TableFault::NoMemory => CountsFault::NoMemory,
+            TableFault::Misfit => CountsFault::Misfit,
+        }
+    }
+}
+
+/// The files of a shard that may be there, whoever writes them.
+const SHARD_FILES: [ShardFile; 4] = [
+    ShardFile::Text,
+    ShardFile::Table,
+    ShardFile::Evidence,
+    ShardFile::Status,
+];
 
 /// A folder, by its name.
 #[derive(Drop)]
@@ -54,7 +117,7 @@ impl<'a, R: Files> ShardFolder<'a, R> {
         }
     }
 
-    /// The name of the file with the number of the shards.
+    /// The name of the file with the numbers of the maps of the shards.
     fn count_path(&self) -> Result<String, AllocError> {
         format!(in self.alloc; "{}/shards", self.name)
     }
@@ -80,28 +143,85 @@ impl<'a, R: Files> ShardFolder<'a, R> {
         }
     }
 
-    /// Makes the files of this many shards, in a folder that has no full history. If some file
-    /// cannot be made, the files that were made are removed.
-    pub fn make(&self, shards: u16) -> io::Result<()> {
+    /// Refuses a file that is there.
+    fn refuse(&self, path: String) -> Result<(), MakeFault> {
+        if fs::exists(self.files, &path)? {
+            return Err(MakeFault::Taken(path));
+        }
+        Ok(())
+    }
+
+    /// Refuses a folder that has a file of this shard, also one that is written later: it would be
+    /// taken for one of the new shard.
+    fn refuse_shard(&self, shard: u16) -> Result<(), MakeFault> {
+        for file in SHARD_FILES {
+            self.refuse(self.path(shard, file)?)?;
+        }
+        Ok(())
+    }
+
+    /// Makes the files of this many shards, in a folder that has none. If some file cannot be made,
+    /// the files that were made are removed.
+    pub fn make(&self, shards: u16) -> Result<(), MakeFault> {
         make_folder(self.files, self.name)?;
-        if fs::exists(self.files, self.count_path()?)? {
-            return Err(io::Error::from(ErrorKind::AlreadyExists));
+        self.refuse(self.count_path()?)?;
+        for shard in 0..shards {
+            self.refuse_shard(shard)?;
         }
         for shard in 0..shards {
             if let Err(error) = self.make_shard(shard) {
                 self.remove(shard);
-                return Err(error);
+                return Err(MakeFault::Failed(error));
             }
         }
         Ok(())
     }
 
-    /// Says that the files that were made have a full history.
-    pub fn complete(&self, shards: u16) -> io::Result<()> {
-        let text = format!(in self.alloc; "{shards}\n")?;
+    /// Waits until a file is on the disk.
+    fn sync(&self, path: &str) -> io::Result<()> {
+        fs::open(self.files, path)?.sync_all()
+    }
+
+    /// Waits until the names of the files are on the disk, if the file system can say so.
+    fn sync_names(&self) -> io::Result<()> {
+        match self.sync(self.name) {
+            Err(error) if error.kind() == ErrorKind::InvalidInput => Ok(()),
+            done => done,
+        }
+    }
+
+    /// Waits until the files of this shard are on the disk.
+    fn sync_shard(&self, shard: u16) -> io::Result<()> {
+        self.sync(&self.path(shard, ShardFile::Text)?)?;
+        self.sync(&self.path(shard, ShardFile::Table)?)
+    }
+
+    /// Waits until the files of this many shards, with these numbers of maps, are on the disk. Of
+    /// an empty file that is its name.
+    fn sync_shards(&self, shards: u16, counts: &[u32]) -> io::Result<()> {
+        for shard in 0..shards {
+            if counts.get(usize::from(shard)) != Some(&0) {
+                self.sync_shard(shard)?;
+            }
+        }
+        self.sync_names()
+    }
+
+    /// Makes the file with the numbers of the maps of the shards.
+    fn write_counts(&self, path: &str, text: &[u8]) -> io::Result<()> {
+        let mut file = File::create_new(self.files, path)?;
+        file.write_all(text)?;
+        file.sync_all()?;
+        self.sync_names()
+    }
+
+    /// Says that the files of this many shards have a full history, with these numbers of maps. So
+    /// that it is so after a crash too, the files are on the disk before it is said.
+    pub fn complete(&self, shards: u16, counts: &[u32]) -> io::Result<()> {
+        let text = counts_text(self.alloc, counts)?;
         let path = self.count_path()?;
-        let mut file = File::create_new(self.files, &path)?;
-        match file.write_all(text.as_bytes()) {
+        self.sync_shards(shards, counts)?;
+        match self.write_counts(&path, &text) {
             Ok(()) => Ok(()),
             Err(error) => {
                 let _ = fs::remove_file(self.files, &path);
@@ -193,16 +313,18 @@ impl<'a, R: Files> ShardFolder<'a, R> {
         }
     }
 
-    /// The number of shards that the folder has.
-    pub fn count(&self) -> Result<u16, ReadFault>
-        ensures { IfOk result (λ count. 0 < count) }
+    /// The number of maps that each shard of the folder was given.
+    pub fn counts(&self) -> Result<Vec<u32>, CountsFault>
+        ensures some { IfOk result (λ counts. 0 < length counts.items) }
+        ensures few { IfOk result (λ counts. length counts.items < 2 ^ 16) }
     {
         let path = self.count_path()?;
         let text = read_text(self.alloc, &mut In::new(NamedFile::new(self.files, &path)))?;
-        match count_in(&text) {
-            Some(count) if count > 0 => Ok(count),
-            _ => Err(ReadFault::Failed),
+        let counts = counts_in(self.alloc, &text)?;
+        if counts.is_empty() || counts.len() > usize::from(u16::MAX) {
+            return Err(CountsFault::Misfit);
         }
+        Ok(counts)
     }
 }
 
@@ -217,12 +339,6 @@ fn text_of<F: Read + Drop>(
         Err(ReadFault::NoMemory) => Err(ShardFault::NoMemory),
         Err(ReadFault::Failed) => Err(ShardFault::Unread(file)),
     }
-}
-
-/// The number on the one line of a text.
-fn count_in(text: &[u8]) -> Option<u16> {
-    let line = str::from_utf8(text).ok()?;
-    line.strip_suffix('\n')?.parse().ok()
 }
 
 // Of files it is not known what they hold.

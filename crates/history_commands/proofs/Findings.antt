@@ -4,7 +4,7 @@ use Rattle.std.proofs.lemmas.List.{map_push}
 use Rattle.model.specs.Lists.{In}
 use Rattle.history_commands.specs.Merged.{Answer, status_with, worse, worst}
 use Rattle.history_commands.specs.declared.finding.Finding.{Finding}
-use Rattle.history_commands.specs.declared.finding.Finding.TheVariants.{Certified, Refuted}
+use Rattle.history_commands.specs.declared.finding.Finding.TheVariants.{Certified, Malformed, Refuted}
 use Rattle.history_commands.specs.declared.status.Status.TheVariants as ends
 
 both_certified : (f g : Finding) → worse f g ≡ Certified → (f ≡ Certified) × (g ≡ Certified)
@@ -13,6 +13,12 @@ both_certified f g e = grind arith
 -- the worse of two is one of them
 one_of_two : (f g : Finding) → (worse f g ≡ f) ⊎ (worse f g ≡ g)
 one_of_two f g = grind arith
+
+left_malformed : (f g : Finding) → f ≡ Malformed → worse f g ≡ Malformed
+left_malformed f g e = grind arith
+
+right_malformed : (f g : Finding) → g ≡ Malformed → worse f g ≡ Malformed
+right_malformed f g e = grind arith
 
 -- ---- the findings of a list
 
@@ -33,6 +39,24 @@ module _ {X : Type 0} (of : X → Finding) where
   -- if the worst finding is certified, each one is
   pub all_certified : (xs : List X) → worst (map of xs) ≡ Certified → (x : X) → In x xs → of x ≡ Certified
   all_certified xs e = (each_certified Certified xs e).1
+
+  -- if one finding is malformed, the worst one is
+  stays_malformed : (f : Finding) (xs : List X) → f ≡ Malformed → fold worse f (map of xs) ≡ Malformed
+  stays_malformed f [] e = e
+  stays_malformed f (y ∷ xs) e = stays_malformed (worse f (of y)) xs (left_malformed f (of y) e)
+
+  some_malformed : (f : Finding) (xs : List X) (x : X) → In x xs → of x ≡ Malformed
+      → fold worse f (map of xs) ≡ Malformed
+  some_malformed f [] x i e = absurd i
+  some_malformed f (y ∷ xs) x i e = elim i [
+    | inl q ↦ stays_malformed (worse f (of y)) xs (right_malformed f (of y) (ap of (sym q) ∙ e))
+    | inr j ↦ some_malformed (worse f (of y)) xs x j e
+  ]
+
+  -- unless the worst finding is malformed, none is
+  pub none_malformed : (xs : List X) → (worst (map of xs) ≡ Malformed → ⊥) → (x : X) → In x xs
+      → of x ≡ Malformed → ⊥
+  none_malformed xs sound x i e = sound (some_malformed Certified xs x i e)
 
   -- the worst finding is the first one, or that on some element
   found_of_one : (f g : Finding) (xs : List X) → fold worse f (map of xs) ≡ g

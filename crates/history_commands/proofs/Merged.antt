@@ -25,8 +25,9 @@ use Rattle.verifying.specs.Decisions.{AreDecisionsOn, IsDecisionOn, IsShownReaso
 use Rattle.verifying.specs.Decisions.{certificates_decided, is_impossible, is_order}
 use Rattle.refutation.proofs.Objects.{zip_push}
 use Rattle.history_commands.specs.Merged.{Answer, AnswersClaims, AnswersShard, AreInOrder, AreLinesWith, AreMerged}
-use Rattle.history_commands.specs.Merged.{IsExplainedShard, IsMerge, IsMergeOutput, Shard, finding_on, lines_by}
-use Rattle.history_commands.specs.Merged.{seen_lines, shown_on, whole_name, worse, worst}
+use Rattle.history_commands.specs.Merged.{HasMaps, HasMapsOrIsLarge, IsExplainedShard, IsMerge, IsMergeOutput, Shard}
+use Rattle.history_commands.specs.Merged.{finding_on, lines_by, seen_lines, shown_on, status_with, whole_name, worse}
+use Rattle.history_commands.specs.Merged.{worst}
 use Rattle.history_commands.specs.ShardCounts.{AreAdded, Counted, counted, seen_counts}
 use Rattle.history_commands.specs.Verified.{decision_lines, impossible_lines}
 use Rattle.history_commands.specs.declared.finding.Finding.{Finding}
@@ -34,7 +35,8 @@ use Rattle.history_commands.specs.declared.finding.Finding.TheVariants.{Certifie
 use Rattle.history_commands.specs.declared.merging.Merging.{Merging}
 use Rattle.history_commands.specs.declared.status.Status.{Status}
 use Rattle.history_commands.specs.declared.status.Status.TheVariants as ends
-use Rattle.history_commands.proofs.Findings.{all_certified, no_refuted, own_finding, some_refuted, worst_push}
+use Rattle.history_commands.proofs.Findings.{all_certified, no_refuted, none_malformed, own_finding, some_refuted}
+use Rattle.history_commands.proofs.Findings.{worst_push}
 use Rattle.history_commands.proofs.Findings.{yes_certified}
 
 -- ---- one shard more
@@ -127,17 +129,37 @@ with_numbers_of_whole : (es others : List Event) → AreRenumbered es others →
 with_numbers_of_whole es others r = linearizable_same es others (same_from es others (sym r.same))
 
 shows_linearizable : (s : Shard) (a : Answer) → AnswersShard s a → a.finding ≡ Certified → IsLinearizableText s.text
-shows_linearizable s a (inl (es, denotes, inl (ns, fit, inl (claims, claimed, k)))) e = record {
+shows_linearizable s a (inl (es, denotes, inl (many, inl (ns, fit, inl (claims, claimed, k))))) e = record {
   client_events = es;
   history_text = denotes;
   linearizable = with_own_numbers es (with_numbers ns es) fit.renumbered (k.certified e);
 }
-shows_linearizable s a (inl (es, denotes, inl (ns, fit, inr (f, fault, own, n)))) e =
+shows_linearizable s a (inl (es, denotes, inl (many, inl (ns, fit, inr (f, fault, own, n))))) e =
     absurd (other_finding Undecided Certified a (λ q. cc) n.0 e)
-shows_linearizable s a (inl (es, denotes, inr (none, n))) e =
+shows_linearizable s a (inl (es, denotes, inl (many, inr (none, n)))) e =
+    absurd (other_finding Malformed Certified a (λ q. cc) n.0 e)
+shows_linearizable s a (inl (es, denotes, inr (other, n))) e =
     absurd (other_finding Malformed Certified a (λ q. cc) n.0 e)
 shows_linearizable s a (inr (f, fault, inl (large, n))) e = absurd (other_finding Undecided Certified a (λ q. cc) n.0 e)
 shows_linearizable s a (inr (f, fault, inr (small, n))) e = absurd (other_finding Malformed Certified a (λ q. cc) n.0 e)
+
+-- unless a shard is malformed, it has the maps that it was given, or is too large
+shows_maps : (s : Shard) (a : Answer) → AnswersShard s a → (a.finding ≡ Malformed → ⊥)
+    → HasMapsOrIsLarge s.maps s.text
+shows_maps s a (inl (es, denotes, inl (many, rest))) sound =
+    inl (record { events = es; denoted = denotes; counted = many })
+shows_maps s a (inl (es, denotes, inr (other, n))) sound = absurd (sound n.0)
+shows_maps s a (inr (f, fault, inl (large, n))) sound = inr (f, fault, large)
+shows_maps s a (inr (f, fault, inr (small, n))) sound = absurd (sound n.0)
+
+-- and if each object has an order, it has these maps
+shows_all_maps : (s : Shard) (a : Answer) → AnswersShard s a → a.finding ≡ Certified → HasMaps s.maps s.text
+shows_all_maps s a (inl (es, denotes, inl (many, rest))) e =
+    record { events = es; denoted = denotes; counted = many }
+shows_all_maps s a (inl (es, denotes, inr (other, n))) e =
+    absurd (other_finding Malformed Certified a (λ q. cc) n.0 e)
+shows_all_maps s a (inr (f, fault, inl (large, n))) e = absurd (other_finding Undecided Certified a (λ q. cc) n.0 e)
+shows_all_maps s a (inr (f, fault, inr (small, n))) e = absurd (other_finding Malformed Certified a (λ q. cc) n.0 e)
 
 -- what a no shows of a shard, whose lines these are
 record ShowsNo (s : Shard) (lines : List (ℕ × List ℕ)) : Type 0 where
@@ -179,7 +201,7 @@ impossible_in name es claims limit (d ∷ rest) each e =
     go Open h t again = later (name d.0, decision_lines es (name d.0) Open) (again t)
 
 shows_no : (s : Shard) (a : Answer) → AnswersShard s a → a.finding ≡ Refuted → ShowsNo s a.lines
-shows_no s a (inl (es, denotes, inl (ns, fit, inl (claims, claimed, k)))) e =
+shows_no s a (inl (es, denotes, inl (many, inl (ns, fit, inl (claims, claimed, k))))) e =
     let own = with_numbers ns es in
     let name = whole_name s in
     let shown = impossible_in name own claims s.limit k.decisions
@@ -213,9 +235,11 @@ shows_no s a (inl (es, denotes, inl (ns, fit, inl (claims, claimed, k)))) e =
         };
       };
     }
-shows_no s a (inl (es, denotes, inl (ns, fit, inr (f, fault, own, n)))) e =
+shows_no s a (inl (es, denotes, inl (many, inl (ns, fit, inr (f, fault, own, n))))) e =
     absurd (other_finding Undecided Refuted a (λ q. cc) n.0 e)
-shows_no s a (inl (es, denotes, inr (none, n))) e = absurd (other_finding Malformed Refuted a (λ q. cc) n.0 e)
+shows_no s a (inl (es, denotes, inl (many, inr (none, n)))) e =
+    absurd (other_finding Malformed Refuted a (λ q. cc) n.0 e)
+shows_no s a (inl (es, denotes, inr (other, n))) e = absurd (other_finding Malformed Refuted a (λ q. cc) n.0 e)
 shows_no s a (inr (f, fault, inl (large, n))) e = absurd (other_finding Undecided Refuted a (λ q. cc) n.0 e)
 shows_no s a (inr (f, fault, inr (small, n))) e = absurd (other_finding Malformed Refuted a (λ q. cc) n.0 e)
 
@@ -334,4 +358,15 @@ is_merge shards status out h = record {
   explained = λ is.
       let n = no_of shards status out h is in
       any_at (λ (s : Shard). IsExplainedShard s out) shards n.shard n.among n.explained;
+  counted = λ is.
+      let found = yes_certified (worst (map own_finding h.answers)) (sym h.status_is ∙ is) in
+      all_from_in (λ (s : Shard). HasMaps s.maps s.text) shards
+      (each_zipped AnswersShard (λ s. HasMaps s.maps s.text) shards h.answers h.each
+      (λ s a i own. shows_all_maps s a own (all_certified own_finding h.answers found a i)));
+  none_miscounted = λ sound.
+      let found : worst (map own_finding h.answers) ≡ Malformed → ⊥ =
+      λ e. sound (h.status_is ∙ ap status_with e) in
+      all_from_in (λ (s : Shard). HasMapsOrIsLarge s.maps s.text) shards
+      (each_zipped AnswersShard (λ s. HasMapsOrIsLarge s.maps s.text) shards h.answers h.each
+      (λ s a i own. shows_maps s a own (none_malformed own_finding h.answers found a i)));
 }

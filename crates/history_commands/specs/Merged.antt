@@ -1,6 +1,6 @@
 -- The merge of the findings on the shards of a history: the answer for each, and the output.
-use Rattle.std.specs.Prelude.{◌≡◌, ◌⊎◌, ℕ, false, List, [], ◌∷◌, ◌++◌, codes, decimal, map, fold}
-use Rattle.std.specs.Prelude.{nat_lt, if◌then◌else◌, All, Any}
+use Rattle.std.specs.Prelude.{◌≡◌, ◌≢◌, ◌⊎◌, ℕ, false, List, [], ◌∷◌, ◌++◌, codes, decimal, map}
+use Rattle.std.specs.Prelude.{fold, nat_lt, if◌then◌else◌, All, Any, length}
 use Rattle.std.specs.List.{AllZip, flat_map, list_all, list_any}
 use Rattle.std.specs.List.Sorted.{IsNonDecreasingBy, IsPermutation}
 use Rattle.edn_reader.specs.declared.fault.FaultKind.TheVariants.{TooLong}
@@ -41,11 +41,13 @@ use Rattle.history_commands.specs.declared.shard_answer.ShardAnswer.{ShardAnswer
 use Rattle.history_commands.specs.declared.status.Status.{Status}
 use Rattle.history_commands.specs.declared.status.Status.TheVariants as ends
 
--- what a merge takes of a shard: its number, and how many shards there are; its text and its table,
--- the evidence on it, and how many steps a search takes at most for which a claim names no number
+-- what a merge takes of a shard: its number, how many shards there are, and how many maps this one
+-- was given; its text and its table, the evidence on it, and how many steps a search takes at most
+-- for which a claim names no number
 pub record Shard : Type 0 where
   pub number : ℕ
   pub count : ℕ
+  pub maps : ℕ
   pub text : List ℕ
   pub table : List ℕ
   pub evidence : List ℕ
@@ -164,6 +166,18 @@ AnswersTable number whole_name es table evidence limit a =
     ⊎ (((ns : List ℕ) → FitsTable ns table es → ⊥)
     × IsNoted number Malformed (codes "its table does not fit\n") a)
 
+-- what is said of a shard that has so many maps, and was given another number
+abbrev pub miscounted : ℕ → ℕ → List ℕ
+miscounted maps given =
+    (codes "it has " ++ (decimal maps ++ codes " maps, and not ")) ++ (decimal given ++ codes "\n")
+
+-- The answer for the events of a shard that was given this number of maps: the shard has as many,
+-- or another number, and a line says so.
+abbrev pub AnswersCounted : ℕ → ℕ → (ℕ → ℕ) → List Event → List ℕ → List ℕ → ℕ → Answer → Type 0
+AnswersCounted number maps whole_name es table evidence limit a =
+    ((length es ≡ maps) × AnswersTable number whole_name es table evidence limit a)
+    ⊎ ((length es ≢ maps) × IsNoted number Malformed (miscounted (length es) maps) a)
+
 -- the number that an object has in the full history, by its name in the shard
 abbrev pub whole_name : Shard → ℕ → ℕ
 whole_name s = object_named s.count s.number
@@ -172,7 +186,7 @@ whole_name s = object_named s.count s.number
 abbrev pub AnswersShard : Shard → Answer → Type 0
 AnswersShard s a =
     ((es : List Event) × DenotesHistory s.text es
-    × AnswersTable s.number (whole_name s) es s.table s.evidence s.limit a)
+    × AnswersCounted s.number s.maps (whole_name s) es s.table s.evidence s.limit a)
     ⊎ ((f : Fault) × IsHistoryFault s.text (Faulty f) × AnswersFault s.number f a)
 
 -- ---- what is kept
@@ -245,10 +259,25 @@ pub record IsExplainedShard (s : Shard) (out : List ℕ) : Type 0 where
   pub fits : FitsTable numbers s.table events
   pub explained : IsExplainedBy (whole_name s) (with_numbers numbers events) out
 
+-- the text denotes a history of this many maps of clients
+pub record HasMaps (maps : ℕ) (text : List ℕ) : Type 0 where
+  pub events : List Event
+  pub denoted : DenotesHistory text events
+  pub counted : length events ≡ maps
+
+-- the text denotes a history of this many maps of clients, or is too large for one
+abbrev pub HasMapsOrIsLarge : ℕ → List ℕ → Type 0
+HasMapsOrIsLarge maps text =
+    HasMaps maps text ⊎ ((f : Fault) × IsHistoryFault text (Faulty f) × IsTooLarge f)
+
 -- The result of a merge: if it is a yes the history of each shard is linearizable. If it is a no
--- that of one is not, and the lines show it.
+-- that of one is not, and the lines show it. If it is a yes each shard has as many maps as it was
+-- given; unless it is malformed, each that is not too large has.
 pub record IsMerge (shards : List Shard) (status : Status) (out : List ℕ) : Type 0 where
   pub output : IsMergeOutput shards status out
   pub linearizable : status ≡ ends.Yes → All (λ s. IsLinearizableText s.text) shards
   pub refuted : status ≡ ends.No → Any (λ s. IsNotLinearizableText s.text) shards
   pub explained : status ≡ ends.No → Any (λ s. IsExplainedShard s out) shards
+  pub counted : status ≡ ends.Yes → All (λ s. HasMaps s.maps s.text) shards
+  pub none_miscounted : status ≢ ends.Malformed
+      → All (λ s. HasMapsOrIsLarge s.maps s.text) shards

@@ -56,6 +56,7 @@ impl Merging {
     /// bytes. The evidence has the numbers of events in the full history, and the names of objects
     /// in the shard; the lines have those of the full history. A search for which a claim names no
     /// number of steps has the limit `steps`. No evidence is the empty text, which claims nothing.
+    /// A text that has another number of maps than the shard was given counts as malformed.
     ///
     /// An error: an allocation failed, and no clause says what is known afterwards.
     pub fn take(
@@ -71,6 +72,7 @@ impl Merging {
             → AreMerged self.new (shards ++ (record {
               number = shard.number;
               count = shard.count;
+              maps = shard.maps;
               text = text.now;
               table = table.now;
               evidence = evidence.now;

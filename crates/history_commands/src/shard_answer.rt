@@ -3,8 +3,9 @@
 
 ghost use Rattle.std.specs.Prelude.{◌≡◌, IfOk, MatchBool};
 ghost use Rattle.history_commands.specs.Merged as spec;
-ghost use Rattle.history_commands.specs.Merged.{AnswersClaims, AnswersEvidence, AnswersFault};
-ghost use Rattle.history_commands.specs.Merged.{AnswersShard, AnswersTable, IsNoted, IsTooLarge};
+ghost use Rattle.history_commands.specs.Merged.{AnswersClaims, AnswersCounted};
+ghost use Rattle.history_commands.specs.Merged.{AnswersEvidence, AnswersFault, AnswersShard};
+ghost use Rattle.history_commands.specs.Merged.{AnswersTable, IsNoted, IsTooLarge};
 ghost use Rattle.history_commands.specs.Merged.{finding_on, answer_seen};
 ghost use Rattle.shards.specs.Dividing.{object_named};
 
@@ -15,7 +16,7 @@ use crate::object_lines::{ObjectLines, lines_of};
 use crate::output::verdict_output;
 use crate::shard_counts::Counts;
 use crate::verification::refuse_evidence;
-use edn::FaultKind;
+use edn::{FaultKind, push_natural};
 use history::{History, HistoryFaultKind};
 use judging::{TextFailure, history_of_text};
 use locality::named_objects;
@@ -24,11 +25,12 @@ use shards::{TableFault, with_table};
 use std::alloc::{AllocError, Global};
 use verifying::{Claim, Decision, decide_by_claims, read_claims_text};
 
-/// Which shard it is: its number, and how many there are.
+/// Which shard it is: its number, how many there are, and how many maps this one was given.
 #[derive(Clone, Copy, Debug, PartialEq, Eq)]
 pub struct ShardNumber {
     pub number: u16,
     pub count: u16,
+    pub maps: u32,
 }
 
 /// The answer for a shard.
@@ -174,6 +176,37 @@ fn answer_history(
     }
 }
 
+/// What is said of a shard that has so many maps, and was given another number.
+fn miscounted(alloc: Global, maps: usize, given: u32) -> Result<Vec<u8>, AllocError>
+    ensures { IfOk result (λ v. v.items ≡ spec.miscounted maps given) }
+{
+    let mut said = text_with_number(alloc, b"it has ", maps as u64, b" maps, and not ")?;
+    push_natural(&mut said, u64::from(given))?;
+    said.extend_from_slice(b"\n")?;
+    Ok(said)
+}
+
+/// Checks a shard that has this history, unless it has another number of maps than it was given.
+fn answer_counted(
+    alloc: Global,
+    shard: ShardNumber,
+    history: History,
+    table: &[u8],
+    evidence: &[u8],
+    steps: u32,
+) -> Result<ShardAnswer, AllocError>
+    ensures { IfOk result (λ a. AnswersCounted shard.number shard.maps
+        (object_named shard.count shard.number) history table.now evidence.now steps
+        (answer_seen a)) }
+{
+    let maps = history.events().len();
+    if maps as u64 != u64::from(shard.maps) {
+        let said = miscounted(alloc, maps, shard.maps)?;
+        return noted(alloc, shard.number, Finding::Malformed, &said);
+    }
+    answer_history(alloc, shard, history, table, evidence, steps)
+}
+
 /// Checks a shard: its text, its table, and the evidence on it.
 pub(crate) fn answer_shard(
     alloc: Global,
@@ -186,6 +219,7 @@ pub(crate) fn answer_shard(
     ensures { IfOk result (λ a. AnswersShard (record {
       number = shard.number;
       count = shard.count;
+      maps = shard.maps;
       text = text.now;
       table = table.now;
       evidence = evidence.now;
@@ -193,7 +227,7 @@ pub(crate) fn answer_shard(
     }) (answer_seen a)) }
 {
     match history_of_text(alloc, text) {
-        Ok(history) => answer_history(alloc, shard, history, table, evidence, steps),
+        Ok(history) => answer_counted(alloc, shard, history, table, evidence, steps),
         Err(TextFailure::Faulty(fault)) => answer_fault(alloc, shard.number, fault),
         Err(TextFailure::NoMemory) => Err(AllocError),
     }

@@ -17,6 +17,7 @@ const WHOLE: &[u8] = b"
 
 const REGISTER: ShardFiles = ShardFiles {
     number: 0,
+    maps: 2,
     text: b"
         {:process 1 :type :invoke :f :write :value 7 :object 0}
         {:process 1 :type :ok :f :write :value 7 :object 0}",
@@ -26,6 +27,7 @@ const REGISTER: ShardFiles = ShardFiles {
 
 const QUEUE: ShardFiles = ShardFiles {
     number: 1,
+    maps: 4,
     text: b"
         {:process 0 :type :invoke :f :enqueue :value 5 :object 1}
         {:process 0 :type :ok :f :enqueue :value 5 :object 1}
@@ -37,6 +39,7 @@ const QUEUE: ShardFiles = ShardFiles {
 
 const IMPOSSIBLE: ShardFiles = ShardFiles {
     number: 2,
+    maps: 2,
     text: b"
         {:process 2 :type :invoke :f :dequeue :object 2}
         {:process 2 :type :ok :f :dequeue :value 9 :object 2}",
@@ -46,6 +49,7 @@ const IMPOSSIBLE: ShardFiles = ShardFiles {
 
 const NOTHING: ShardFiles = ShardFiles {
     number: 3,
+    maps: 0,
     text: b"",
     table: b"",
     evidence: b"",
@@ -97,6 +101,7 @@ const COUNT: u16 = 64;
 #[derive(Clone, Copy)]
 struct ShardFiles {
     number: u16,
+    maps: u32,
     text: &'static [u8],
     table: &'static [u8],
     evidence: &'static [u8],
@@ -120,6 +125,7 @@ fn merge(alloc: Global, shards: &[ShardFiles]) -> Result<Output, AllocError> {
         let number = ShardNumber {
             number: shard.number,
             count: COUNT,
+            maps: shard.maps,
         };
         merging.take(
             alloc,
@@ -223,6 +229,30 @@ fn a_table_that_does_not_fit_is_refused(rt: HostRuntime) -> Result<(), Fail> {
     Ok(())
 }
 
+/// A shard that lost its last map, and the line of it in its table, has another number of maps than
+/// it was given. So has one that has a map more.
+#[test]
+fn a_shard_with_another_number_of_maps_is_malformed(rt: HostRuntime) -> Result<(), Fail> {
+    let alloc = rt.alloc();
+    let cut = ShardFiles {
+        text: b"{:process 1 :type :invoke :f :write :value 7 :object 0}",
+        table: b"1\n",
+        ..REGISTER
+    };
+    let lines = "shard 0: it has 1 maps, and not 2\n";
+    assert!(rt; is_merged(alloc, &[cut, IMPOSSIBLE], Status::Malformed, lines)?);
+    let empty = ShardFiles {
+        maps: 4_294_967_295,
+        ..NOTHING
+    };
+    let lines = "shard 3: it has 0 maps, and not 4294967295\n";
+    assert!(rt; is_merged(alloc, &[QUEUE, empty], Status::Malformed, lines)?);
+    let longer = ShardFiles { maps: 3, ..QUEUE };
+    let lines = "shard 1: it has 4 maps, and not 3\n";
+    assert!(rt; is_merged(alloc, &[longer, REGISTER], Status::Malformed, lines)?);
+    Ok(())
+}
+
 /// A history has at most 1,000,000 maps. A map of a nemesis is one, and is otherwise ignored.
 #[test]
 fn a_shard_of_too_many_maps_is_undecided(rt: HostRuntime) -> Result<(), Fail> {
@@ -235,6 +265,7 @@ fn a_shard_of_too_many_maps_is_undecided(rt: HostRuntime) -> Result<(), Fail> {
     let number = ShardNumber {
         number: 7,
         count: COUNT,
+        maps: 0,
     };
     merging.take(alloc, number, &text, b"", b"", 0)?;
     let output = merging.output(alloc)?;

@@ -25,6 +25,7 @@ pub mod Flushing
 pub mod ReadingOn
 pub mod PiecesDivided
 pub mod Numbers
+pub mod CountTables
 pub mod ReadTables
 pub mod Tables
 pub mod KeptNumbers

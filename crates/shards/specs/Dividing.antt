@@ -1,7 +1,7 @@
 -- A history of any length that is divided into a number of shards: the text of each, and a table of
 -- the numbers that its maps have in the full history.
 use Rattle.std.specs.Prelude.{◌≡◌, ℕ, ◌+◌, ◌-◌, ◌*◌, ◌/◌, ◌%◌, ◌==◌, Bool, List, [], ◌∷◌, ◌++◌, ◌<◌}
-use Rattle.std.specs.Prelude.{Some, decimal, map, if◌then◌else◌, get_or}
+use Rattle.std.specs.Prelude.{Some, decimal, map, if◌then◌else◌, get_or, length}
 use Rattle.edn_reader.specs.Datum.{Datum}
 use Rattle.events.specs.declared.event.Event.{Event}
 use Rattle.shards.specs.Forms.{is_on}
@@ -49,6 +49,11 @@ places_from n has (d ∷ ds) =
 abbrev pub table_text : List ℕ → List ℕ
 table_text [] = []
 table_text (n ∷ ns) = decimal n ++ 10 ∷ table_text ns
+
+-- the text that says how many maps each shard has: how many shards there are, and then these
+-- numbers, one on each line
+abbrev pub counts_text : List ℕ → List ℕ
+counts_text counts = table_text (length counts ∷ counts)
 
 -- what is in the files of the shards: of each shard the text, and the table
 pub record Files : Type 0 where

@@ -5,6 +5,7 @@
 //! Objects", TOPLAS 1990, section 3. `split_over` divides a history of any length into such shards.
 #![tactic(auto)]
 
+mod counts;
 mod divider;
 mod division;
 mod fault;
@@ -25,6 +26,7 @@ ghost use Rattle.shards.specs.Shards.{AreApart, AreShards, DenoteLinearizable, r
 ghost use Rattle.shards.specs.WorkedShards.{one_each, own_shard, shards_of_one_each};
 ghost use Rattle.shards.specs.WorkedShards.{shards_of_two_at_once, two_at_once};
 
+pub use counts::{counts_in, counts_text};
 pub use division::{Division, LargeObject};
 pub use fault::SplitFault;
 pub use folder::Folder;

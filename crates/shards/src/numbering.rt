@@ -76,7 +76,7 @@ fn numbers_in(alloc: Global, table: &[u8]) -> Result<Vec<u32>, TableFault>
 }
 
 /// The table of these numbers.
-fn table_of(alloc: Global, numbers: &[u32]) -> Result<Vec<u8>, AllocError>
+pub(crate) fn table_of(alloc: Global, numbers: &[u32]) -> Result<Vec<u8>, AllocError>
     ensures written { IfOk result (λ table. table.items ≡ table_text numbers.now) }
     ensures short { AreShort numbers.now }
 {
@@ -89,7 +89,7 @@ fn table_of(alloc: Global, numbers: &[u32]) -> Result<Vec<u8>, AllocError>
 }
 
 /// The numbers that a table has.
-fn read_table(alloc: Global, table: &[u8]) -> Result<Vec<u32>, TableFault>
+pub(crate) fn read_table(alloc: Global, table: &[u8]) -> Result<Vec<u32>, TableFault>
     ensures written { IfOk result (λ v. table_text v.items ≡ table.now) }
     ensures short { IfOk result (λ v. AreShort v.items) }
     ensures only { IfOk result (λ v. (ns : List ℕ) → AreShort ns → table_text ns ≡ table.now

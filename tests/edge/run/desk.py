@@ -48,12 +48,13 @@ def refused_reserve(program, report):
 # refused. Then the next pass answers, and the test passes.
 REFUSED_PASSES = {
     "refused::a_pass_whose_log_cannot_grow_serves_nothing": b"the first pass served nothing\n",
+    "refused::a_lone_call_whose_pass_gets_no_memory_is_answered_later": b"the first pass served nothing\n",
     "outstanding::a_call_whose_pass_gets_no_memory_is_outstanding": b"the call is outstanding\n",
 }
 
 
 def refused_passes(program, report):
-    """Each allocation of two tests of the combiner fails in a run of its own."""
+    """Each allocation of these tests of the combiner fails in a run of its own."""
     if not os.path.exists(TESTS):
         report.holds("desk: the tests of the combiner are built", False, f"{TESTS} is missing: rt test in crates/combiner_tests builds it")
         return None

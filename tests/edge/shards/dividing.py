@@ -41,15 +41,21 @@ def in_its_shard(text, on):
     return text if on < NAMES else text[: OBJECT.search(text).start(1)] + b"%d" % name_of(on) + text[OBJECT.search(text).end(1) :]
 
 
+def counts_text(counts):
+    """The text of the file `shards` where the shards have these numbers of maps."""
+    return b"".join(b"%d\n" % number for number in (len(counts), *counts))
+
+
 def divided(history, shards):
-    """The files of the shards of a history: of each shard the maps, and their places."""
+    """The files of the shards of a history: of each shard the maps, and their places, and the numbers of these."""
     files = {f"{shard}.{ending}": [] for shard in range(shards) for ending in ("edn", "places")}
     for place, text in enumerate(MAP.findall(history.encode() if isinstance(history, str) else history)):
         on = object_of(text)
         if on is not None:
             files[f"{shard_of(on, shards)}.edn"].append(in_its_shard(text, on))
             files[f"{shard_of(on, shards)}.places"].append(str(place).encode())
-    return {name: b"".join(line + b"\n" for line in those) for name, those in files.items()}
+    texts = {name: b"".join(line + b"\n" for line in those) for name, those in files.items()}
+    return {**texts, "shards": counts_text([len(files[f"{shard}.places"]) for shard in range(shards)])}
 
 
 def evidence_in_shards(found, numbers, shards):
@@ -80,7 +86,7 @@ class Folder:
     def make(self, history):
         """Makes the folder of a history as split does, without it."""
         os.makedirs(self.path(), exist_ok=True)
-        for name, text in {**divided(history, self.shards), "shards": b"%d\n" % self.shards}.items():
+        for name, text in divided(history, self.shards).items():
             self.write(name, text)
 
     def find(self, shard, *options):

@@ -24,7 +24,6 @@ def faults_of_split(folder, history, expected, ran):
     count = sum(text.count(b"\n") for name, text in files.items() if name.endswith(".edn"))
     if (ran.status, ran.out, ran.err) != (0, b"%d maps in %d shards\n" % (count, folder.shards), b""):
         return f"split: {ran}"
-    files["shards"] = b"%d\n" % folder.shards
     came = folder.files()
     others = sorted(file for file in {*came, *files} if came.get(file) != files.get(file))
     return f"split: other files: {[(file, came.get(file)) for file in others]}" if others else None

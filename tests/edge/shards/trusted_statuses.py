@@ -4,7 +4,8 @@ import os
 import random
 import re
 
-from .dividing import Folder, judged, shard_of
+from .damaged import UNCOUNTED
+from .dividing import Folder, counts_text, judged, shard_of
 from .small_wholes import whole
 from .wide_wholes import widened
 from .worked_wholes import MERGED, ORDERS
@@ -38,10 +39,10 @@ def trusted(texts):
 
 
 def with_statuses(program, name, texts):
-    """A folder that has nothing except the number of its shards and these statuses."""
+    """A folder that has nothing except the numbers of maps of its shards and these statuses."""
     folder = Folder(program, name, len(texts))
     os.makedirs(folder.path())
-    folder.write("shards", b"%d\n" % len(texts))
+    folder.write("shards", counts_text([2] * len(texts)))
     for shard, text in enumerate(texts):
         if text is not None:
             folder.write(f"{shard}.status", text)
@@ -102,13 +103,13 @@ def nothing_else_is_read(program, report):
 
 def folders_without_shards(program, report):
     """A folder that does not say how many shards it has is named, whatever statuses it has."""
-    for number, text in enumerate((None, b"", b"2", b"x\n", b"0\n", b"2 \n")):
+    for number, text in enumerate((None, b"", b"2", b"x\n", b"0\n", b"2 \n", b"2\n", b"2\n2\n", b"2\n2\n2", b"2\n2\n2\n2\n")):
         folder = with_statuses(program, f"without.{number}", [b"0\n", b"0\n"])
         if text is None:
             os.remove(folder.path("shards"))
         else:
             folder.write("shards", text)
-        refusal = f"fcbench: cannot read without.{number}/shards\n"
+        refusal = f"fcbench: cannot read without.{number}/shards{f': {UNCOUNTED}' * (text is not None)}\n"
         report.answers(f"merge {TRUST}: the number of shards is {text}", folder.merge(TRUST), "", 4, refusal)
     folder = with_statuses(program, "more", [b"0\n"] * 2)
     folder.write("shards", b"10001\n")

@@ -2,7 +2,7 @@
 hand: with N shards object 65,536 a + b, with b up to 65,535, is in shard (a + b) mod N, by the name b there, and a must be less than N."""
 import random
 
-from .dividing import LAST_OBJECT, NAMES, Folder, name_of, shard_of
+from .dividing import LAST_OBJECT, NAMES, Folder, counts_text, name_of, shard_of
 from .worked_wholes import FOUR, MERGED_YES, NEMESIS, Row, are_refused, is_divided, merged_on, reason_on, refuted_no, refuted_on, same_files, split
 from ..judge.like_recorded import nemesis
 from ..text_writers import info, invoke, lines, ok
@@ -225,7 +225,8 @@ def maps_as_they_are_written(program, report):
             files[f"{shard_of(on, shards)}.places"] += f"{place}\n"
         folder, ran = split(program, f"random.{shards}", "".join(parts), shards)
         report.answers(f"split: maps written in any way, {shards} shards", ran, f"250 maps in {shards} shards\n", 0)
-        expected = {name: text.encode() for name, text in files.items()} | {"shards": b"%d\n" % shards}
+        counts = [files[f"{shard}.places"].count("\n") for shard in range(shards)]
+        expected = {name: text.encode() for name, text in files.items()} | {"shards": counts_text(counts)}
         same_files(report, f"split: maps written in any way, {shards} shards", expected, folder.files())
 
 

@@ -1,7 +1,7 @@
 """Wholes of a few maps, with the files of their shards and the lines of split and merge. All expected values are worked out by hand."""
 from dataclasses import dataclass
 
-from .dividing import LAST_OBJECT, Folder
+from .dividing import LAST_OBJECT, Folder, counts_text
 from ..judge.like_recorded import nemesis
 from ..running import at_once
 from ..text_writers import fail, info, invoke, lines, ok
@@ -18,7 +18,7 @@ class Row:
     shards: tuple
 
     def files(self):
-        files = {"shards": b"%d\n" % len(self.shards)}
+        files = {"shards": counts_text([places.count("\n") for _, places in self.shards])}
         for shard, (maps, places) in enumerate(self.shards):
             files[f"{shard}.edn"], files[f"{shard}.places"] = maps.encode(), places.encode()
         return files

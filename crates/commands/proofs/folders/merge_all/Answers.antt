@@ -1,6 +1,7 @@
 -- `merge_all`: the shards are read in their order and merged. Each shard before the one at hand was read as the
 -- folder holds it; each turn adds one.
 use Rattle.std.proofs.Common.{◌+◌, ◌++◌, ◌∷◌, ◌∙◌, [], ap, arith, length, refl, sym}
+use Rattle.std.specs.Prelude.{slice_index}
 use Rattle.std.proofs.lemmas.List.{length-append}
 use Rattle.history_commands.specs.Merged.{Shard}
 use Rattle.commands.specs.Sharded.{IsReadAs}
@@ -11,7 +12,7 @@ pub loop-shard-init : goal.loop-shard-init
 loop-shard-init g c = (
   [],
   refl,
-  none_read (IsReadAs (g.F.ShardFiles.holds c.args.files.now) c.args.shards c.args.steps),
+  none_read (IsReadAs (g.F.ShardFiles.holds c.args.files.now) c.args.counts.now c.args.steps),
   c.new-merging.ensures,
 )
 
@@ -25,6 +26,7 @@ loop-shard-preserved g c =
     let s : Shard = record {
       number = c.loop-shard.shard;
       count = c.args.shards;
+      maps = slice_index c.args.counts.now c.from.result;
       text = maps.result.now;
       table = places.result.now;
       evidence = evidence.result.now;
@@ -34,7 +36,8 @@ loop-shard-preserved g c =
     rw (i.1, maps.ensures.value, places.ensures.value, evidence.ensures.value) c.in-Ok.ensures in (
       i.0 ++ s ∷ [],
       length-append i.0 (s ∷ []) ∙ ap (λ n. n + 1) i.1,
-      read_more (IsReadAs holds c.args.shards c.args.steps) i.0 s i.2 (sym i.1, refl, refl, held),
+      read_more (IsReadAs holds c.args.counts.now c.args.steps) i.0 s i.2
+          (sym i.1, sym c.requires.one_each, ap (slice_index c.args.counts.now) (c.from.ensures ∙ sym i.1), refl, held),
       c.in-Ok-take.ensures i.0 i.3,
     )
 

@@ -6,5 +6,5 @@ use Rattle.commands.proofs.folders.merge_all.Given as goal
 
 abbrev pub invariant-loop-shard : goal.invariant-loop-shard
 invariant-loop-shard g l =
-    (all : List Shard) × (length all ≡ l.shard) × AreShardsRead (g.F.ShardFiles.holds l.files) l.shards l.steps all
+    (all : List Shard) × (length all ≡ l.shard) × AreShardsRead (g.F.ShardFiles.holds l.files) l.counts l.steps all
     × AreMerged l.merging all

@@ -7,6 +7,7 @@ returns c =
     let shard : Shard = record {
       number = c.args.shard.number;
       count = c.args.shard.count;
+      maps = c.args.shard.maps;
       text = c.args.text.now;
       table = c.args.table.now;
       evidence = c.args.evidence.now;
