@@ -47,8 +47,8 @@ extern "C" {
  * `out of memory`. If an allocation fails, a proved function returns this, or an answer that holds all
  * the same. */
 #define FCBENCH_UNDECIDED 3u
-/* fcbench_judge, fcbench_find: the proved function that they call gave a status and lines that are of no
- * answer, so the library is not as it was built, or another function has its name. There are no lines. */
+/* fcbench_judge, fcbench_find: fcbench_verify gave a status and lines that are of no answer, so the library
+ * is not as it was built, or another function has its name. There are no lines. */
 #define FCBENCH_BROKEN 70u
 
 /* The program's default: 1,000,000 steps. For fcbench_judge: 1,000,000, or 100 for each operation of the

@@ -104,7 +104,7 @@
     (refuse-history "operation " place " is no map: " (pr-str op)))
   (binding [*print-length* nil, *print-level* nil, *print-namespace-maps* false, *print-meta* false]
     (prn-str (if (is-client? op)
-               (select-keys (with-error fail-is-reply op) [:process :type :f :value :object :error])
+               (select-keys (with-error fail-is-reply op) [:process :type :f :value :object :error :time])
                (select-keys op [:process])))))
 
 (defn- has-tuples? [history]
@@ -152,11 +152,18 @@
 (defn- refuse-file [file place why]
   (throw (ex-info (str file ", " place ": " why "; " expected) {::refused true})))
 
+(defn- tagged
+  "What a tagged form is: of a record, whose tag is the name of its class, its map; of any other tag, the form with the tag."
+  [tag value]
+  (if (and (string/includes? (name tag) ".") (nil? (namespace tag)))
+    value
+    (tagged-literal tag value)))
+
 (defn- forms-of
   "The forms of a text that begins at this line of the file."
   [file line text]
   (let [reader (doto (LineNumberingPushbackReader. (StringReader. text)) (.setLineNumber line))
-        options {:eof ::end, :default (fn [_tag value] value)}
+        options {:eof ::end, :default tagged}
         form #(try (edn/read options reader)
                    (catch RuntimeException error
                      (refuse-file file (str "line " (.getLineNumber reader)) (.getMessage (or (.getCause error) error)))))]
@@ -173,7 +180,7 @@
 (def row #"(\d+)\s+(:invoke|:ok|:fail|:info)\s+(:\S+)\s+([^\t]*)(?:\t(.*))?")
 
 (defn- read-or-text [text]
-  (try (edn/read-string {:default (fn [_tag value] value)} text)
+  (try (edn/read-string {:default tagged} text)
        (catch RuntimeException _ text)))
 
 (defn- row-of

@@ -83,18 +83,26 @@ inline bool is_of_a_no(Function function, std::string_view line) noexcept {
     }
 }
 
+// Whether a yes may have this line: the counts of the history, or of a kind.
+inline bool is_of_a_yes(std::string_view line) noexcept {
+    const auto ends = [&](std::string_view end) { return line.size() >= end.size() && line.substr(line.size() - end.size()) == end; };
+    return line.empty() || (begins_with(line, "yes: ") && ends(" objects")) || (!begins_with(line, ";") && ends(" operations"));
+}
+
 // Whether these are all lines of an answer with this status, by the table of docs/commands.md.
 inline bool fits(Function function, std::uint32_t status, std::string_view lines) {
     const Function of = function == Function::Judge ? Function::Verify : function;
     const bool begins = std::any_of(std::begin(beginnings), std::end(beginnings), [&](const Beginning &it) {
         return it.function == of && it.status == status && (it.text.empty() ? lines.empty() : begins_with(lines, it.text));
     });
-    bool has_no = false;
+    bool has_no = false, are_of_a_yes = true;
     for (std::size_t at = 0, end; at < lines.size(); at = end + 1) {
         end = std::min(lines.find('\n', at), lines.size());
         has_no = has_no || is_of_a_no(function, lines.substr(at, end - at));
+        are_of_a_yes = are_of_a_yes && is_of_a_yes(lines.substr(at, end - at));
     }
-    const bool says_so = function == Function::Find ? status != FCBENCH_YES || !has_no : has_no == (status == FCBENCH_NO);
+    const bool is_yes = status == FCBENCH_YES;
+    const bool says_so = function == Function::Find ? !is_yes || !has_no : has_no == (status == FCBENCH_NO) && (!is_yes || are_of_a_yes);
     return begins && (lines.empty() || lines.back() == '\n') && says_so;
 }
 

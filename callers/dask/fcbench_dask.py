@@ -6,8 +6,8 @@
 
 Without an address N processes of this machine are the workers. They read the shards in FOLDER, which must then have the same path
 everywhere; with --send they are sent the texts. FCBENCH is the program, here and on each worker. Evidence is written into FOLDER,
-and a shard that has evidence is passed over, so a run that was stopped goes on. Lines and status are those of `fcbench merge FOLDER`, or
-70 if these are of no answer: no worker need be believed, and a shard without evidence is undecided.
+and a shard that has evidence is passed over, so a run that was stopped goes on. Lines and status are those of `fcbench merge FOLDER`, 3
+if that was killed, or 70 if they are of no answer: no worker need be believed, and a shard without evidence is undecided.
 
 This needs Dask: on Debian the package python3-distributed."""
 import argparse
@@ -39,10 +39,10 @@ LINES = {
     2: r"(?m)^shard \d+: (malformed history: .*|its table does not fit|it has \d+ maps, and not \d+)$",
     3: r"(?m)^(; object \d+: (open|out of .*)|shard \d+: (malformed evidence: .*|too large)|out of memory)$",
 }
-UNREADABLE, WRONG_WORDS, NO_ANSWER = 4, 64, 70
+UNDECIDED, UNREADABLE, WRONG_WORDS, NO_ANSWER = 3, 4, 64, 70
 try:
     from dask.distributed import Client, LocalCluster, as_completed
-except ImportError as missing:  # Python would end with 1, which says that the history is not linearizable.
+except Exception as missing:  # Python would end with 1, which says that the history is not linearizable.
     print(f"fcbench_dask: {missing}", file=sys.stderr)
     sys.exit(NO_ANSWER)
 # What a worker's finder is started by, if it is there: the finder is killed when the worker is.
@@ -222,6 +222,9 @@ def merged(program, folder, steps):
         return ran.returncode
     if ran.returncode == UNREADABLE:
         return UNREADABLE
+    if ran.returncode < 0:
+        note(f"fcbench_dask: {program} merge was killed by the signal {-ran.returncode}")
+        return UNDECIDED
     note(f"fcbench_dask: {program} merge ended with {ran.returncode} and without the lines of such an answer: is it fcbench?")
     return NO_ANSWER
 

@@ -57,6 +57,18 @@ func (f function) isOfNo(line []byte) bool {
 	return false
 }
 
+// areOfYes says whether all lines are of a Yes: the counts of the history, or of a kind.
+func areOfYes(lines []byte) bool {
+	for _, line := range bytes.Split(lines, []byte("\n")) {
+		isFirst := bytes.HasPrefix(line, []byte("yes: ")) && bytes.HasSuffix(line, []byte(" objects"))
+		isOther := !bytes.HasPrefix(line, []byte(";")) && bytes.HasSuffix(line, []byte(" operations"))
+		if len(line) > 0 && !isFirst && !isOther {
+			return false
+		}
+	}
+	return true
+}
+
 // hasNo says whether a line is one that only a No has.
 func (f function) hasNo(lines []byte) bool {
 	for _, line := range bytes.Split(lines, []byte("\n")) {
@@ -92,7 +104,7 @@ func (f function) answered(status uint32, out []byte, needed int) (Verdict, int)
 	verdict, lines := Verdict(status), out[:min(needed, len(out))]
 	isWhole := len(lines) == needed
 	isEnded := len(lines) == 0 || lines[len(lines)-1] == '\n'
-	saysSo := f.hasNo(lines) == (verdict == No)
+	saysSo := f.hasNo(lines) == (verdict == No) && (verdict != Yes || areOfYes(lines))
 	if f == finding {
 		saysSo = verdict != Yes || !f.hasNo(lines)
 	}

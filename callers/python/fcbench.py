@@ -100,6 +100,10 @@ _OF_A_NO = {
 }
 
 
+# All lines of a YES that is of no find.
+_OF_A_YES = re.compile(rb"yes: \d+ operations, \d+ objects\n(\w+: \d+ objects, \d+ operations\n)*")
+
+
 class NoAnswer(Exception):
     """Status and lines are of no answer: the library is not libfcbench, or not as it was built."""
 
@@ -110,7 +114,10 @@ def _verdict(name, status, lines, needed):
     begins = any(needed >= len(it) and lines.startswith(it.encode()[: len(lines)]) and bool(it or not needed) for it in beginnings)
     is_whole, is_ended = len(lines) == needed, lines[-1:] in (b"", b"\n")
     has_no = bool(_OF_A_NO[name].search(lines))
-    says_so = status != Verdict.YES or not has_no if name == "find" else has_no == (status == Verdict.NO)
+    if name == "find":
+        says_so = status != Verdict.YES or not has_no
+    else:
+        says_so = has_no == (status == Verdict.NO) and (status != Verdict.YES or bool(_OF_A_YES.fullmatch(lines)))
     if not begins or is_whole and not (is_ended and says_so):
         raise NoAnswer(f"fcbench_{name}: the status {status} and these lines are of no answer: {lines[:200]!r}")
     return Verdict(status)

@@ -73,6 +73,15 @@ class Calls(unittest.TestCase):
     def test_malformed(self):
         self.assertEqual(fcbench.judge("{:process 0"), (Verdict.MALFORMED, "malformed history: E2 at byte 11\n"))
 
+    def test_what_cannot_be_passed_on(self):
+        """Steps that C would cut, and what is no text, are refused."""
+        for steps in (2**32, -1, True, 1.0):
+            for call in (lambda: fcbench.judge(QUEUE, steps), lambda: fcbench.judge_into(QUEUE, steps, 10), lambda: fcbench.refute(QUEUE, "", steps)):
+                self.assertRaises(ValueError, call)
+        for text in (5, None, ["a"]):
+            self.assertRaises(TypeError, lambda: fcbench.judge(text))
+            self.assertRaises(TypeError, lambda: fcbench.check(QUEUE, text))
+
     def test_buffer_too_small(self):
         length = len(YES_LINES)
         self.assertEqual(fcbench.judge_into(QUEUE, fcbench.STEPS, 10), (Verdict.YES, b"yes: 2 ope", length))

@@ -41,6 +41,12 @@ impl Function {
         }
     }
 
+    /// Whether a yes may have this line: the counts of the history, or of a kind.
+    fn is_of_a_yes(line: &[u8]) -> bool {
+        let (begins, ends) = (|it: &[u8]| line.starts_with(it), |it: &[u8]| line.ends_with(it));
+        line.is_empty() || begins(b"yes: ") && ends(b" objects") || !begins(b";") && ends(b" operations")
+    }
+
     /// Whether these are the lines of an answer with this status: the first of `needed` bytes, as many as there was room for.
     pub(crate) fn fits(self, status: u32, lines: &[u8], needed: usize) -> bool {
         let begins = |with: &&str| {
@@ -50,9 +56,10 @@ impl Function {
         let is_cut = lines.len() < needed;
         let is_ended = lines.last().map_or(true, |byte| *byte == b'\n');
         let has_no = lines.split(|byte| *byte == b'\n').any(|line| self.is_of_a_no(line));
+        let mut all = lines.split(|byte| *byte == b'\n');
         let says_so = match self {
             Function::Find => status != 0 || !has_no,
-            _ => has_no == (status == 1),
+            _ => has_no == (status == 1) && (status != 0 || all.all(Function::is_of_a_yes)),
         };
         self.beginnings(status).iter().any(begins) && (is_cut || is_ended && says_so)
     }

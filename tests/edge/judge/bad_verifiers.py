@@ -1,6 +1,7 @@
 """Programs in place of the verifier: judge and draw print no answer of theirs, and end with no status of an answer. And what judge starts ends
 with it, however that ends."""
 import os
+import shutil
 import signal
 import subprocess
 import time
@@ -132,6 +133,24 @@ def closed_output(program, report):
     report.equal("judge >/dev/null: 0", 0, to_nothing.status)
 
 
+def histories_of_open_files(program, report):
+    """However a path leads to standard input, judge and draw judge the text that is there, or say that they cannot; never another one."""
+    path = f"{program.folder}/{program.write('open.edn', worked_rows.OUT_OF_ORDER)}"
+    os.symlink("/dev/stdin", f"{program.folder}/link.edn")
+    lines = [(command, *words) for command in ("judge", "draw") for words in (("/dev/stdin",), ("//dev/stdin",), ("/dev/fd/0",), ("link.edn",))]
+    for words in lines:
+        for is_removed in (False, True):
+            copy = shutil.copy(path, f"{program.folder}/copy.edn")
+            with open(copy, "rb") as file:
+                if is_removed:
+                    os.remove(copy)
+                ran = subprocess.run([program.tools, *words], stdin=file, cwd=program.folder, capture_output=True)
+            said = b"it must be a file that has a name\n" if is_removed else b""
+            wanted = (4, True) if is_removed else (1, False)
+            is_well = (ran.returncode, ran.stdout == b"") == wanted and said in ran.stderr
+            report.holds(f"{' '.join(words)} <{'a file that was removed' if is_removed else 'a file'}", is_well, ran)
+
+
 def counted_operations(program, report):
     """In place of a yes, or of undecided, judge and draw end with 3 and print nothing if fewer operations returned than --at-least says, or none. A
     no and a malformed text are told all the same; verify and check count nothing."""
@@ -179,11 +198,17 @@ def strict_judgements(program, report):
         ("a no", worked_rows.OUT_OF_ORDER, 1, {}),
         ("a malformed text", worked_rows.AFTER_INFO, 2, {}),
     ):
-        ran = program.run("judge", "--strict", program.write("strict.edn", text), env=env)
+        history = program.write("strict.edn", text)
+        ran = program.run("judge", "--strict", history, env=env)
         report.equal(f"judge --strict: {name}", status, ran.status)
         if name != "the same, by one that finds nothing" and status == 3:
             says = b"fcbench: --strict: it is a yes, which is not printed, with a warning\n"
             report.equal(f"judge --strict: {name}: lines", (b"", says), (ran.out, ran.err))
+            told = subprocess.run(program.line(("judge", "--strict", history)), cwd=program.folder, capture_output=True)
+            report.holds(f"judge --strict: {name}: the reason", told.stderr.startswith(b"fcbench: warning: no "), told)
+    three = script(program, "verifier.of_three", prints(YES, "exit 0"))
+    ran = program.run("judge", "--at-least", "4", program.write("four.edn", worked_rows.TWO_QUEUES), env={"FCBENCH": three})
+    report.equal("judge --at-least: no more have returned than the verifier has read", (3, b""), (ran.status, ran.out))
 
 
-PARTS = (bad_verifiers, judges_that_are_killed, closed_output, counted_operations, strict_judgements)
+PARTS = (bad_verifiers, judges_that_are_killed, closed_output, histories_of_open_files, counted_operations, strict_judgements)

@@ -347,7 +347,7 @@ def python_callers(program, report):
             FCBENCH_RUNS=str(RUNS),
             PYTHONDONTWRITEBYTECODE="1",
         )
-    report.equal("embedding: Python: how many tests ran", ["9", "17"], re.findall(r"Ran (\d+) tests", output), output[-2000:])
+    report.equal("embedding: Python: how many tests ran", ["10", "17"], re.findall(r"Ran (\d+) tests", output), output[-2000:])
 
 
 def go_callers(program, report):

@@ -29,7 +29,7 @@ ANSWERS = {
 }
 ANSWERS["verify"] = ANSWERS["judge"]
 # Lines of no answer of any function, whatever the status.
-OF_NONE = ("yes", "y", YES[:-1], NO[:-1], "all is well\n", "\n", REFUSED[:-1], ORDER[:-1])
+OF_NONE = ("yes: x\n; object 0: open\n", "yes", "y", YES[:-1], NO[:-1], "all is well\n", "\n", REFUSED[:-1], ORDER[:-1])
 
 
 def is_answer(function, status, lines):
@@ -110,9 +110,9 @@ C_CALLER = """#include <fcbench.h>
 #include <stdio.h>
 #include <string.h>
 int main(int count, char **words) {
-    const char *text = "{:process 0, :type :invoke, :f :read}";
+    const char *text = count > 2 && strcmp(words[2], "of_no_history") == 0 ? "{" : "{:process 0, :type :invoke, :f :read}";
     uint8_t out[500];
-    size_t needed, room = count > 2 ? 0 : sizeof out;
+    size_t needed, room = count > 2 && strcmp(words[2], "no_room") == 0 ? 0 : sizeof out;
     uint32_t status = strcmp(words[1], "judge") == 0
         ? fcbench_judge((const uint8_t *)text, strlen(text), FCBENCH_STEPS, out, room, &needed)
         : fcbench_find((const uint8_t *)text, strlen(text), out, room, &needed);
@@ -196,6 +196,9 @@ def foreign_half(program, report):
     for (status, lines), said in wanted.items():
         came = asked(program, [f"{folder}/in_c", "judge"], status, lines)
         report.equal(f"embedding: fcbench_judge over {status} and {lines!r}", (0, said), came)
+    for status, lines, said in ((0, YES, "3 0"), (2, MALFORMED, f"2 {len(MALFORMED)}"), (2, YES, "70 0"), (1, NO, "3 0")):
+        came = asked(program, [f"{folder}/in_c", "find", "of_no_history"], status, lines)
+        report.equal(f"embedding: fcbench_find, whose finder reads no history, over {status} and {lines!r}", (0, said), came)
     for status, lines in ((0, YES), (1, REFUSED), (0, ""), (0, REFUSED), (70, YES), (3, YES)):
         wanted = 0 if (status, lines) == (0, YES) else 3
         came = asked(program, [f"{folder}/in_c", "find"], status, lines)

@@ -217,7 +217,7 @@ BAD_MERGES = (
     ("; object 0: impossible\n", "exit 3", 70),
     ("; object 0: open\n", "exit 1", 70),
     ("all is well\n", "exit 0", 70),
-    ("yes: 1 operations, 1 objects\n", "kill -9 $$", 70),
+    ("yes: 1 operations, 1 objects\n", "kill -9 $$", 3),
     ("yes: 1 operations, 1 objects\n", "exit 4", 4),
     ("yes: 1 operations, 1 objects\n", "exit 64", 70),
 )

@@ -23,6 +23,13 @@ fn is_no(line: &[u8]) -> bool {
     line.starts_with(b"; object ") && line.ends_with(b": impossible")
 }
 
+/// Whether a yes may have this line: the counts of the history, or of a kind.
+fn is_of_yes(line: &[u8]) -> bool {
+    line.is_empty()
+        || line.starts_with(b"yes: ") && line.ends_with(b" objects")
+        || !line.starts_with(b";") && line.ends_with(b" operations")
+}
+
 /// Whether these lines are those of an answer with this status, by the table of docs/commands.md.
 /// They are the first of `needed` bytes, and as many as there was room for.
 pub fn fits(status: u32, lines: &[u8], needed: usize) -> bool {
@@ -31,9 +38,10 @@ pub fn fits(status: u32, lines: &[u8], needed: usize) -> bool {
         needed > with.len() - 1 && lines[..shown] == with[..shown]
     };
     let are_whole = lines.len() == needed;
-    let has_no = || lines.split(|byte| *byte == b'\n').any(is_no);
-    beginnings(status).iter().any(begins)
-        && (!are_whole || lines.ends_with(b"\n") && has_no() == (status == NO))
+    let mut all = lines.split(|byte| *byte == b'\n');
+    let has_no = all.clone().any(is_no);
+    let says_so = has_no == (status == NO) && (status != YES || all.all(is_of_yes));
+    beginnings(status).iter().any(begins) && (!are_whole || lines.ends_with(b"\n") && says_so)
 }
 
 #[cfg(test)]

@@ -120,14 +120,18 @@ impl<'a> Drawing<'a> {
 
     /// Reports why a page on a yes, or on what is not decided, is not printed: too few operations
     /// returned.
-    fn require_enough(&self, status: Status) -> Result<(), Status> {
-        if status != Status::YES && status != Status::UNDECIDED {
+    fn require_enough(&self, answer: &Answer) -> Result<(), Status> {
+        let least = self.command.at_least;
+        require_returned(answer, least, || Ok(count_returned(&self.history.bytes[..], least)))
+    }
+
+    /// Reports that the history is not the one any more that the verifier has read too.
+    fn require_same(&self) -> Result<(), Status> {
+        if read_with(&self.history.path, bytes_of)? == self.history.bytes {
             return Ok(());
         }
-        let least = self.command.at_least;
-        // A text in memory can always be read.
-        let count = count_returned(&self.history.bytes[..], least).unwrap_or(None);
-        require_returned(count, least)
+        say(format_args!("{} was changed while it was judged", self.command.history));
+        Err(Status::FAILED)
     }
 
     /// The page on what was said. `None`: it does not fit the texts.
@@ -147,9 +151,9 @@ impl<'a> Drawing<'a> {
         let drawn = Drawn { history, name, certificates, lines, options, words };
         let orders = self.certificates.as_ref().map(|text| orders_in(&text.bytes));
         match (verdict, orders) {
-            (Verdict::Yes, None) => Some(drawn.judged_page(&self.decisions, &[])),
+            (Verdict::Yes { .. }, None) => Some(drawn.judged_page(&self.decisions, &[])),
             (Verdict::Judged(answers), None) => Some(drawn.judged_page(&self.decisions, answers)),
-            (Verdict::Yes, Some(orders)) => Some(drawn.checked_page(&orders, None)),
+            (Verdict::Yes { .. }, Some(orders)) => Some(drawn.checked_page(&orders, None)),
             (Verdict::No(refusal), Some(orders)) => {
                 Some(drawn.checked_page(&orders, Some(refusal)))
             }
@@ -166,8 +170,10 @@ pub fn draw(command: &Draw) -> Status {
 
 fn drawn(command: &Draw) -> Result<Status, Status> {
     let mut drawing = Drawing::new(command)?;
-    let Answer { status, verdict, lines } = drawing.ask()?;
-    drawing.require_enough(status)?;
+    let answer = drawing.ask()?;
+    drawing.require_enough(&answer)?;
+    drawing.require_same()?;
+    let Answer { status, verdict, lines } = answer;
     let lines = lines.trim_end_matches('\n');
     let Some(page) = drawing.page(&verdict, lines) else {
         say(format_args!("cannot draw this answer: {lines}"));

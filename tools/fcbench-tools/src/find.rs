@@ -1,5 +1,6 @@
 //! The command that writes evidence.
 
+use crate::answer::Answer;
 use crate::command_line::Find;
 use crate::limit::{BETWEEN_LIMIT_CHECKS, Limit, Progress};
 use crate::program::{note, output, output_failed, say};
@@ -8,6 +9,7 @@ use finder::{
     Decision, Evidence, History, LONGEST, Options, Places, Statistics, decide_each,
     read_history_from, warnings,
 };
+use pages::Verdict;
 use std::fs::File;
 use std::io::{self, BufWriter, Read, Write};
 use std::iter;
@@ -23,10 +25,20 @@ pub fn read_with<T>(path: &str, read: impl FnOnce(File) -> io::Result<T>) -> Res
     })
 }
 
-/// Reports that fewer operations of a history returned than an answer needs, or that it is not
-/// known how many did.
-pub fn require_returned(count: Option<u32>, least: u32) -> Result<(), Status> {
-    match count {
+/// Reports that fewer operations of a history returned than a yes needs, or an answer that decides
+/// nothing; or that it is not known how many did. A no and a fault of the text need none. Of a yes
+/// the verifier says how many did not fail, so no more have returned in the text that it read.
+pub fn require_returned(
+    answer: &Answer,
+    least: u32,
+    count: impl FnOnce() -> Result<io::Result<Option<u32>>, Status>,
+) -> Result<(), Status> {
+    let most = match answer.verdict {
+        Verdict::Yes { operations } => u32::try_from(operations).unwrap_or(u32::MAX),
+        _ if answer.status == Status::UNDECIDED => u32::MAX,
+        _ => return Ok(()),
+    };
+    match count()?.unwrap_or(None).map(|count| count.min(most)) {
         Some(count) if count >= least => return Ok(()),
         Some(0) if least == 1 => say(format_args!("no operation returned")),
         Some(count) => say(format_args!("{count} of at least {least} operations returned")),

@@ -176,14 +176,10 @@ fn explain(history: &str, verdict: &Verdict) -> Result<(), Status> {
     explanation(history, fault).map_or(Ok(()), |lines| put_out(&lines))
 }
 
-/// Reports why a yes, or that nothing is decided, is not printed: too few operations returned. A no
-/// and a fault of the text are printed all the same.
-fn require_enough(command: &Judge, history: &str, status: Status) -> Result<(), Status> {
-    if status != Status::YES && status != Status::UNDECIDED {
-        return Ok(());
-    }
+/// Reports why a yes, or that nothing is decided, is not printed: too few operations returned.
+fn require_enough(command: &Judge, history: &str, answer: &Answer) -> Result<(), Status> {
     let least = command.at_least;
-    require_returned(read_with(history, |file| count_returned(file, least))?, least)
+    require_returned(answer, least, || read_with(history, |file| Ok(count_returned(file, least))))
 }
 
 /// What is to be said of a history. With `--strict` a yes needs it from this program's own
@@ -200,14 +196,10 @@ fn summary_for(command: &Judge, history: &str, judgement: &Judgement) -> Result<
     })
 }
 
-/// Reports, with `--strict`, that a yes is not printed since there is a warning.
-fn require_no_warning(command: &Judge, summary: &str, status: Status) -> Result<(), Status> {
+/// Whether, with `--strict`, a warning is the reason that a yes is not printed.
+fn is_withheld(command: &Judge, summary: &str, status: Status) -> bool {
     let is_warning = |line: &str| line.starts_with("; warning: ") && warns(line, true);
-    if command.is_strict && status == Status::YES && summary.lines().any(is_warning) {
-        say(format_args!("--strict: it is a yes, which is not printed, with a warning"));
-        return Err(Status::UNDECIDED);
-    }
-    Ok(())
+    command.is_strict && status == Status::YES && summary.lines().any(is_warning)
 }
 
 /// Judges, and returns the status of the verifier, or that of what went wrong.
@@ -220,18 +212,23 @@ fn try_judge(command: &Judge) -> Result<Status, Status> {
     let verifier = verifier(&find.history, find.steps, find.workers);
     let judgement = run(verifier, finder(&find), limit)?;
     let summary = summary_for(command, &find.history, &judgement)?;
-    let Answer { status, verdict, lines } = judgement.answer;
-    let is_printed = require_enough(command, &find.history, status)
-        .and_then(|()| require_no_warning(command, &summary, status));
-    if is_printed.is_ok() {
+    let Answer { status, verdict, lines } = &judgement.answer;
+    let are_enough = require_enough(command, &find.history, &judgement.answer);
+    let is_withheld = is_withheld(command, &summary, *status);
+    let is_printed = are_enough.is_ok() && !is_withheld;
+    if is_printed {
         let is_shortened = io::stdout().is_terminal() && !command.shows_all;
-        Lines { names: names.as_ref(), is_shortened }.write(&lines).map_err(output_failed)?;
+        Lines { names: names.as_ref(), is_shortened }.write(lines).map_err(output_failed)?;
     }
-    summarize(&summary, status == Status::YES, find.summarizes && is_printed.is_ok())?;
-    is_printed?;
-    advise(&verdict);
-    explain(&find.history, &verdict)?;
-    Ok(status)
+    summarize(&summary, *status == Status::YES, find.summarizes && is_printed)?;
+    are_enough?;
+    if is_withheld {
+        say(format_args!("--strict: it is a yes, which is not printed, with a warning"));
+        return Err(Status::UNDECIDED);
+    }
+    advise(verdict);
+    explain(&find.history, verdict)?;
+    Ok(*status)
 }
 
 /// Judges a history: looks for evidence, and prints what the verifier decides by it.

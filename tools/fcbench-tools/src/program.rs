@@ -4,9 +4,9 @@ use crate::status::Status;
 use crate::system::{is_output_closed, tie};
 use import::visible;
 use std::env;
-use std::fs;
-use std::io::{self, StdoutLock, Write};
-use std::os::unix::fs::FileTypeExt;
+use std::fs::{self, File, Metadata};
+use std::io::{self, IsTerminal, StdoutLock, Write};
+use std::os::unix::fs::{FileTypeExt, MetadataExt};
 use std::path::PathBuf;
 use std::process::{Child, Command, Stdio};
 
@@ -53,24 +53,42 @@ pub fn start(verifier: io::Result<Command>) -> Result<Child, Status> {
     })
 }
 
-/// Returns a path by which both programs can read a history: that of its file, if it is named by
-/// the number of an open file, as with /dev/stdin. Refuses a pipe, and - for standard input, since
-/// only one could read it.
-pub fn path_for_both(history: &str) -> Result<String, Status> {
-    let kind = fs::metadata(history).map(|it| it.file_type());
-    if history == "-" || kind.is_ok_and(|kind| kind.is_fifo() || kind.is_socket()) {
-        say(format_args!(
-            "cannot read {history}: it is read twice, so it must be a file and not a pipe"
-        ));
-        return Err(Status::FAILED);
+/// The path of a file that leads nowhere else in another program, as /dev/stdin does, and a link to
+/// it: the given one, if it has no links, or the one without links. `None`: the file has none, since
+/// it was removed or its name is no text.
+fn lasting_path(given: &str, of: &Metadata) -> Option<String> {
+    let path = fs::canonicalize(given).ok()?;
+    let found = fs::metadata(&path).ok()?;
+    if (found.dev(), found.ino()) != (of.dev(), of.ino()) {
+        return None;
     }
-    if history.starts_with('-') {
+    if fs::canonicalize(".").is_ok_and(|folder| folder.join(given) == path) {
         // Otherwise the verifier takes it for an option.
-        return Ok(format!("./{history}"));
+        let before = if given.starts_with('-') { "./" } else { "" };
+        return Some(format!("{before}{given}"));
     }
-    let is_open_file = history.starts_with("/dev/") || history.starts_with("/proc/");
-    let path = fs::canonicalize(history).ok().filter(|_| is_open_file);
-    Ok(path.and_then(|path| path.into_os_string().into_string().ok()).unwrap_or(history.into()))
+    path.into_os_string().into_string().ok()
+}
+
+/// Returns a path by which both programs can read a history. Refuses what only one of them could
+/// read: a pipe, a terminal, - for standard input, and an open file without a name.
+pub fn path_for_both(history: &str) -> Result<String, Status> {
+    let refuse = |why| {
+        say(format_args!("cannot read {history}: it is read twice, so it must be {why}"));
+        Err(Status::FAILED)
+    };
+    let found = fs::metadata(history);
+    let is_pipe = |it: &Metadata| it.file_type().is_fifo() || it.file_type().is_socket();
+    let is_terminal = || File::open(history).is_ok_and(|file| file.is_terminal());
+    if history == "-" || found.as_ref().is_ok_and(is_pipe) || is_terminal() {
+        return refuse("a file and not a pipe");
+    }
+    match found.map(|found| lasting_path(history, &found)) {
+        // A file that cannot be found is reported when it is opened.
+        Err(_) => Ok(history.to_owned()),
+        Ok(Some(path)) => Ok(path),
+        Ok(None) => refuse("a file that has a name"),
+    }
 }
 
 /// Reports that the output failed, and returns that status.

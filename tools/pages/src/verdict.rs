@@ -137,8 +137,10 @@ pub enum Answer {
 /// What the proved program said.
 #[derive(Clone, Debug, PartialEq, Eq)]
 pub enum Verdict {
-    /// Each object has a valid order.
-    Yes,
+    /// Each object has a valid order. These many operations did not fail.
+    Yes {
+        operations: u64,
+    },
     No(Refusal),
     /// These objects have no order.
     Judged(Vec<(u32, Answer)>),
@@ -319,25 +321,24 @@ fn answer_in(line: &str) -> Option<(u32, Answer)> {
     Some((object.parse().ok()?, answer))
 }
 
-/// Whether these words are two counts with these nouns, as `3 operations, 1 objects`.
-fn are_counts(words: &str, first: &str, second: &str) -> bool {
-    let is_count = |words: &str, noun: &str| {
-        let count = words.strip_suffix(noun).and_then(|it| it.strip_suffix(' '));
-        count.is_some_and(|it| it.parse::<u64>().is_ok())
-    };
-    words
-        .split_once(", ")
-        .is_some_and(|(one, other)| is_count(one, first) && is_count(other, second))
+/// The first of two counts with these nouns, as `3 operations, 1 objects`, if these words are such.
+fn first_count(words: &str, first: &str, second: &str) -> Option<u64> {
+    let count = |words: &str, noun: &str| words.strip_suffix(noun)?.strip_suffix(' ')?.parse().ok();
+    let (one, other) = words.split_once(", ")?;
+    let _other: u64 = count(other, second)?;
+    count(one, first)
 }
 
-/// Whether these are the lines of a yes: the counts of the history, and those of each kind.
-fn are_of_yes(lines: &str) -> bool {
+/// What the lines of a yes say: the counts of the history, and then those of each kind. `None`: they
+/// are none.
+fn yes_in(lines: &str) -> Option<Verdict> {
     let mut lines = lines.lines();
-    let first = lines.next().and_then(|line| line.strip_prefix("yes: "));
+    let operations = first_count(lines.next()?.strip_prefix("yes: ")?, "operations", "objects")?;
     let is_of_kind = |line: &str| {
-        line.split_once(": ").is_some_and(|(_, counts)| are_counts(counts, "objects", "operations"))
+        let counts = line.split_once(": ").map_or("", |it| it.1);
+        first_count(counts, "objects", "operations").is_some()
     };
-    first.is_some_and(|counts| are_counts(counts, "operations", "objects")) && lines.all(is_of_kind)
+    lines.all(is_of_kind).then_some(Verdict::Yes { operations })
 }
 
 impl Verdict {
@@ -347,7 +348,7 @@ impl Verdict {
         let is_one_line = lines.lines().count() == 1;
         let (code, words) = first.split_once(": ").unwrap_or((first, ""));
         let verdict = match code {
-            "yes" => are_of_yes(lines).then_some(Verdict::Yes),
+            "yes" => return yes_in(lines),
             "no" => Refusal::read(words).map(Verdict::No),
             "out of memory" => Some(Verdict::NoMemory),
             "malformed history" => Fault::read(Which::History, words).map(Verdict::Malformed),
@@ -356,11 +357,11 @@ impl Verdict {
             }
             "malformed evidence" => Some(Verdict::MalformedEvidence),
             _ => {
-                let answers: Vec<_> = lines.lines().filter_map(answer_in).collect();
-                return (!answers.is_empty()).then_some(Verdict::Judged(answers));
+                answer_in(first)?;
+                return Some(Verdict::Judged(lines.lines().filter_map(answer_in).collect()));
             }
         };
-        verdict.filter(|it| is_one_line || *it == Verdict::Yes)
+        verdict.filter(|_| is_one_line)
     }
 
     /// Whether some object has no valid order.
@@ -373,7 +374,7 @@ impl Verdict {
     /// `None`: it never says it.
     pub fn status(&self, asked: Asked) -> Option<u8> {
         match (self, asked) {
-            (Verdict::Yes, _) => Some(0),
+            (Verdict::Yes { .. }, _) => Some(0),
             (Verdict::Judged(_), Asked::Verify) => Some(if self.has_impossible() { 1 } else { 3 }),
             (Verdict::No(_), Asked::Check) => Some(1),
             (Verdict::Malformed(fault), _) => {
@@ -439,6 +440,7 @@ mod tests {
             "; object 0: imposs",
             "; object 0: out of steps after",
             "object 0: impossible",
+            "hello\n; object 0: impossible",
         ] {
             assert_eq!(Verdict::read(lines), None, "{lines}");
         }

@@ -36,7 +36,7 @@ fn judged(name: &str) -> String {
         words: Default::default(),
     };
     match verdict {
-        Verdict::Yes => drawn.judged_page(&decisions, &[]),
+        Verdict::Yes { .. } => drawn.judged_page(&decisions, &[]),
         Verdict::Judged(answers) => drawn.judged_page(&decisions, &answers),
         other => panic!("{other:?}"),
     }
@@ -56,7 +56,7 @@ fn checked(name: &str) -> String {
     };
     let orders = orders_in(read(&certificates).as_bytes());
     match Verdict::read(&lines).expect("a verdict") {
-        Verdict::Yes => drawn.checked_page(&orders, None),
+        Verdict::Yes { .. } => drawn.checked_page(&orders, None),
         Verdict::No(refusal) => drawn.checked_page(&orders, Some(&refusal)),
         other => panic!("{other:?}"),
     }

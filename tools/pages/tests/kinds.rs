@@ -28,7 +28,9 @@ fn page(calls: &[&str], order: Option<&str>, lines: &str) -> String {
         words: Default::default(),
     };
     let page = match (order, Verdict::read(lines).expect("a verdict")) {
-        (None, Verdict::Yes) => drawn.judged_page(&decide(&history, Options::default()), &[]),
+        (None, Verdict::Yes { .. }) => {
+            drawn.judged_page(&decide(&history, Options::default()), &[])
+        }
         (None, _) => {
             let decisions = decide(&history, Options::default());
             drawn.judged_page(&decisions, &[(0, Answer::Impossible)])

@@ -5,7 +5,7 @@ mod words;
 
 use std::num::NonZero;
 use std::thread;
-use syntax::{COMMANDS, Commands, Syntax};
+use syntax::{COMMANDS, Commands, OptionSpec, Syntax, Value};
 pub use words::Refused;
 use words::{Fault, Words};
 
@@ -150,10 +150,24 @@ fn draw_of(mut words: Words) -> Result<Draw, Fault> {
     Ok(Draw { history, certificates, names, steps, at_least, options })
 }
 
+/// Whether these words ask for help. A value of an option does not.
+fn ask_for_help(command: &'static Syntax, words: &[String]) -> bool {
+    let mut words = words.iter().take_while(|word| *word != "--");
+    while let Some(word) = words.next() {
+        if word == "--help" || word == "-h" {
+            return true;
+        }
+        let needs = |it: &OptionSpec| matches!(it.value, Value::Needed(_));
+        if command.option(word).is_some_and(needs) {
+            words.next();
+        }
+    }
+    false
+}
+
 /// Reads the words after a command's name.
 fn command_of(command: &'static Syntax, words: &[String]) -> Result<Command, Fault> {
-    let mut options = words.iter().take_while(|word| *word != "--");
-    if options.any(|word| word == "--help" || word == "-h") {
+    if ask_for_help(command, words) {
         return Ok(Command::Help(command.to_string()));
     }
     let words = Words::sort(command, words.iter().cloned())?;
@@ -280,7 +294,7 @@ mod tests {
     }
 
     /// Command lines, and the sentence for each.
-    const REFUSED: [(&str, &str); 47] = [
+    const REFUSED: [(&str, &str); 49] = [
         ("", "a command is missing"),
         ("other h.edn", "no such command: 'other'"),
         ("-- judge h.edn", "no such command: '--'"),
@@ -333,6 +347,8 @@ mod tests {
         ("import a --fail-is-reply=#{", "--fail-is-reply takes one form of EDN, not '#{'"),
         ("import a --independent --independent", "--independent is given twice"),
         ("judge a --names", "--names needs a value, <FILE>"),
+        ("judge a --steps -h", "--steps takes a number from 0 to 1000000000, not '-h'"),
+        ("draw --names --help", "<HISTORY> is missing"),
         ("find a --names b", "find has no option '--names'; to name such a file, put -- before it"),
         ("judge a --seconds 0", "--seconds takes a number from 1 to 1000000, not '0'"),
         ("find a --seconds 1000001", "--seconds takes a number from 1 to 1000000, not '1000001'"),
