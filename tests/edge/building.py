@@ -131,7 +131,7 @@ def no_old_program(program, report):
             (
                 "a source is changed meanwhile",
                 lambda made: made.of_kit("ci.first", f"echo 3 >{made.top}/crates/fcbench/src/mark"),
-                "the code was changed while it was proved",
+                "the code was changed meanwhile",
             ),
         )
     ):
@@ -144,6 +144,22 @@ def no_old_program(program, report):
         report.holds(f"building: {what}: it is not proved", made.run("crates/build", "--is-proved").returncode != 0)
     made.of_kit("ci.first", "")
     report.equal("building: after a change meanwhile it is proved again", (0, "verifier  3: split h into\n"), made.answer("split", "h", "into"))
+
+
+def changed_while_tools_are_built(program, report):
+    """If the code of the verifier is changed while the tools are built, ./fcbench starts no program of the old code."""
+    made = proved_checkout(program, "meanwhile")
+    made.write("tools/finder/src/mark", "2")
+    made.of_kit("cargo.first", f"echo 2 >{made.top}/crates/fcbench/src/mark")
+    ran = made.run("fcbench", "split", "h", "into")
+    report.equal("building: a change while the tools are built", (0, "verifier  2: split h into\n"), (ran.returncode, ran.stdout), ran)
+    calls = [call for call in made.calls() if call in ("cargo", "ci")]
+    report.equal("building: it is proved after that, and the tools are built once", ["cargo", "ci"], calls)
+    made = checkout(program, "meanwhile_at_first")
+    made.of_kit("cargo.first", f"echo 2 >{made.top}/crates/fcbench/src/mark")
+    ran = made.run("fcbench", "split", "h", "into")
+    is_well = (ran.returncode, ran.stdout) == (70, "") and "the code was changed meanwhile" in ran.stderr
+    report.holds("building: a change while the tools are built after the first proof", is_well, ran)
 
 
 def another_logic_unproved(program, report):
@@ -226,20 +242,26 @@ def installed_into_checkout(program, report):
 
 
 def words_of_help(program, report):
-    """A word after --, or in a file's name, asks for no help; and help starts no verifier, whatever is on the PATH."""
+    """A word after --, or in a file's name, asks for no help; and help starts no verifier, whatever is on the PATH. The tools decide whether a
+    word asks for help. If they do not print it, they give no answer."""
     made = checkout(program, "help")
     put_foreign(made, "../kit/bin/fcbench")
     for words, status, says in (
         (("judge", "run -h 2.edn"), 0, "verifier  1: verify run -h 2.edn\n"),
         (("judge", "--", "-h"), 0, "verifier  1: verify --\n"),
         (("verify", "run --help 2.edn", "e.edn"), 0, "verifier  1: verify run --help 2.edn e.edn\n"),
-        (("judge", "h.edn", "-h"), 0, "tools 1: judge --help\n"),
+        (("judge", "h.edn", "-h"), 0, "tools 1: judge h.edn -h\n"),
+        (("judge", "--steps", "-h"), 70, ""),
         (("help", "judge"), 0, "tools 1: judge --help\n"),
         (("find", "h.edn"), 0, "tools 1: find h.edn\n"),
     ):
         for out in ("crates/fcbench/out", "crates/embedding/out"):
             shutil.rmtree(f"{made.top}/{out}", ignore_errors=True)
         report.equal(f"building: ./fcbench {' '.join(words)}", (status, says), made.answer(*words))
+    history = program.write("without_verifier.edn", "")
+    for command in ("judge", "draw"):
+        ran = program.run(command, history, env={"FCBENCH": "/dev/null"})
+        report.equal(f"building: {command} without a verifier gives no answer", (70, b""), (ran.status, ran.out))
 
 
 def quick_after_the_proof(program, report):
@@ -410,7 +432,7 @@ def nothing_to_prove(program, report):
 
 
 PARTS = (
-    proved_by_content, unproved_by_content, no_old_program, another_logic_unproved, find_that_fails, tools_by_content, library_by_content,
-    installed_into_checkout, words_of_help, quick_after_the_proof, side_by_side, ended_by_a_signal, odd_surroundings, without_the_kit,
-    nothing_to_prove,
+    proved_by_content, unproved_by_content, no_old_program, changed_while_tools_are_built, another_logic_unproved, find_that_fails,
+    tools_by_content, library_by_content, installed_into_checkout, words_of_help, quick_after_the_proof, side_by_side, ended_by_a_signal,
+    odd_surroundings, without_the_kit, nothing_to_prove,
 )
