@@ -450,8 +450,10 @@ def without_the_kit(program, report):
         for words in ((command, "--help"), ("help", command)):
             ran = run(*words)
             report.equal(f"building: ./fcbench {' '.join(words)} needs no kit", (0, own, ""), (ran.returncode, ran.stdout, ran.stderr))
-    ran = run()
-    report.equal("building: ./fcbench names each command, and needs no kit", (64, "", []), (ran.returncode, ran.stdout, not_named(ran.stderr)))
+    for words in ((), ("verify", "h.edn", "e.edn", "--steps", "-h")):
+        ran = run(*words)
+        came = (ran.returncode, ran.stdout, not_named(ran.stderr))
+        report.equal(f"building: ./fcbench {' '.join(words)} names each command, and needs no kit", (64, "", []), came)
     ran = run("find", f"{program.folder}/{program.write('of_find.edn', '')}")
     report.equal("building: ./fcbench find needs no kit", (0, ""), (ran.returncode, ran.stderr))
     keep(program.path, f"{top}/crates/fcbench/out/fcbench", sources_of("fcbench", top))
