@@ -2,7 +2,8 @@
 """Records a queue that four threads use, as a history for fcbench.
 
     docs/record_queue.py [--fixed] > queue.history.edn
-    docs/record_queue.py [--fixed] --judge          judges it in place, by the library that callers/build makes
+    docs/record_queue.py [--fixed] --judge          judges it in place, by the library that callers/build makes. The
+                                                    status is the verdict, or 70 without one
 
 The queue is a list with two indices. Its dequeue reads the index of the head and then moves it: without a lock (the bug) two threads can
 take the same value. With --fixed it holds a lock meanwhile."""
@@ -82,4 +83,8 @@ def main(*words):
 
 
 if __name__ == "__main__":
-    sys.exit(main(*sys.argv[1:]))
+    try:
+        sys.exit(main(*sys.argv[1:]))
+    except Exception as error:  # Python would end with 1, which is a no.
+        print(f"record_queue.py: {type(error).__name__}: {error}", file=sys.stderr)
+        sys.exit(70)

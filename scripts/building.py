@@ -108,6 +108,13 @@ def keep(new, made, sources):
     os.replace(f"{made}.sha256.new", f"{made}.sha256")
 
 
+def remove(made):
+    """Removes the record of a file that was built, and then the file, if they are there."""
+    for path in (f"{made}.sha256", made):
+        with contextlib.suppress(FileNotFoundError):
+            os.remove(path)
+
+
 @contextlib.contextmanager
 def in_turn(made):
     """Waits while another run of a script builds this file."""

@@ -1,5 +1,6 @@
 """./fcbench, ./install and the scripts build: what is built, what is current, what a signal ends, and what works if the kit is missing. In most
 tests the kit and cargo are stubs."""
+import contextlib
 import os
 import re
 import select
@@ -7,22 +8,21 @@ import shutil
 import signal
 import subprocess
 import sys
+import time
 
-from .running import EXAMPLES, OF_TOOLS, ROOT
+from .running import EXAMPLES, OF_TOOLS, ROOT, SECONDS
 from .stub_checkout import LOGIC, Checkout
 from .words import COMMANDS
 
 sys.path.insert(0, f"{ROOT}/scripts")
 
-from building import files_of_tools, keep, sums  # noqa: E402
+from building import files_in, files_of_tools, keep, sums  # noqa: E402
 from crates_list import sources_of  # noqa: E402
 
 # Where no kit is.
 BARE = "/usr/bin:/bin"
 # A program of another source, and what it would print.
 FOREIGN = "#!/bin/sh\necho 'yes: foreign'\n"
-# How long a process may take to end.
-SECONDS = 60
 
 
 def checkout(program, name):
@@ -131,7 +131,7 @@ def no_old_program(program, report):
             (
                 "a source is changed meanwhile",
                 lambda made: made.of_kit("ci.first", f"echo 3 >{made.top}/crates/fcbench/src/mark"),
-                "the code was changed while it was proved",
+                "the code was changed meanwhile",
             ),
         )
     ):
@@ -144,6 +144,22 @@ def no_old_program(program, report):
         report.holds(f"building: {what}: it is not proved", made.run("crates/build", "--is-proved").returncode != 0)
     made.of_kit("ci.first", "")
     report.equal("building: after a change meanwhile it is proved again", (0, "verifier  3: split h into\n"), made.answer("split", "h", "into"))
+
+
+def changed_while_tools_are_built(program, report):
+    """If the code of the verifier is changed while the tools are built, ./fcbench starts no program of the old code."""
+    made = proved_checkout(program, "meanwhile")
+    made.write("tools/finder/src/mark", "2")
+    made.of_kit("cargo.first", f"echo 2 >{made.top}/crates/fcbench/src/mark")
+    ran = made.run("fcbench", "split", "h", "into")
+    report.equal("building: a change while the tools are built", (0, "verifier  2: split h into\n"), (ran.returncode, ran.stdout), ran)
+    calls = [call for call in made.calls() if call in ("cargo", "ci")]
+    report.equal("building: it is proved after that, and the tools are built once", ["cargo", "ci"], calls)
+    made = checkout(program, "meanwhile_at_first")
+    made.of_kit("cargo.first", f"echo 2 >{made.top}/crates/fcbench/src/mark")
+    ran = made.run("fcbench", "split", "h", "into")
+    is_well = (ran.returncode, ran.stdout) == (70, "") and "the code was changed meanwhile" in ran.stderr
+    report.holds("building: a change while the tools are built after the first proof", is_well, ran)
 
 
 def another_logic_unproved(program, report):
@@ -212,6 +228,45 @@ def library_by_content(program, report):
         report.equal(f"building: the library once more, after a change of {changed}", (0, []), (made.run("callers/build").returncode, made.calls()))
 
 
+def older_build_of_rattle(program, report):
+    """The program as Rattle's own compiler builds it is there only if the last proof made one."""
+    made = checkout(program, "by_rattle")
+    out = "crates/fcbench/out/fcbench.by-rattle"
+    for code, first, is_there in (("1", f"(cd crates/fcbench && program verifier {out[len('crates/fcbench/'):]})", True), ("2", "", False)):
+        made.write("crates/fcbench/src/mark", code)
+        made.of_kit("ci.first", first)
+        ran = made.run("crates/build")
+        there = [os.path.exists(f"{made.top}/{path}") for path in (out, f"{out}.sha256")]
+        report.equal(f"building: {out}, after the code {code}", (0, [is_there, is_there]), (ran.returncode, there), ran)
+
+
+def installed_whole(program, report):
+    """If ./install fails, it leaves the files of an older version as they are, and nothing else."""
+    made, prefix = proved_checkout(program, "whole"), f"{program.folder}/prefix"
+    report.equal("building: ./install", 0, made.run("install", prefix).returncode)
+    older = {path: content(f"{prefix}/{path}") for path in files_in(prefix, ".")}
+    made.write("crates/fcbench/src/mark", "2")
+    shutil.rmtree(f"{prefix}/share")
+    with open(f"{prefix}/share", "w"):
+        pass
+    ran = made.run("install", prefix)
+    report.holds("building: ./install into a PREFIX whose share is no folder", ran.returncode != 0 and not ran.stdout, ran)
+    left = {path: content(f"{prefix}/{path}") for path in files_in(prefix, ".")}
+    kept = {path: text for path, text in older.items() if not path.startswith("./share/")}
+    report.equal("building: what ./install leaves then", kept | {"./share": b""}, left)
+    os.remove(f"{prefix}/share")
+    report.equal("building: ./install once more", 0, made.run("install", prefix).returncode)
+    newer = {path: content(f"{prefix}/{path}") for path in files_in(prefix, ".")}
+    report.equal("building: what ./install puts", sorted(older), sorted(newer))
+    report.equal("building: the verifier that ./install puts", content(f"{made.top}/crates/fcbench/out/fcbench"), newer["./libexec/fcbench/fcbench"])
+
+
+def content(path):
+    """The bytes of a file."""
+    with open(path, "rb") as file:
+        return file.read()
+
+
 def installed_into_checkout(program, report):
     """./install refuses the checkout as PREFIX, however it is written. ./fcbench never starts programs that were installed there."""
     made = proved_checkout(program, "prefix")
@@ -226,20 +281,26 @@ def installed_into_checkout(program, report):
 
 
 def words_of_help(program, report):
-    """A word after --, or in a file's name, asks for no help; and help starts no verifier, whatever is on the PATH."""
+    """A word after --, or in a file's name, asks for no help; and help starts no verifier, whatever is on the PATH. The tools decide whether a
+    word asks for help. If they do not print it, they give no answer."""
     made = checkout(program, "help")
     put_foreign(made, "../kit/bin/fcbench")
     for words, status, says in (
         (("judge", "run -h 2.edn"), 0, "verifier  1: verify run -h 2.edn\n"),
         (("judge", "--", "-h"), 0, "verifier  1: verify --\n"),
         (("verify", "run --help 2.edn", "e.edn"), 0, "verifier  1: verify run --help 2.edn e.edn\n"),
-        (("judge", "h.edn", "-h"), 0, "tools 1: judge --help\n"),
+        (("judge", "h.edn", "-h"), 0, "tools 1: judge h.edn -h\n"),
+        (("judge", "--steps", "-h"), 70, ""),
         (("help", "judge"), 0, "tools 1: judge --help\n"),
         (("find", "h.edn"), 0, "tools 1: find h.edn\n"),
     ):
         for out in ("crates/fcbench/out", "crates/embedding/out"):
             shutil.rmtree(f"{made.top}/{out}", ignore_errors=True)
         report.equal(f"building: ./fcbench {' '.join(words)}", (status, says), made.answer(*words))
+    history = program.write("without_verifier.edn", "")
+    for command in ("judge", "draw"):
+        ran = program.run(command, history, env={"FCBENCH": "/dev/null"})
+        report.equal(f"building: {command} without a verifier gives no answer", (70, b""), (ran.status, ran.out))
 
 
 def quick_after_the_proof(program, report):
@@ -253,20 +314,38 @@ def quick_after_the_proof(program, report):
     report.equal("building: --quick after the proof", (*answers("1"), ""), (ran.returncode, ran.stdout, ran.stderr))
 
 
+@contextlib.contextmanager
+def fifo(path):
+    """Makes a FIFO, and opens it to read from it, without a wait for one who writes."""
+    os.mkfifo(path)
+    pipe = os.open(path, os.O_RDONLY | os.O_NONBLOCK)
+    try:
+        yield pipe
+    finally:
+        os.close(pipe)
+
+
+def is_begun(pipe, process):
+    """Whether something is written into a FIFO in time, while a process runs that does so."""
+    end = time.monotonic() + SECONDS
+    while process.poll() is None and time.monotonic() < end:
+        if select.select([pipe], [], [], 0.1)[0]:
+            return os.read(pipe, 100) != b""
+    return False
+
+
 def side_by_side(program, report):
     """Of two builds at the same moment one waits for the other, and builds nothing then. A build waits for a lock that is held."""
     for script, path, call in (("crates/build", "crates/fcbench/out/fcbench", "ci"), ("tools/build", "tools/out/fcbench-tools", "cargo")):
         made = checkout(program, f"beside_{call}")
-        begun, go_on = f"{made.kit}/begun", f"{made.kit}/go_on"
-        os.mkfifo(begun)
+        go_on = f"{made.kit}/go_on"
         os.mkfifo(go_on)
         # The first call waits until the second run has said something or ended.
         made.of_kit(f"{call}.first", 'if mkdir "$kit/first" 2>/dev/null; then echo >"$kit/begun"; read _ <"$kit/go_on"; fi')
         line, how = made.line(script)
         end_of_first = os.open(go_on, os.O_RDWR)
-        with subprocess.Popen(line, stderr=subprocess.PIPE, **how) as first:
-            with open(begun) as pipe:
-                pipe.read()
+        with fifo(f"{made.kit}/begun") as begun, subprocess.Popen(line, stderr=subprocess.PIPE, **how) as first:
+            report.holds(f"building: {script} begins", is_begun(begun, first))
             with subprocess.Popen(line, stderr=subprocess.PIPE, **how) as second:
                 said = second.stderr.readline()
                 os.write(end_of_first, b"\n")
@@ -282,8 +361,8 @@ def side_by_side(program, report):
 
 
 def is_ended(pipe):
-    """Whether all processes that have the other end of a pipe open end in time."""
-    return bool(select.select([pipe], [], [], SECONDS)[0]) and not pipe.read()
+    """Whether all processes that have the other end of a FIFO open end in time."""
+    return bool(select.select([pipe], [], [], SECONDS)[0]) and not os.read(pipe, 100)
 
 
 def ended_by_a_signal(program, report):
@@ -291,15 +370,15 @@ def ended_by_a_signal(program, report):
     for name in (signal.SIGTERM, signal.SIGINT, signal.SIGHUP):
         for call, words in (("ci", ("split", "h", "into")), ("try", ("check", "h", "c")), ("cargo", ("find", "h"))):
             made = checkout(program, f"signal_{call}_{name}")
-            alive, never = f"{made.kit}/alive", f"{made.kit}/never"
-            os.mkfifo(alive)
+            never = f"{made.kit}/never"
             os.mkfifo(never)
-            made.of_kit(f"{call}.first", 'exec 9>"$kit/alive"; (read _ <"$kit/never") & wait; exit 1')
+            made.of_kit(f"{call}.first", 'exec 9>"$kit/alive"; echo >&9; (read _ <"$kit/never") & wait; exit 1')
             line, how = made.line("fcbench", *words)
-            with subprocess.Popen(line, stderr=subprocess.DEVNULL, stdout=subprocess.DEVNULL, **how) as ran:
-                with open(alive, "rb") as pipe:
-                    ran.send_signal(name)
-                    is_well = is_ended(pipe)
+            how |= {"stderr": subprocess.DEVNULL, "stdout": subprocess.DEVNULL}
+            with fifo(f"{made.kit}/alive") as alive, subprocess.Popen(line, **how) as ran:
+                is_well = is_begun(alive, ran)
+                ran.send_signal(name)
+                is_well = is_well and is_ended(alive)
                 # What is still there, if something is, goes on.
                 os.close(os.open(never, os.O_RDWR))
                 ran.wait()
@@ -371,8 +450,10 @@ def without_the_kit(program, report):
         for words in ((command, "--help"), ("help", command)):
             ran = run(*words)
             report.equal(f"building: ./fcbench {' '.join(words)} needs no kit", (0, own, ""), (ran.returncode, ran.stdout, ran.stderr))
-    ran = run()
-    report.equal("building: ./fcbench names each command, and needs no kit", (64, "", []), (ran.returncode, ran.stdout, not_named(ran.stderr)))
+    for words in ((), ("verify", "h.edn", "e.edn", "--steps", "-h")):
+        ran = run(*words)
+        came = (ran.returncode, ran.stdout, not_named(ran.stderr))
+        report.equal(f"building: ./fcbench {' '.join(words)} names each command, and needs no kit", (64, "", []), came)
     ran = run("find", f"{program.folder}/{program.write('of_find.edn', '')}")
     report.equal("building: ./fcbench find needs no kit", (0, ""), (ran.returncode, ran.stderr))
     keep(program.path, f"{top}/crates/fcbench/out/fcbench", sources_of("fcbench", top))
@@ -410,7 +491,7 @@ def nothing_to_prove(program, report):
 
 
 PARTS = (
-    proved_by_content, unproved_by_content, no_old_program, another_logic_unproved, find_that_fails, tools_by_content, library_by_content,
-    installed_into_checkout, words_of_help, quick_after_the_proof, side_by_side, ended_by_a_signal, odd_surroundings, without_the_kit,
-    nothing_to_prove,
+    proved_by_content, unproved_by_content, no_old_program, changed_while_tools_are_built, another_logic_unproved, find_that_fails,
+    tools_by_content, library_by_content, older_build_of_rattle, installed_whole, installed_into_checkout, words_of_help, quick_after_the_proof,
+    side_by_side, ended_by_a_signal, odd_surroundings, without_the_kit, nothing_to_prove,
 )

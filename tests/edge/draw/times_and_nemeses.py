@@ -1,5 +1,6 @@
 """What a page shows in addition: times, what a nemesis does, and the names of an imported history. No answer depends on them."""
 import re
+import shutil
 
 from . import drawn_inputs
 from .pages import Drawn, found
@@ -131,7 +132,7 @@ def nemesis_room(program, report):
 
 
 def of_many_nemeses(program, count):
-    """A history in which nemeses begin so many things, none of which ends."""
+    """A history in which nemeses begin this many things, none of which ends."""
     begun = "".join(f"{{:process :nemesis, :type :info, :f :start-{it}}}\n" for it in range(count))
     return program.write(f"nemeses.{count}.edn", OVERLAPPING + begun)
 
@@ -139,12 +140,16 @@ def of_many_nemeses(program, count):
 def many_nemeses(program, report):
     """A page of many things that nemeses began takes no more instructions for each than one of half of them. It has at most 40 bands in a line,
     the last of which says how many more there are."""
-    few, many = (program.instructions("draw", of_many_nemeses(program, count)) for count in (4_000, 8_000))
-    report.holds("draw: 8,000 nemeses take less than 2.5 times what 4,000 take", many < 2.5 * few, (few, many))
-    page = program.run("draw", "nemeses.8000.edn").out.decode()
+    half, whole = (of_many_nemeses(program, count) for count in (4_000, 8_000))
+    page = program.run("draw", whole).out.decode()
     report.holds("draw: the page of 8,000 nemeses is short", len(page) < 200_000, len(page))
     bands = re.findall(r'<g class="band"><title>([^<]*)</title>', page)
     report.holds("draw: 40 bands in each line, and the last has the others", re.fullmatch(r"\d+ more faults of nemeses", bands[39]), bands[:41])
+    if not shutil.which("valgrind"):
+        return "valgrind is missing"
+    few, many = (program.instructions("draw", history) for history in (half, whole))
+    report.holds("draw: 8,000 nemeses take less than 2.5 times what 4,000 take", many < 2.5 * few, (few, many))
+    return None
 
 
 def named_pages(program, report):

@@ -1,6 +1,7 @@
 """The files of import: the table of names, which replaces a table and nothing else; their lengths; and names on a terminal."""
 import json
 import os
+import shutil
 import stat
 import subprocess
 
@@ -131,6 +132,8 @@ def failed_with_errors(count):
 
 def cost_of_errors(program, report):
     """Failed operations after a hundred long errors cost what they are long, and twice as many cost about twice as much, in instructions."""
+    if not shutil.which("valgrind"):
+        return "valgrind is missing"
     least, once, twice = (program.instructions("import", program.write(f"errors.{it}.edn", failed_with_errors(it * FAILED))) for it in (0, 1, 2))
     text = len(failed_with_errors(FAILED)) - len(failed_with_errors(0))
     report.holds("import: what failed operations cost", twice - least <= MOST_OF_TWICE * (once - least), (least, once, twice))

@@ -208,4 +208,31 @@ def foreign_half(program, report):
         report.equal(f"embedding: fcbench_judge without room over {status} and {lines!r}", (0, said), came)
 
 
-PARTS = (foreign_libraries, foreign_half)
+# What the recorded queue of docs/tutorial.md is judged by, with the status and lines of that library, and what the script says.
+NO_LIBRARIES = (
+    ("/not/there.so", 0, YES, "ImportError: /not/there.so: "),
+    ("without_functions.so", 0, YES, "AttributeError: "),
+    ("foreign.so", 1, YES, "NoAnswer: fcbench_judge: "),
+    ("foreign.so", 0, NO, "NoAnswer: fcbench_judge: "),
+    ("foreign.so", 70, "", "NoAnswer: fcbench_judge: "),
+)
+
+
+def recorded_without_an_answer(program, report):
+    """docs/record_queue.py --judge ends with 70, and with no verdict, if the library is missing or gives no answer."""
+    if missing("gcc"):
+        return missing("gcc")
+    folder, source = program.folder, f"{ROOT}/tests/edge/library/foreign.c"
+    done(report, "a foreign library is shared", ["gcc", f"-I{ROOT}/include", "-fPIC", "-shared", source, "-o", f"{folder}/foreign.so"])
+    empty = f"{folder}/{program.write('empty.c', 'int nothing;')}"
+    done(report, "a library without functions is shared", ["gcc", "-fPIC", "-shared", empty, "-o", f"{folder}/without_functions.so"])
+    for library, status, lines, says in (("foreign.so", 0, YES, ""), ("foreign.so", 1, NO, ""), *NO_LIBRARIES):
+        env = {**os.environ, "FOREIGN_STATUS": str(status), "FOREIGN_LINES": lines, "FCBENCH_SO": os.path.join(folder, library),
+               "PYTHONDONTWRITEBYTECODE": "1"}
+        ran = subprocess.run([sys.executable, f"{ROOT}/docs/record_queue.py", "--judge"], env=env, capture_output=True, text=True)
+        is_well = (ran.returncode, ran.stdout) == ((70, "") if says else (status, lines)) and says in ran.stderr
+        report.holds(f"embedding: record_queue.py over {library}: status {status} and {lines!r}", is_well, ran)
+    return None
+
+
+PARTS = (foreign_libraries, foreign_half, recorded_without_an_answer)
