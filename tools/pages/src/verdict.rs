@@ -329,8 +329,8 @@ fn first_count(words: &str, first: &str, second: &str) -> Option<u64> {
     count(one, first)
 }
 
-/// What the lines of a yes say: the counts of the history, and then those of each kind. `None`: they
-/// are none.
+/// What the lines of a yes say: the counts of the history, and then those of each kind. `None`:
+/// they are none.
 fn yes_in(lines: &str) -> Option<Verdict> {
     let mut lines = lines.lines();
     let operations = first_count(lines.next()?.strip_prefix("yes: ")?, "operations", "objects")?;
