@@ -694,6 +694,30 @@ ANSWERS = (
 )
 
 
+# Sentences of docs/formats.md that were once other ones, each on a history that tells them apart.
+# A write of 5, a pending swap from it to 7, and a read of 7: the swap may not be kept without 5.
+PENDING_SWAP = lines(*[invoke(0, "write", 5), ok(0, "write", 5), invoke(1, "cas", (5, 7)), invoke(0, "read"), ok(0, "read", 7)])
+# A pending write of 2 and a refused swap are never in a cell of 1, even if the numbers have them; a read of nothing is.
+CELL_OF_ONE = lines(
+    invoke(0, "write", 1), invoke(1, "write", 2), invoke(2, "cas", (1, 5)), ok(0, "write", 1), ok(2, "cas", False), invoke(0, "read"), ok(0, "read"),
+)
+REFUSED_ADDITION = lines(invoke(0, "add", 1), ok(0, "add", False))
+ENQUEUED_AND_PENDING = lines(invoke(0, "enqueue", 1), ok(0, "enqueue", 1), invoke(1, "dequeue"))
+TOOK_ANOTHER = lines(invoke(0, "enqueue", 1), ok(0, "enqueue", 1), invoke(1, "dequeue"), ok(1, "dequeue", 7))
+AS_THE_PAGE = (
+    (PENDING_SWAP, "{:keep [7], :numbers [2 3]}", None, NO_PART),
+    (PENDING_SWAP, "{:keep [5 7], :numbers [0 2 3]}", None, POSSIBLE),
+    (CELL_OF_ONE, "{:cell [1], :other 9, :numbers [1 2 5]}", None, f"{IMPOSSIBLE}2 of 4 operations"),
+    (REFUSED_ADDITION, "{:without 1, :before 9}", None, f"{IMPOSSIBLE}1 of 1 operations"),
+    (REFUSED_ADDITION, "{:cell [1], :other 9}", None, POSSIBLE),
+    (ENQUEUED_AND_PENDING, "{:keep [1], :numbers [0]}", None, NO_PART),
+    (ENQUEUED_AND_PENDING, "{:keep [1], :numbers [0 2]}", None, POSSIBLE),
+    (TOOK_ANOTHER, "", "{:value 7, :from 0}", f"{IMPOSSIBLE}2 of 2 operations"),
+    (TOOK_ANOTHER, "", "{:value 7, :from 1}", NOT_EXCEEDED),
+    (TOOK_ANOTHER, "", "{:ahead 2}", NOT_EXCEEDED),
+)
+
+
 def reason(cuts, count=None, on=0):
     more = f", :count {count}" if count else ""
     return f"{{:object {on}, :cuts [{cuts}]{more}}}"
@@ -719,6 +743,8 @@ def parts_of_histories(program, report):
     for table in (PENDING_CALLS, PROJECTIONS, REGISTERS, ENTRIES, WINDOWS, SETS_COUNTERS_LOCKS, CHANGES, VALUES_THAT_ARE_ABSENT):
         for number, (history, cuts, wanted) in enumerate(table):
             is_answered(program, report, f"refute: row {number}: {cuts}", history, reason(cuts), 1000, wanted)
+    for history, cuts, count, wanted in AS_THE_PAGE:
+        is_answered(program, report, f"refute: {cuts} {count}: as formats.md says", history, reason(cuts, count), 1000, wanted)
     for history, end, count, is_exceeded in COUNTS:
         text = reason(window(0, end), count)
         is_answered(program, report, f"refute: {text}", history, text, 1000, IMPOSSIBLE if is_exceeded else NOT_EXCEEDED)

@@ -53,7 +53,7 @@ pub fn start(verifier: io::Result<Command>) -> Result<Child, Status> {
     })
 }
 
-/// The path of a file that leads nowhere else in another program, as /dev/stdin and a link to it do:
+/// The path of a file that leads nowhere else in another program, as /dev/stdin and links to it do:
 /// the given one, if it has no links, or the one without links. `None`: the file has none, since it
 /// was removed, or its name is no text.
 fn lasting_path(given: &str, of: &Metadata) -> Option<String> {
