@@ -59,7 +59,7 @@ class Program:
         command, *rest = words or ("",)
         if not (self.tools and command in OF_TOOLS):
             return [self.path, *words]
-        says_least = any(word.startswith("--at-least") for word in rest)
+        says_least = any(str(word).startswith("--at-least") for word in rest)
         least = [] if command not in COUNTING or says_least else ["--at-least", "0"]
         return [self.tools, command, *least, *rest]
 
