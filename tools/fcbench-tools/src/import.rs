@@ -15,9 +15,9 @@ pub const GZIP: [u8; 2] = [0x1f, 0x8b];
 
 /// The bytes of the longest history that is imported: 4 GiB. It may be longer than a text that is
 /// judged, since `split` divides what is written.
-const LONGEST_IMPORTED: u64 = 1 << 32;
+const LONGEST_ORIGINAL: u64 = 1 << 32;
 
-/// Reads a text of at most so many bytes.
+/// Reads a text. One that has more bytes than this is an error.
 fn read_text(file: impl Read, most: u64) -> io::Result<String> {
     let mut bytes = Vec::new();
     let length = file.take(most + 1).read_to_end(&mut bytes)?;
@@ -45,7 +45,7 @@ fn text_of(path: &str, most: u64) -> Result<String, Status> {
 
 fn imported(command: &Import) -> Result<Imported, Status> {
     let path = &command.history;
-    let text = text_of(path, LONGEST_IMPORTED)?;
+    let text = text_of(path, LONGEST_ORIGINAL)?;
     ::import::import(&text, &command.options).map_err(|refused| {
         say(format_args!("{path}, {refused}"));
         Status::MALFORMED

@@ -286,6 +286,38 @@ fn times_that_cannot_be_sorted_are_refused() {
     );
 }
 
+/// Times never give a completion to another invocation than that above it.
+#[test]
+fn a_completion_keeps_its_invocation() {
+    let exchanged = timed(0, "invoke", "1", "10")
+        + &timed(0, "ok", "1", "40")
+        + &timed(0, "invoke", "2", "30")
+        + &timed(0, "ok", "2", "20");
+    let wanted =
+        "line 4: operation 1: by its :time the :ok of process 0 is before its :invoke in line 3";
+    assert_eq!(refused(&exchanged, &by_time()), wanted);
+    let nested = timed(0, "invoke", "1", "10")
+        + &timed(0, "ok", "1", "40")
+        + &timed(0, "invoke", "2", "20")
+        + &timed(0, "ok", "2", "50");
+    let wanted = "line 2: operation 2: by its :time the :ok of process 0 is the completion of another :invoke than that in line 1, which is its own";
+    assert_eq!(refused(&nested, &by_time()), wanted);
+    let taken =
+        timed(0, "ok", "1", "20") + &timed(0, "invoke", "1", "10") + &timed(0, "ok", "1", "30");
+    let wanted = "line 3: operation 2: by its :time the :ok of process 0 is the completion of another :invoke than that in line 2, which is its own";
+    assert_eq!(refused(&taken, &by_time()), wanted);
+    // The completions of two logs, and after them the invocations.
+    let apart = timed(0, "ok", "1", "20")
+        + &timed(0, "ok", "2", "40")
+        + &timed(0, "invoke", "1", "10")
+        + &timed(0, "invoke", "2", "30");
+    let in_order = timed(0, "invoke", "1", "10")
+        + &timed(0, "ok", "1", "20")
+        + &timed(0, "invoke", "2", "30")
+        + &timed(0, "ok", "2", "40");
+    assert_eq!(made(&apart, &by_time()).text, imported(&in_order).text);
+}
+
 /// The lines on a history of one call, to which something was done.
 #[test]
 fn each_change_is_counted() {
