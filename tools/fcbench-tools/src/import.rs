@@ -64,18 +64,39 @@ fn table_of(names: &Names) -> Result<String, Status> {
     }
 }
 
+/// Refuses a history with warnings, if they are strict.
+fn refuse_warnings(warnings: &[String], is_strict: bool) -> Result<(), Status> {
+    if is_strict && !warnings.is_empty() {
+        say(format_args!("nothing is written, since there is a warning and --strict is given"));
+        return Err(Status::MALFORMED);
+    }
+    Ok(())
+}
+
+/// The text of the table for its file, if one is asked for. A long one is warned of.
+fn table_for(
+    command: &Import,
+    names: &Names,
+    warnings: &mut Vec<String>,
+) -> Result<Option<String>, Status> {
+    let Some(path) = &command.names else { return Ok(None) };
+    let table = table_of(names)?;
+    if table.len() as u64 > LONGEST {
+        warnings.push(format!(
+            "{path} has more than {LONGEST} bytes, so judge and draw do not read it"
+        ));
+    }
+    Ok(Some(table))
+}
+
 /// Writes the text of a history to standard output, and the table of names to its file.
 fn try_import(command: &Import) -> Result<(), Status> {
-    let Imported { text, names, warnings, notes, .. } = imported(command)?;
+    let Imported { text, names, mut warnings, notes, .. } = imported(command)?;
+    let table = table_for(command, &names, &mut warnings)?;
     warnings.iter().for_each(|it| say(format_args!("warning: {it}")));
     notes.iter().for_each(|it| say(format_args!("{it}")));
-    if let Some(path) = &command.names {
-        let table = table_of(&names)?;
-        if table.len() as u64 > LONGEST {
-            say(format_args!(
-                "warning: {path} has more than {LONGEST} bytes, so judge and draw do not read it"
-            ));
-        }
+    refuse_warnings(&warnings, command.is_strict)?;
+    if let (Some(path), Some(table)) = (&command.names, table) {
         write_names(path, &command.history, &table)?;
     }
     put_out(&text)
