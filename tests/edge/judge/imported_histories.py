@@ -252,6 +252,37 @@ def joined_logs(program, report):
     report.answers("import: --by-time: a completion before its invocation", program.run("import", "--by-time", early), "", 2, why)
 
 
+# A history with a warning of each sort, and the options with which it has one.
+WARNED = (
+    (GOES_ON, ()),
+    (RELEASED, ()),
+    (FIRST_LOG + SECOND_LOG, ()),
+    (FIRST_LOG + SECOND_LOG, ("--by-time",)),
+    ("{:process 0, :type :invoke, :f :dequeue}\n{:process 0, :type :fail, :f :dequeue, :error :empty}\n", ()),
+    ("{:process 0, :type :invoke, :f :dequeue}\n{:process 0, :type :ok, :f :dequeue}\n", ("--initial", "0")),
+    ('{:process 0, :type :invoke, :f :lock, :value "OK"}\n', ()),
+    ("{:process 0, :type :invoke, :f :read, :time 1.5}\n", ()),
+)
+STRICT = "fcbench: nothing is written, since there is a warning and --strict is given"
+
+
+def strict_imports(program, report):
+    """With --strict a history with a warning ends with 2: after the lines that it has without, one says so, and neither a text nor a table is
+    written. One without a warning is imported as without it."""
+    names = f"{program.folder}/strict.names.edn"
+    for text, options in WARNED:
+        path = program.write("strict.edn", text)
+        ran = program.run("import", *options, path)
+        strict = program.run("import", "--strict", "--names", names, *options, path)
+        report.equal(f"import {options}: a warning: {text}", (0, True), (ran.status, bool(warnings_of(ran))), ran.err)
+        came = strict.status, strict.out, strict.err.decode().splitlines()[-1], warnings_of(strict), os.path.exists(names)
+        report.equal(f"import --strict {options}: {text}", (2, b"", STRICT, warnings_of(ran), False), came, strict.err)
+    path = program.write("strict.edn", '{:process 0, :type :invoke, :f :write, :value "a", :object :x}\n')
+    ran, strict = (program.run("import", *options, path) for options in ((), ("--strict", "--names", names)))
+    came = strict.status, strict.out, warnings_of(strict), os.path.exists(names)
+    report.equal("import --strict: lines that only count", (0, ran.out, [], True), came, strict.err)
+
+
 # ---- generated files
 
 FILES = 500
@@ -344,4 +375,4 @@ def generated_files(program, report):
     return f"{FILES} files"
 
 
-PARTS = (imports, failed_operations, failed_swaps, standard_input, imports_are_refused, owners_of_locks, joined_logs, generated_files)
+PARTS = (imports, failed_operations, failed_swaps, standard_input, imports_are_refused, owners_of_locks, joined_logs, strict_imports, generated_files)

@@ -1,10 +1,12 @@
 """Texts in the format of fcbench, which import takes as they are, and changed ones, of which it says what it does not take as it is."""
+import os
 import random
 import re
 
 from ..running import at_once
 
-TEXTS = 500
+# How many texts are drawn. By hand: IMPORTED_TEXTS=20000 tests/run PROGRAM drawn_texts
+TEXTS = int(os.environ.get("IMPORTED_TEXTS", 500))
 # An argument of each function, and its replies, with numbers from a few for v. The functions of a kind.
 KINDS = (
     {"enqueue": ("v", "="), "dequeue": ("nil", "v nil")},
@@ -142,6 +144,27 @@ OF_FAILED = re.compile(r"fcbench: warning: left out: \d+ failed .*")
 OTHER_REPLY = b"its argument"
 
 
+EVENT = re.compile(r"({:process (.*), :type :(\w+), :f :[\w-]+, :value )(.*)(, :object .*)")
+
+
+def without_ignored(text):
+    """The lines of a text without what no command reads, and import leaves out in silence: errors, marks that are nil, the argument that a :fail or
+    an :info repeats, and of the nemesis all but its function and its marks."""
+    lines, arguments = [], {}
+    for it in text.splitlines():
+        event = re.sub(r", :error :\w+|, :index nil", "", it)
+        begin, process, kind, value, end = EVENT.fullmatch(event).groups() if EVENT.fullmatch(event) else (event, None, "", "", "")
+        if kind == "invoke":
+            arguments[process] = value
+        elif kind in ("fail", "info") and value == arguments.get(process):
+            value = "nil"
+        event = f"{begin}{value}{end}"
+        if event.startswith("{:process :nemesis, "):
+            event = re.sub(r", :type :\w+|, :value nil, :object .*?(?=, :time|, :index|}$)", "", event)
+        lines.append(event)
+    return lines
+
+
 def wrong_import(program, seed, verdict):
     """What is wrong with the import of a drawn text, or None."""
     text, file, how = drawn(seed)
@@ -150,6 +173,8 @@ def wrong_import(program, seed, verdict):
     said = [it for it in ran.err.decode().splitlines() if not OF_FAILED.fullmatch(it)]
     if how != "changed" or (not said and ran.out.decode() == file):
         return None if (ran.status, ran.out.decode(), said) == (0, text if how != "changed" else file, []) else f"{file} {ran}"
+    if ran.status == 0 and not said and without_ignored(ran.out.decode()) != without_ignored(file):
+        return f"changed without a line on standard error: {file} {ran}"
     own = verdict(program, path)
     after = verdict(program, program.write(f"drawn.{seed}.text.edn", ran.out)) if ran.status == 0 else "malformed"
     is_told = any(re.search(r"line \d|--[a-z]", it) for it in said)
@@ -159,7 +184,8 @@ def wrong_import(program, seed, verdict):
 
 def drawn_texts(program, report):
     """A text that is taken as it is, in any spelling, is written as it was, without a line on standard error. One in which something was changed has
-    the same verdict after import; or it was malformed, and import names the lines, or an option, by which it is judged."""
+    the same verdict after import; or it was malformed, and import names the lines, or an option, by which it is judged. Nothing is written otherwise
+    than in the text without a line on standard error."""
     for seed, wrong in enumerate(at_once(lambda seed: wrong_import(program, seed, found), range(TEXTS))):
         report.equal(f"import: drawn text {seed}", None, wrong)
     return f"{TEXTS} texts"

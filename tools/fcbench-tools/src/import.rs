@@ -15,9 +15,9 @@ pub const GZIP: [u8; 2] = [0x1f, 0x8b];
 
 /// The bytes of the longest history that is imported: 4 GiB. It may be longer than a text that is
 /// judged, since `split` divides what is written.
-const LONGEST_IMPORTED: u64 = 1 << 32;
+const LONGEST_ORIGINAL: u64 = 1 << 32;
 
-/// Reads a text of at most so many bytes.
+/// Reads a text. One that has more bytes than this is an error.
 fn read_text(file: impl Read, most: u64) -> io::Result<String> {
     let mut bytes = Vec::new();
     let length = file.take(most + 1).read_to_end(&mut bytes)?;
@@ -45,7 +45,7 @@ fn text_of(path: &str, most: u64) -> Result<String, Status> {
 
 fn imported(command: &Import) -> Result<Imported, Status> {
     let path = &command.history;
-    let text = text_of(path, LONGEST_IMPORTED)?;
+    let text = text_of(path, LONGEST_ORIGINAL)?;
     ::import::import(&text, &command.options).map_err(|refused| {
         say(format_args!("{path}, {refused}"));
         Status::MALFORMED
@@ -64,18 +64,39 @@ fn table_of(names: &Names) -> Result<String, Status> {
     }
 }
 
+/// Refuses a history with warnings, if they are strict.
+fn refuse_warnings(warnings: &[String], is_strict: bool) -> Result<(), Status> {
+    if is_strict && !warnings.is_empty() {
+        say(format_args!("nothing is written, since there is a warning and --strict is given"));
+        return Err(Status::MALFORMED);
+    }
+    Ok(())
+}
+
+/// The text of the table for its file, if one is asked for. A long one is warned of.
+fn table_for(
+    command: &Import,
+    names: &Names,
+    warnings: &mut Vec<String>,
+) -> Result<Option<String>, Status> {
+    let Some(path) = &command.names else { return Ok(None) };
+    let table = table_of(names)?;
+    if table.len() as u64 > LONGEST {
+        warnings.push(format!(
+            "{path} has more than {LONGEST} bytes, so judge and draw do not read it"
+        ));
+    }
+    Ok(Some(table))
+}
+
 /// Writes the text of a history to standard output, and the table of names to its file.
 fn try_import(command: &Import) -> Result<(), Status> {
-    let Imported { text, names, warnings, notes, .. } = imported(command)?;
+    let Imported { text, names, mut warnings, notes, .. } = imported(command)?;
+    let table = table_for(command, &names, &mut warnings)?;
     warnings.iter().for_each(|it| say(format_args!("warning: {it}")));
     notes.iter().for_each(|it| say(format_args!("{it}")));
-    if let Some(path) = &command.names {
-        let table = table_of(&names)?;
-        if table.len() as u64 > LONGEST {
-            say(format_args!(
-                "warning: {path} has more than {LONGEST} bytes, so judge and draw do not read it"
-            ));
-        }
+    refuse_warnings(&warnings, command.is_strict)?;
+    if let (Some(path), Some(table)) = (&command.names, table) {
         write_names(path, &command.history, &table)?;
     }
     put_out(&text)

@@ -8,6 +8,8 @@ use std::collections::BTreeMap;
 pub enum Change {
     /// An owner of an object whose operations name none in the text.
     Owner,
+    /// An argument that may be an owner, and is read as the answer that a call was done.
+    NoOwner,
     /// A reply of an operation that acquires or releases, and is neither its owner nor says that it
     /// was done.
     Token,
@@ -63,6 +65,7 @@ impl Change {
     fn words(self) -> (&'static str, &'static str) {
         match self {
             Change::Owner => ("left out", "owners"),
+            Change::NoOwner => ("read as no owner", "arguments"),
             Change::Token => ("left out", "replies of operations that acquire or release"),
             Change::GoesOn => ("renumbered", "processes that go on after their :info"),
             Change::NoClient => ("left out", "events of processes that are keywords"),
@@ -85,6 +88,9 @@ impl Change {
         match self {
             Change::Owner => {
                 ": who lets go of what another one holds is not judged. Use --owners, which keeps them"
+            }
+            Change::NoOwner => {
+                ": it says that a call was done, so the object is a mutex. Give the owner another name if it is one"
             }
             Change::Token => {
                 ": fencing tokens, and owners that a reply alone names, are not judged"

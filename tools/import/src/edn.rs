@@ -1,8 +1,7 @@
 //! Reads EDN, with all that a store of Jepsen may hold: tagged elements, sets, lists, characters
 //! and floats. What is no EDN, such as metadata, is refused. <https://github.com/edn-format/edn>
 
-use crate::form::{Entries, Form, ends_word};
-use crate::visible::is_plain;
+use crate::form::{Entries, Form, ends_word, is_name, is_of_word, is_space};
 
 /// What is wrong with a text, and at which line.
 #[derive(Clone, Debug, PartialEq, Eq)]
@@ -53,14 +52,15 @@ impl<'a> Reader<'a> {
         Some(character)
     }
 
-    /// Passes over separators and comments.
+    /// Passes over separators and comments. A comment ends with its line, or before a carriage
+    /// return.
     fn pass_separators(&mut self) {
         while let Some(character) = self.peek() {
             if character == ';' {
-                while self.peek().is_some_and(|it| it != '\n') {
+                while self.peek().is_some_and(|it| !matches!(it, '\n' | '\r')) {
                     self.next();
                 }
-            } else if character.is_whitespace() || character == ',' {
+            } else if is_space(character) {
                 self.next();
             } else {
                 return;
@@ -197,6 +197,9 @@ impl<'a> Reader<'a> {
     /// A tag and its form.
     fn tagged(&mut self, open: usize) -> Result<Form, Malformed> {
         let tag = self.word()?;
+        if !is_name(tag) {
+            return self.malformed(format!("#{tag} is no tag"));
+        }
         self.pass_within(open)?;
         if self.peek().is_none() {
             return self.malformed(format!("the text ends after the tag #{tag}"));
@@ -222,22 +225,21 @@ impl<'a> Reader<'a> {
         self.next();
         let space = self.word()?.to_owned();
         self.pass_separators();
-        if space.is_empty() || space.starts_with(':') || self.peek() != Some('{') {
+        if !is_name(&space) || space.contains('/') || self.peek() != Some('{') {
             return self.malformed("#: without a namespace and its map");
         }
-        let in_space = |name: String| match name.strip_prefix("_/") {
-            Some(name) => name.to_owned(),
-            None if name.contains('/') => name,
-            None => format!("{space}/{name}"),
-        };
-        let named = |key| match key {
-            Form::Keyword(name) => Form::Keyword(in_space(name)),
-            other => other,
-        };
         let Form::Map(entries) = self.map(open)? else {
             return self.malformed("#: without a map");
         };
-        Ok(Form::map(entries.into_iter().map(|(key, value)| (named(key), value)).collect()))
+        let mut named = Entries::default();
+        for (key, value) in entries {
+            let key = in_namespace(&space, key);
+            if named.has(&key) {
+                return self.malformed(twice(&key));
+            }
+            named.push(key, value);
+        }
+        Ok(named.into_map())
     }
 
     /// The characters up to the end of a word.
@@ -245,7 +247,7 @@ impl<'a> Reader<'a> {
         let rest = self.rest();
         let word = &rest[..rest.find(ends_word).unwrap_or(rest.len())];
         self.place += word.len();
-        match word.chars().find(|it| !is_plain(*it)) {
+        match word.chars().find(|it| !is_of_word(*it)) {
             Some(hidden) => {
                 self.malformed(format!("a word with the character {}", hidden.escape_unicode()))
             }
@@ -256,7 +258,7 @@ impl<'a> Reader<'a> {
     /// A character, as `\a` or `\newline`.
     fn character(&mut self) -> Result<Form, Malformed> {
         self.next();
-        let Some(first) = self.peek().filter(|it| !it.is_whitespace() && is_plain(*it)) else {
+        let Some(first) = self.peek().filter(|it| is_of_word(*it)) else {
             return self.malformed("a backslash without a character");
         };
         self.next();
@@ -329,12 +331,37 @@ impl<'a> Reader<'a> {
             "nil" => Form::Nil,
             "true" => Form::Bool(true),
             "false" => Form::Bool(false),
-            _ => match word.strip_prefix(':') {
-                Some("") => return self.malformed("a colon without a keyword"),
-                Some(name) => Form::Keyword(name.to_owned()),
-                None => number(word).unwrap_or_else(|| Form::Symbol(word.to_owned())),
+            ":" => return self.malformed("a colon without a keyword"),
+            _ => match (word.strip_prefix(':'), number(word)) {
+                (_, Some(number)) => number,
+                (Some(name), None) if is_name(name) => Form::Keyword(name.to_owned()),
+                (None, None) if is_symbol(word) => Form::Symbol(word.to_owned()),
+                _ => return self.malformed(format!("{word} is no form of EDN")),
             },
         })
+    }
+}
+
+/// Whether a word may be a symbol. One that begins as a number is none, and no value, but Java
+/// prints such words.
+fn is_symbol(word: &str) -> bool {
+    let is_fraction = without_sign(word).strip_prefix('.').is_some_and(begins_number);
+    word == "/" || (is_name(word) && !is_fraction)
+}
+
+/// The key of a map whose namespace is before it, with its namespace.
+fn in_namespace(space: &str, key: Form) -> Form {
+    let in_space = |name: String| match name.strip_prefix("_/") {
+        Some(name) => name.to_owned(),
+        None if name.contains('/') => name,
+        None => format!("{space}/{name}"),
+    };
+    match key {
+        Form::Keyword(name) => Form::Keyword(in_space(name)),
+        Form::Symbol(name) if !name.starts_with('\\') && !begins_number(&name) => {
+            Form::Symbol(in_space(name))
+        }
+        other => other,
     }
 }
 
@@ -352,7 +379,7 @@ const NAMED: [(char, &str); 6] = [
 fn spelled(character: char) -> String {
     match NAMED.into_iter().find(|(it, _)| *it == character) {
         Some((_, name)) => format!("\\{name}"),
-        None if is_plain(character) && !character.is_whitespace() => format!("\\{character}"),
+        None if is_of_word(character) => format!("\\{character}"),
         None => format!("\\u{:04x}", u32::from(character)),
     }
 }
@@ -445,6 +472,11 @@ mod tests {
             ("#uuid \"0A\" #ver/a 1", "#uuid \"0a\" #ver/a 1"),
             ("##NaN ##Inf ##-Inf 1", "##NaN ##Inf ##-Inf 1"),
             ("#:a{:b 1, :_/c 2, :d/e 3}", "{:a/b 1, :c 2, :d/e 3}"),
+            ("#:a{b 1, _/c 2, \\d 3, \"e\" 4}", "{\"e\" 4, \\d 3, a/b 1, c 2}"),
+            (". .a -a -.a / a/b +/- a:b :a:b :7 :a/7", ". .a -a -.a / a/b +/- a:b :a:b :7 :a/7"),
+            ("1 ; 2\r3 ; \u{a0}\n4", "1 3 4"),
+            ("\"\u{a0}\u{2003}\"", "\"\u{a0}\u{2003}\""),
+            ("1\t2\u{b}3\u{c}4\r5", "1 2 3 4 5"),
             ("\\space \\u0041 \\( \\u0020 \\u001b \\\\", "\\space \\A \\( \\space \\u001b \\\\"),
             ("\"\u{1b}[2J\u{9b}\u{202e}\"", "\"\\u001b[2J\\u009b\\u202e\""),
             ("#\"\\d\\\"\" 1", "#\"\\\\d\\\\\\\"\" 1"),
@@ -517,6 +549,35 @@ mod tests {
             ":a\u{1b}[2J",
             "a\u{202e}b",
             "#a\u{9b} 1",
+            "[1\u{a0}2]",
+            "[:a\u{85}]",
+            "a\u{2007}b",
+            "{:a\u{202f}1}",
+            "1 \u{3000}",
+            "\u{1680}1",
+            "#a\u{2003}1",
+            "#_\u{a0}1 2",
+            "\\a\u{a0}",
+            ".5",
+            "-.5",
+            "+.5",
+            "::a",
+            ":/",
+            ":/a",
+            ":a/",
+            ":a/b/c",
+            "a/",
+            "/a",
+            "a/b/c",
+            "a//",
+            "a@b",
+            ":a^b",
+            "a\\b",
+            "#a/ 1",
+            "#a/b/c 1",
+            "#:a/b{:c 1}",
+            "#:a{:b 1, :a/b 2}",
+            "#:a{:_/b 1, b 1 :a/c 1 :c 1}",
         ] {
             assert!(read(text).is_err(), "{text}: {:?}", read(text));
         }

@@ -35,11 +35,8 @@ pub fn is_class(tag: &str) -> bool {
 impl Form {
     /// The key of an object of JSON: a keyword, or a string if it can be none.
     pub fn key(name: String) -> Form {
-        if name.is_empty() || name.contains(|it| ends_word(it) || !is_plain(it)) {
-            Form::Str(name)
-        } else {
-            Form::Keyword(name)
-        }
+        let is_word = !name.contains(|it| ends_word(it) || !is_of_word(it));
+        if is_word && is_name(&name) { Form::Keyword(name) } else { Form::Str(name) }
     }
 
     /// A set of these items.
@@ -158,9 +155,29 @@ fn write_string(f: &mut Formatter<'_>, text: &str) -> fmt::Result {
     f.write_str("\"")
 }
 
+/// Whether a character separates forms. Of other spaces Clojure takes some as parts of a word.
+pub fn is_space(character: char) -> bool {
+    character.is_ascii() && character.is_whitespace() || character == ','
+}
+
 /// Whether a character ends a word.
 pub fn ends_word(character: char) -> bool {
-    character.is_whitespace() || ",()[]{}\";".contains(character)
+    is_space(character) || "()[]{}\";".contains(character)
+}
+
+/// Whether a word may have this character: one that is shown, and is no space.
+pub fn is_of_word(character: char) -> bool {
+    is_plain(character) && !character.is_whitespace()
+}
+
+/// Whether a word can be the name of a symbol or keyword: it begins with no colon, has at most one
+/// slash, between two parts, and no character that Clojure takes as the beginning of another form.
+pub fn is_name(word: &str) -> bool {
+    let has_parts = match word.split_once('/') {
+        Some((space, name)) => !space.is_empty() && !name.is_empty() && !name.contains('/'),
+        None => !word.is_empty(),
+    };
+    has_parts && !word.starts_with(':') && !word.contains(['^', '@', '`', '~', '\\'])
 }
 
 /// As EDN has it, in one line.

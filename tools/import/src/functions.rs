@@ -43,6 +43,12 @@ fn is_whole(number: &str) -> bool {
     !number.contains(['.', 'e', 'E', 'M', '/', '#'])
 }
 
+/// Whether equal forms with this tag, and a form that is the same, are spelled the same. Patterns
+/// are not compared, and an instant has many spellings.
+fn is_comparable(tag: &str) -> bool {
+    !["", "inst"].contains(&tag)
+}
+
 /// Whether a form can be a value: an integer of 64 bits, or a name. Names are compared for
 /// equality, and for nothing else.
 pub fn is_value(form: &Form) -> bool {
@@ -50,7 +56,7 @@ pub fn is_value(form: &Form) -> bool {
         Form::Int(_) | Form::Bool(_) | Form::Str(_) | Form::Keyword(_) => true,
         Form::Symbol(word) => !begins_number(word),
         Form::Number(text) => is_whole(text),
-        Form::Tagged(tag, form) => !tag.is_empty() && is_value(form),
+        Form::Tagged(tag, form) => is_comparable(tag) && is_value(form),
         _ => false,
     }
 }
@@ -60,10 +66,22 @@ pub fn is_value(form: &Form) -> bool {
 pub fn is_object(form: &Form) -> bool {
     match form {
         Form::Number(text) => is_whole(text),
-        Form::Tagged(tag, form) => !tag.is_empty() && is_object(form),
+        Form::Tagged(tag, form) => is_comparable(tag) && is_object(form),
         Form::Vector(items) | Form::Set(items) => items.iter().all(is_object),
         Form::Map(entries) => entries.iter().all(|(key, value)| is_object(key) && is_object(value)),
         _ => true,
+    }
+}
+
+/// Whether an instant is in a form that is refused.
+pub fn has_instant(form: &Form) -> bool {
+    match form {
+        Form::Tagged(tag, form) => tag == "inst" || has_instant(form),
+        Form::Vector(items) | Form::Set(items) => items.iter().any(has_instant),
+        Form::Map(entries) => {
+            entries.iter().any(|(key, value)| has_instant(key) || has_instant(value))
+        }
+        _ => false,
     }
 }
 
@@ -80,7 +98,7 @@ pub fn is_owner(form: &Form) -> bool {
         Form::Int(number) => *number > 0,
         Form::Str(_) => true,
         Form::Symbol(word) => !begins_number(word),
-        Form::Tagged(tag, form) => !tag.is_empty() && is_value(form),
+        Form::Tagged(tag, form) => is_comparable(tag) && is_value(form),
         Form::Map(entries) => {
             !entries.is_empty()
                 && entries.iter().all(|(_, value)| *value != Form::Nil && is_owner(value))

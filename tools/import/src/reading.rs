@@ -5,7 +5,9 @@ use crate::convert::Options;
 use crate::events::{Entry, Event, Kind, NemesisEvent, Said, is_nemesis, name_of, said};
 use crate::failures::{Failures, error_of};
 use crate::form::Form;
-use crate::functions::{function, is_done, is_object, is_owner, is_value, shape_words};
+use crate::functions::{
+    function, has_instant, is_done, is_object, is_owner, is_value, shape_words,
+};
 use crate::holding::{Holding, names_owner, owned_objects};
 use crate::operations::{Operation, Refused};
 use finder::{Function, Shape, function_names};
@@ -168,7 +170,11 @@ impl<'a> State<'a> {
     }
 
     fn refuse_value(&self, value: &Form, function: &Function, shape: Shape, what: &str) -> String {
-        let advice = if self.is_keyed || value.as_pair().is_none() {
+        let advice = if has_instant(value) {
+            ". Equal instants may be spelled differently: record a string"
+        } else if what == "argument" && function.kind.has_owner() && is_done(value) {
+            ". It names no owner"
+        } else if self.is_keyed || value.as_pair().is_none() {
             ""
         } else {
             ". If it is a tuple of jepsen.independent, use --independent"
@@ -201,7 +207,7 @@ impl<'a> State<'a> {
         match object {
             Some(object) if is_object(&object) => Ok((object, value)),
             Some(object) => Err(format!(
-                "{object} cannot be an object or key: it has a number or pattern of which equal ones may be spelled differently"
+                "{object} cannot be an object or key: it has a number, pattern or instant of which equal ones may be spelled differently"
             )),
             None if self.is_keyed => {
                 Err(format!("{value} is not a tuple [key value], unlike other values"))
@@ -237,12 +243,13 @@ impl<'a> State<'a> {
             return names_owner(value).then(|| Said::One(value.clone()));
         }
         let argument = argument_of(function.argument, value)?;
-        if names_owner(value) {
-            let example = || format!("{value} of :{}", function.name);
-            self.changes.note(Change::Owner, at.line, example);
-        } else if *value != Form::Nil {
-            self.changes.note(Change::Reply, at.line, || format!("{value} of :{}", function.name));
-        }
+        let change = match value {
+            Form::Nil => return Some(argument),
+            owner if names_owner(owner) => Change::Owner,
+            Form::Str(_) | Form::Keyword(_) => Change::NoOwner,
+            _ => Change::Reply,
+        };
+        self.changes.note(change, at.line, || format!("{value} of :{}", function.name));
         Some(argument)
     }
 

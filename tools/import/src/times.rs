@@ -54,43 +54,68 @@ fn kind_of(map: &Form) -> Option<Kind> {
     Kind::read(said(map, "type"))
 }
 
-/// The place of the first completion of which the process has no operation outstanding.
-fn first_early(sorted: &[Operation]) -> Option<usize> {
-    let mut outstanding: HashMap<&Form, usize> = HashMap::new();
-    for (place, Operation { map, .. }) in sorted.iter().enumerate() {
+/// The invocation of each completion, both by their places in the history: the last one of its
+/// process above it that no other completion has.
+fn invocations<'a>(all: impl Iterator<Item = (usize, &'a Operation)>) -> HashMap<usize, usize> {
+    let (mut open, mut found) = (HashMap::<&Form, Vec<usize>>::new(), HashMap::new());
+    for (place, Operation { map, .. }) in all {
         let process = said(map, "process");
-        let count = outstanding.entry(process).or_default();
+        let of_process = open.entry(process).or_default();
         match kind_of(map).filter(|_| !is_nemesis(process)) {
             None => {}
-            Some(Kind::Invoke) => *count += 1,
-            Some(_) if *count == 0 => return Some(place),
-            Some(_) => *count -= 1,
+            Some(Kind::Invoke) => of_process.push(place),
+            Some(_) => found.extend(of_process.pop().map(|invoked| (place, invoked))),
         }
     }
-    None
+    found
 }
 
-/// Refuses a completion that comes before the invocation of its process. If there is none at all,
-/// it is refused when it is read.
-fn refuse_early_completions(sorted: &[Operation]) -> Result<(), Refused> {
-    let Some(place) = first_early(sorted) else { return Ok(()) };
-    let Operation { line, map } = &sorted[place];
-    let process = said(map, "process");
-    let invokes = |it: &&Operation| {
-        said(&it.map, "process") == process && kind_of(&it.map) == Some(Kind::Invoke)
+/// The operations by their times, each with its place in the history.
+type Sorted = [(usize, Operation)];
+
+/// The first completion that comes before its invocation, or that another one would have: its place,
+/// and its own invocation in the history, if one is above it there.
+fn first_wrong(sorted: &Sorted, above: &HashMap<usize, usize>) -> Option<(usize, Option<usize>)> {
+    let by_times = invocations(sorted.iter().map(|(origin, operation)| (*origin, operation)));
+    let is_completion = |map: &Form| {
+        !is_nemesis(said(map, "process")) && kind_of(map).is_some_and(|it| it != Kind::Invoke)
     };
-    let Some(invoked) = sorted[place..].iter().find(invokes) else { return Ok(()) };
+    sorted.iter().enumerate().find_map(|(place, (origin, Operation { map, .. }))| {
+        let (own, found) = (above.get(origin), by_times.get(origin));
+        let is_wrong = found.is_none() || (own.is_some() && own != found);
+        (is_wrong && is_completion(map)).then(|| (place, own.copied()))
+    })
+}
+
+/// Refuses a completion that comes before its invocation, or that another invocation would get. If
+/// the history has none above it, its invocation may be anywhere. If there is none at all, it is
+/// refused when it is read.
+fn refuse_other_pairs(sorted: &Sorted, above: &HashMap<usize, usize>) -> Result<(), Refused> {
+    let Some((place, own)) = first_wrong(sorted, above) else { return Ok(()) };
+    let Operation { line, map } = &sorted[place].1;
+    let process = said(map, "process");
+    let is_own = |(origin, it): &&(usize, Operation)| match own {
+        Some(own) => *origin == own,
+        None => said(&it.map, "process") == process && kind_of(&it.map) == Some(Kind::Invoke),
+    };
+    let wrong = match (sorted[place..].iter().find(is_own), own) {
+        (Some((_, invoked)), _) => format!("is before its :invoke in line {}", invoked.line),
+        (None, None) => return Ok(()),
+        (None, Some(_)) => {
+            let invoked = sorted.iter().find(is_own).map_or(0, |(_, invoked)| invoked.line);
+            format!(
+                "is the completion of another :invoke than that in line {invoked}, which is its own"
+            )
+        }
+    };
     let kind = kind_of(map).map_or("", Kind::word);
-    let why = format!(
-        "operation {place}: by its :time the :{kind} of process {process} is before its :invoke in line {}",
-        invoked.line
-    );
+    let why = format!("operation {place}: by its :time the :{kind} of process {process} {wrong}");
     Err(Refused { line: *line, why })
 }
 
 /// The operations by their times, and how many have another place then. Equal times stay in their
 /// order. One without a time stays after the one before it.
-fn by_time(all: Vec<Operation>) -> (Vec<Operation>, usize) {
+fn by_time(all: Vec<Operation>) -> (Vec<(usize, Operation)>, usize) {
     let mut last = i64::MIN;
     let mut timed: Vec<(i64, usize, Operation)> = Vec::with_capacity(all.len());
     for (place, operation) in all.into_iter().enumerate() {
@@ -99,7 +124,7 @@ fn by_time(all: Vec<Operation>) -> (Vec<Operation>, usize) {
     }
     timed.sort_by_key(|(time, place, _)| (*time, *place));
     let moved = timed.iter().enumerate().filter(|(place, it)| *place != it.1).count();
-    (timed.into_iter().map(|(_, _, operation)| operation).collect(), moved)
+    (timed.into_iter().map(|(_, place, operation)| (place, operation)).collect(), moved)
 }
 
 /// The operations in the order that is judged, and what the user should know of it.
@@ -113,13 +138,14 @@ pub fn ordered(
     }
     refuse_other_times(&all)?;
     let count = all.len();
+    let above = invocations(all.iter().enumerate());
     let (sorted, moved) = by_time(all);
-    if moved == 0 {
-        return Ok((sorted, None));
-    }
-    refuse_early_completions(&sorted)?;
     let warning = format!(
         "--by-time moved {moved} of {count} operations: events are numbered by their new places"
     );
-    Ok((sorted, Some(warning)))
+    let warning = (moved > 0).then_some(warning);
+    if moved > 0 {
+        refuse_other_pairs(&sorted, &above)?;
+    }
+    Ok((sorted.into_iter().map(|(_, operation)| operation).collect(), warning))
 }

@@ -125,6 +125,66 @@ fn owners_that_are_left_out_are_counted_with_the_option() {
     assert!(imported(&of_both).warnings[0].starts_with("left out: 2 owners, "));
 }
 
+/// What also says that a call was done is no owner, and the object is a mutex.
+#[test]
+fn an_owner_that_is_read_as_none_is_named() {
+    for owner in ["\"OK\"", ":ok"] {
+        let text = call("0", "lock", 0, owner, "nil") + &call("1", "unlock", 0, owner, "nil");
+        let read = imported(&text);
+        let wanted = format!(
+            "read as no owner: 2 arguments, such as {owner} of :acquire (first in line 1): it says that a call was done, so the object \
+             is a mutex. Give the owner another name if it is one"
+        );
+        assert_eq!(read.warnings, [wanted]);
+        assert!(read.text.contains(":f :acquire, :value nil,"), "{}", read.text);
+        assert!(refused(&text, &owners()).ends_with(". It names no owner"));
+        let mixed = call("0", "lock", 0, "\"a\"", "nil") + &call("1", "unlock", 0, owner, "nil");
+        let warnings = imported(&mixed).warnings;
+        let wanted =
+            format!("read as no owner: 1 arguments, such as {owner} of :release (first in line 3)");
+        assert!(warnings.iter().any(|it| it.starts_with(&wanted)), "{warnings:?}");
+    }
+    let reply = call("0", "lock", 0, "\"a\"", "\"OK\"");
+    assert_eq!(imported(&reply).warnings, [""; 0]);
+}
+
+/// Two spellings of one instant would be two names.
+#[test]
+fn an_instant_is_no_name() {
+    let instant = "#inst \"2020-01-01T00:00:00.000Z\"";
+    let wanted = "cannot be an object or key: it has a number, pattern or instant of which equal ones may be spelled differently";
+    for object in [
+        instant.to_owned(),
+        format!("[{instant}]"),
+        format!("{{:a #{{{instant}}}}}"),
+        format!("#a {instant}"),
+    ] {
+        let text =
+            call("0", "write", 0, "1", "1").replace(":object 0", &format!(":object {object}"));
+        let said = format!("line 1: operation 0: {object} {wanted}");
+        assert_eq!(refused(&text, &Options::default()), said);
+    }
+    let tuple = call("0", "read", 0, &format!("[{instant} nil]"), "nil").replace(", :object 0", "");
+    assert!(refused(&tuple, &Options::default()).ends_with(wanted));
+    let advice = ". Equal instants may be spelled differently: record a string";
+    for (f, value) in [
+        ("write", instant.to_owned()),
+        ("write", format!("#a {instant}")),
+        ("put", format!("[{instant} 1]")),
+        ("put", format!("[1 {instant}]")),
+        ("acquire", instant.to_owned()),
+        ("lock", format!("{{:since {instant}}}")),
+    ] {
+        let said = refused(&call("0", f, 0, &value, "nil"), &Options::default());
+        assert!(said.ends_with(advice), "{f} {value}: {said}");
+    }
+    let read = call("0", "read", 0, "nil", instant);
+    assert!(refused(&read, &Options::default()).ends_with(advice));
+    let other =
+        call("0", "write", 0, "1", "1").replace(":object 0", &format!(":object 0, :at {instant}"));
+    assert_eq!(imported(&other).warnings, [""; 0]);
+}
+
 #[test]
 fn fencing_tokens_are_counted() {
     let token = "left out: 2 replies of operations that acquire or release, such as 17 of";
@@ -284,6 +344,38 @@ fn times_that_cannot_be_sorted_are_refused() {
         refused(&alone, &by_time()),
         "line 2: operation 0: process 1 has no operation to complete"
     );
+}
+
+/// Times never give a completion to another invocation than that above it.
+#[test]
+fn a_completion_keeps_its_invocation() {
+    let exchanged = timed(0, "invoke", "1", "10")
+        + &timed(0, "ok", "1", "40")
+        + &timed(0, "invoke", "2", "30")
+        + &timed(0, "ok", "2", "20");
+    let wanted =
+        "line 4: operation 1: by its :time the :ok of process 0 is before its :invoke in line 3";
+    assert_eq!(refused(&exchanged, &by_time()), wanted);
+    let nested = timed(0, "invoke", "1", "10")
+        + &timed(0, "ok", "1", "40")
+        + &timed(0, "invoke", "2", "20")
+        + &timed(0, "ok", "2", "50");
+    let wanted = "line 2: operation 2: by its :time the :ok of process 0 is the completion of another :invoke than that in line 1, which is its own";
+    assert_eq!(refused(&nested, &by_time()), wanted);
+    let taken =
+        timed(0, "ok", "1", "20") + &timed(0, "invoke", "1", "10") + &timed(0, "ok", "1", "30");
+    let wanted = "line 3: operation 2: by its :time the :ok of process 0 is the completion of another :invoke than that in line 2, which is its own";
+    assert_eq!(refused(&taken, &by_time()), wanted);
+    // The completions of two logs, and after them the invocations.
+    let apart = timed(0, "ok", "1", "20")
+        + &timed(0, "ok", "2", "40")
+        + &timed(0, "invoke", "1", "10")
+        + &timed(0, "invoke", "2", "30");
+    let in_order = timed(0, "invoke", "1", "10")
+        + &timed(0, "ok", "1", "20")
+        + &timed(0, "invoke", "2", "30")
+        + &timed(0, "ok", "2", "40");
+    assert_eq!(made(&apart, &by_time()).text, imported(&in_order).text);
 }
 
 /// The lines on a history of one call, to which something was done.

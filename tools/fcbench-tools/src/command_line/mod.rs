@@ -60,6 +60,8 @@ pub struct Import {
     pub history: String,
     /// The file to write the table of names to, if one is asked for.
     pub names: Option<String>,
+    /// Whether nothing is written if there is a warning.
+    pub is_strict: bool,
     pub options: import::Options,
 }
 
@@ -125,7 +127,8 @@ fn import_of(mut words: Words) -> Result<Import, Fault> {
         initial: words.take_form("--initial")?.flatten(),
     };
     let names = words.take_value("--names");
-    Ok(Import { history: words.files()?.0, names, options })
+    let is_strict = words.take_flag("--strict");
+    Ok(Import { history: words.files()?.0, names, is_strict, options })
 }
 
 fn draw_of(mut words: Words) -> Result<Draw, Fault> {
@@ -267,6 +270,7 @@ mod tests {
         let import = Import {
             history: "h.edn".into(),
             names: Some("n.edn".into()),
+            is_strict: true,
             options: import::Options {
                 is_independent: true,
                 replies: import::Replies::usual(),
@@ -276,7 +280,7 @@ mod tests {
                 initial: import::form_of("0"),
             },
         };
-        let line = "import --independent --names n.edn --initial 0 h.edn --fail-is-reply --by-time --check-owners";
+        let line = "import --independent --names n.edn --initial 0 h.edn --fail-is-reply --strict --by-time --check-owners";
         assert_eq!(parsed(line), Some(Command::Import(import)));
     }
 

@@ -227,6 +227,10 @@ pub const IMPORT: Syntax = Syntax {
             "VALUE",
             "what each register contains at first, or a map of objects or keys with their values: '{:x 0, :y 5}'",
         ),
+        &OptionSpec::flag(
+            "--strict",
+            "end with 2 and write nothing if there is a warning about the history",
+        ),
     ],
 };
 
