@@ -284,7 +284,7 @@ mod tests {
     }
 
     /// Command lines, and the sentence for each.
-    const REFUSED: [(&str, &str); 47] = [
+    const REFUSED: [(&str, &str); 50] = [
         ("", "a command is missing"),
         ("other h.edn", "no such command: 'other'"),
         ("-- judge h.edn", "no such command: '--'"),
