@@ -30,13 +30,9 @@ impl OfTwo {
         let is_ahead = |of: Option<Moment>| of.is_none_or(|it| precedes(moment.at, it.at));
         match self.first {
             Some(first) if first.process == moment.process => {
-                if is_ahead(self.first) {
-                    self.first = Some(moment);
-                }
+                self.first = Some(if is_ahead(self.first) { moment } else { first });
             }
-            _ if is_ahead(self.first) => {
-                self.other = self.first.replace(moment);
-            }
+            _ if is_ahead(self.first) => self.other = self.first.replace(moment),
             _ if is_ahead(self.other) => self.other = Some(moment),
             _ => {}
         }

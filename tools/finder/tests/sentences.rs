@@ -2,6 +2,7 @@
 
 use finder::{
     Counted, Facts, FirstEvent, Kind, Lost, LostValue, Pattern, Sentence, Undone, WhyUndone,
+    function,
 };
 
 fn kind(word: &str) -> Kind {
@@ -109,7 +110,7 @@ fn facts_beside_a_pattern_are_said() {
     };
     let undone =
         |count, why| Facts { undone: Some(Undone { first: 12, count, why }), ..Facts::default() };
-    let refused = |name| WhyUndone::Refused(Some(name));
+    let refused = |name: &str| WhyUndone::Refused(function(name.as_bytes()));
     let never = || Pattern::NeverSet(7);
     for (kind, facts, wanted) in [
         (

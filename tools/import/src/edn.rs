@@ -342,8 +342,8 @@ impl<'a> Reader<'a> {
     }
 }
 
-/// Whether a word may be a symbol. One that begins as a number is none, and no value, but Java
-/// prints such words.
+/// Whether a word may be a symbol. One that begins as a number is read too, since Java prints such
+/// words, but it can be no value.
 fn is_symbol(word: &str) -> bool {
     let is_fraction = without_sign(word).strip_prefix('.').is_some_and(begins_number);
     word == "/" || (is_name(word) && !is_fraction)

@@ -73,8 +73,8 @@ fn invocations<'a>(all: impl Iterator<Item = (usize, &'a Operation)>) -> HashMap
 /// The operations by their times, each with its place in the history.
 type Sorted = [(usize, Operation)];
 
-/// The first completion that comes before its invocation, or that another one would have: its place,
-/// and its own invocation in the history, if one is above it there.
+/// The first completion that comes before its invocation, or that another one would have: its
+/// place, and its own invocation in the history, if one is above it there.
 fn first_wrong(sorted: &Sorted, above: &HashMap<usize, usize>) -> Option<(usize, Option<usize>)> {
     let by_times = invocations(sorted.iter().map(|(origin, operation)| (*origin, operation)));
     let is_completion = |map: &Form| {

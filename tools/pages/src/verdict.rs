@@ -397,7 +397,7 @@ mod tests {
         let read = |lines| Verdict::read(lines).expect(lines);
         assert_eq!(
             read("yes: 4 operations, 1 objects\nqueue: 1 objects, 4 operations"),
-            Verdict::Yes
+            Verdict::Yes { operations: 4 }
         );
         let no = |object, fault| Verdict::No(Refusal::BadOrder { object, fault });
         assert_eq!(

@@ -298,7 +298,7 @@ mod tests {
     }
 
     /// Command lines, and the sentence for each.
-    const REFUSED: [(&str, &str); 49] = [
+    const REFUSED: [(&str, &str); 52] = [
         ("", "a command is missing"),
         ("other h.edn", "no such command: 'other'"),
         ("-- judge h.edn", "no such command: '--'"),

@@ -3,7 +3,7 @@
 
 use super::Pattern;
 use crate::history::{ObjectHistory, Operation};
-use crate::kinds::{Op, Reply};
+use crate::kinds::{Function, Op, Reply};
 
 /// Operations that would have put a value in, or set it, and did not: all failed, or all were
 /// refused.
@@ -11,7 +11,7 @@ use crate::kinds::{Op, Reply};
 pub struct Undone {
     /// The number of the first one's invocation.
     pub first: u32,
-    pub count: usize,
+    pub count: u32,
     pub why: WhyUndone,
 }
 
@@ -21,7 +21,7 @@ pub enum WhyUndone {
     Failed,
     /// The object contained something else than they ask for. All are of this function, if it is
     /// one.
-    Refused(Option<&'static str>),
+    Refused(Option<&'static Function>),
 }
 
 /// What a sentence says beside its pattern.
@@ -49,14 +49,15 @@ impl Undone {
         let refused = all(is_refused).filter(|_| history.kind.has_values_in_cells());
         let mut undone = failed.clone().chain(refused.clone());
         let first = undone.next()?;
+        // A history has fewer maps than that.
+        let undone = |count, why| Undone { first: first.number, count: count as u32, why };
         let count = failed.count();
         if count > 0 {
-            return Some(Undone { first: first.number, count, why: WhyUndone::Failed });
+            return Some(undone(count, WhyUndone::Failed));
         }
-        let name = first.op.name();
-        let is_one = refused.clone().all(|o| o.op.name() == name);
-        let why = WhyUndone::Refused(is_one.then_some(name));
-        Some(Undone { first: first.number, count: refused.count(), why })
+        let function = first.op.function;
+        let is_one = refused.clone().all(|o| o.op.function == function);
+        Some(undone(refused.count(), WhyUndone::Refused(is_one.then_some(function))))
     }
 }
 

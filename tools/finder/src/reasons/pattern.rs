@@ -189,15 +189,15 @@ impl Undone {
         let Undone { first, count, why } = self;
         match (count, why) {
             (1, WhyUndone::Failed) => format!("event {first}, which failed"),
-            (1, WhyUndone::Refused(name)) => {
-                let of = name.map_or(String::new(), |name| format!("the :{name} of "));
+            (1, WhyUndone::Refused(function)) => {
+                let of = function.map_or(String::new(), |it| format!("the :{} of ", it.name));
                 format!("{of}event {first}, which was refused")
             }
             (_, WhyUndone::Failed) => {
                 format!("{count} operations that failed, the first of them event {first}")
             }
-            (_, WhyUndone::Refused(name)) => {
-                let those = name.map_or("operations".to_owned(), |name| format!(":{name}"));
+            (_, WhyUndone::Refused(function)) => {
+                let those = function.map_or("operations".to_owned(), |it| format!(":{}", it.name));
                 format!("{count} {those} that were refused, the first of them event {first}")
             }
         }
