@@ -78,8 +78,9 @@ fn judge_answers_what_the_proved_program_answers() {
 fn judge_passes_steps_and_workers_on() {
     let says = "echo '; object 0: open'; printf '; %s\\n' \"$*\"";
     let program = script("steps", &format!("#!/bin/sh\ncat > /dev/null\n{says}\nexit 3\n"));
-    let history = example("queue.history.edn");
-    let words = ["judge", &history, "--steps", "17", "--workers", "3"];
+    let history = fs::canonicalize(example("queue.history.edn")).expect("a file");
+    let history = history.to_str().expect("a path");
+    let words = ["judge", history, "--steps", "17", "--workers", "3"];
     let (status, lines, _) = said(&run(&program, &words));
     let wanted =
         format!("; object 0: open\n; verify {history} /dev/stdin --workers 3 --steps 17\n");
