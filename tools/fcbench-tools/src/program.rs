@@ -5,7 +5,7 @@ use crate::system::{is_output_closed, tie};
 use import::visible;
 use std::env;
 use std::fs::{self, File, Metadata};
-use std::io::{self, IsTerminal, StdoutLock, Write};
+use std::io::{self, IsTerminal, Write};
 use std::os::unix::fs::{FileTypeExt, MetadataExt};
 use std::path::PathBuf;
 use std::process::{Child, Command, Stdio};
@@ -98,7 +98,7 @@ pub fn output_failed(error: io::Error) -> Status {
 }
 
 /// Standard output, unless this program was started without one.
-pub fn output() -> io::Result<StdoutLock<'static>> {
+pub fn output() -> io::Result<impl Write> {
     if is_output_closed() {
         return Err(io::Error::other("standard output is closed"));
     }
