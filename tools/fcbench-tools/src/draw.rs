@@ -122,7 +122,9 @@ impl<'a> Drawing<'a> {
     /// returned.
     fn require_enough(&self, answer: &Answer) -> Result<(), Status> {
         let least = self.command.at_least;
-        require_returned(answer, least, || Ok(count_returned(&self.history.bytes[..], least)))
+        // A text in memory can always be read.
+        let count = || count_returned(&self.history.bytes[..], least).unwrap_or(None);
+        require_returned(answer, least, || Ok(count()))
     }
 
     /// Reports that the history is not the one any more that the verifier has read too.

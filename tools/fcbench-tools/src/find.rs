@@ -31,14 +31,14 @@ pub fn read_with<T>(path: &str, read: impl FnOnce(File) -> io::Result<T>) -> Res
 pub fn require_returned(
     answer: &Answer,
     least: u32,
-    count: impl FnOnce() -> Result<io::Result<Option<u32>>, Status>,
+    count: impl FnOnce() -> Result<Option<u32>, Status>,
 ) -> Result<(), Status> {
     let most = match answer.verdict {
         Verdict::Yes { operations } => u32::try_from(operations).unwrap_or(u32::MAX),
         _ if answer.status == Status::UNDECIDED => u32::MAX,
         _ => return Ok(()),
     };
-    match count()?.unwrap_or(None).map(|count| count.min(most)) {
+    match count()?.map(|count| count.min(most)) {
         Some(count) if count >= least => return Ok(()),
         Some(0) if least == 1 => say(format_args!("no operation returned")),
         Some(count) => say(format_args!("{count} of at least {least} operations returned")),

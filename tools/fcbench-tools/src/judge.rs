@@ -179,7 +179,7 @@ fn explain(history: &str, verdict: &Verdict) -> Result<(), Status> {
 /// Reports why a yes, or that nothing is decided, is not printed: too few operations returned.
 fn require_enough(command: &Judge, history: &str, answer: &Answer) -> Result<(), Status> {
     let least = command.at_least;
-    require_returned(answer, least, || read_with(history, |file| Ok(count_returned(file, least))))
+    require_returned(answer, least, || read_with(history, |file| count_returned(file, least)))
 }
 
 /// What is to be said of a history. With `--strict` a yes needs it from this program's own
