@@ -90,16 +90,16 @@
 (deftest a-register
   (let [history (stored register)]
     (is (= 10 (count history)))
-    (is (= "{:process 0, :type :invoke, :f :write, :value 3, :object 0}
+    (is (= "{:process 0, :type :invoke, :f :write, :value 3, :object 0, :time 3291485317}
 {:process :nemesis}
 {:process :nemesis}
-{:process 1, :type :invoke, :f :read, :value nil, :object 0}
-{:process 0, :type :ok, :f :write, :value 3, :object 0}
-{:process 1, :type :ok, :f :read, :value 3, :object 0}
-{:process 0, :type :invoke, :f :cas, :value [3 4], :object 0}
-{:process 0, :type :info, :f :cas, :value nil, :object 0}
-{:process 2, :type :invoke, :f :read, :value nil, :object 0}
-{:process 2, :type :ok, :f :read, :value 4, :object 0}
+{:process 1, :type :invoke, :f :read, :value nil, :object 0, :time 3310022804}
+{:process 0, :type :ok, :f :write, :value 3, :object 0, :time 9123011220}
+{:process 1, :type :ok, :f :read, :value 3, :object 0, :time 9200000000}
+{:process 0, :type :invoke, :f :cas, :value [3 4], :object 0, :time 9300000000}
+{:process 0, :type :info, :f :cas, :value nil, :object 0, :time 9400000000}
+{:process 2, :type :invoke, :f :read, :value nil, :object 0, :time 9500000000}
+{:process 2, :type :ok, :f :read, :value 4, :object 0, :time 9600000000}
 " (:text (profile history))))
     (is (= {:valid? true, :reason ["yes: 4 operations, 1 objects" "register: 1 objects, 4 operations"]}
            (judged history)))))

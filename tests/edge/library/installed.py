@@ -33,7 +33,9 @@ INSTALLED = sorted(
 TYPED = (
     ("a command", ("fcbench", "ju"), ["judge"]),
     ("a command on shards", ("fcbench", "mer"), ["merge"]),
-    ("an option", ("fcbench", "judge", "--st"), ["--steps"]),
+    ("an option", ("fcbench", "judge", "--ste"), ["--steps"]),
+    ("another option", ("fcbench", "judge", "--str"), ["--strict"]),
+    ("an option with a hyphen in its name", ("fcbench", "draw", "--at"), ["--at-least"]),
     ("the option for a table", ("fcbench", "find", "--pl"), ["--places"]),
     ("a value", ("fcbench", "search", "--first", "re"), ["return"]),
 )
