@@ -166,7 +166,7 @@ AnswersTable number whole_name es table evidence limit a =
     ⊎ (((ns : List ℕ) → FitsTable ns table es → ⊥)
     × IsNoted number Malformed (codes "its table does not fit\n") a)
 
--- what is said of a shard that has so many maps, and was given another number
+-- what is said of a shard with this number of maps, if it was given another number
 abbrev pub miscounted : ℕ → ℕ → List ℕ
 miscounted maps given =
     (codes "it has " ++ (decimal maps ++ codes " maps, and not ")) ++ (decimal given ++ codes "\n")

@@ -176,7 +176,7 @@ fn answer_history(
     }
 }
 
-/// What is said of a shard that has so many maps, and was given another number.
+/// What is said of a shard with this number of maps, if it was given another number.
 fn miscounted(alloc: Global, maps: usize, given: u32) -> Result<Vec<u8>, AllocError>
     ensures { IfOk result (λ v. v.items ≡ spec.miscounted maps given) }
 {
