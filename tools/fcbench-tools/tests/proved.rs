@@ -120,35 +120,6 @@ fn no_program_of_the_path_is_the_verifier() {
 }
 
 #[test]
-fn a_proved_program_that_is_killed_is_status_3() {
-    let program = script("killed", "#!/bin/sh\nkill -9 $$\n");
-    for word in ["judge", "draw"] {
-        let (status, lines, errors) = said(&run(&program, &[word, &example("queue.history.edn")]));
-        assert_eq!((status, lines.as_str()), (3, ""), "{word}");
-        assert!(errors.contains("the verifier was killed"), "{errors}");
-    }
-}
-
-#[test]
-fn lines_without_their_status_are_not_handed_on() {
-    let says = "#!/bin/sh\ncat > /dev/null\necho 'yes: 2 operations, 1 objects'\n";
-    let history = example("queue.history.edn");
-    for (name, ends, wanted) in [
-        ("killed_late", "kill -9 $$", 3),
-        ("aborts", "kill -ABRT $$", 3),
-        ("unreadable_late", "exit 4", 4),
-        ("no_verifier", "exit 70", 70),
-        ("other", "exit 101", 70),
-    ] {
-        let program = script(name, &format!("{says}{ends}\n"));
-        for word in ["judge", "draw"] {
-            let (status, lines, _) = said(&run(&program, &[word, &history]));
-            assert_eq!((status, lines.as_str()), (wanted, ""), "{name}: {word}");
-        }
-    }
-}
-
-#[test]
 fn draw_draws_the_examples() {
     let program = script("draws", STAND_IN);
     for (name, is_checked, wanted) in [
