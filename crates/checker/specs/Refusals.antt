@@ -19,6 +19,10 @@ RefusesOrder x kind calls order (NoCertificate y) = ⊥
 RefusesOrder x kind calls order (StrangeObject y) = ⊥
 RefusesOrder x kind calls order NoMemory = ⊤
 
+-- the certificate is one of the object, and its order is valid
+abbrev pub IsCertificateOf : ℕ → Kind → List Call → Certificate → Type 0
+IsCertificateOf object kind calls c = (c.object ≡ object) × IsValidOrder kind calls c.order.items
+
 -- the certificates have one for this object
 pub record HasCertificate (certificates : List Certificate) (x : ℕ) : Type 0 where
   pub certificate : Certificate

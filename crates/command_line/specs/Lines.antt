@@ -13,8 +13,8 @@ use Rattle.clap.specs.declared.error.kind.ErrorKind.TheVariants.{DisplayHelp, Di
 use Rattle.clap.specs.declared.error.kind.ErrorKind.TheVariants.{OutOfMemory}
 use Rattle.std.specs.String.{string_bytes}
 use Rattle.std.specs.Str.Parse.{IsNumeral, digits_value, without_leading_plus}
-use Rattle.search.specs.declared.trials.TryFirst.{TryFirst}
-use Rattle.search.specs.declared.trials.TryFirst.TheVariants.{LeastNumber, LeastReturn}
+use Rattle.order_search.specs.declared.trials.TryFirst.{TryFirst}
+use Rattle.order_search.specs.declared.trials.TryFirst.TheVariants.{LeastNumber, LeastReturn}
 use Rattle.seq_objects.specs.declared.kinds.Kinds.{Kinds}
 use Rattle.seq_objects.specs.Kinds.{default_kinds, kinds_named}
 use Rattle.command_line.specs.Command.{command}

@@ -5,7 +5,7 @@ ghost use Rattle.command_line.specs.declared.table.TheConstants.{CALLS, CLIENTS,
 ghost use Rattle.command_line.specs.declared.asking.LineFault.TheVariants.{NoMemory};
 
 use crate::on_folder::FolderLine;
-use search::TryFirst;
+use order_search::TryFirst;
 use seq_objects::Kinds;
 use std::alloc::{AllocError, AllocFailed};
 use thiserror::Error as ErrorText;

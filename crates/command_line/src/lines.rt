@@ -8,7 +8,7 @@ ghost use Rattle.command_line.specs.Lines.{rows_in};
 ghost use Rattle.command_line.specs.declared.asking.Line.{Line};
 ghost use Rattle.command_line.specs.declared.asking.RunOptions.{RunOptions};
 ghost use Rattle.command_line.specs.declared.lines.Unfit.TheVariants.{NoMemory};
-ghost use Rattle.search.specs.declared.trials.TryFirst.{TryFirst};
+ghost use Rattle.order_search.specs.declared.trials.TryFirst.{TryFirst};
 ghost use Rattle.seq_objects.specs.declared.kinds.Kinds.{Kinds};
 
 use crate::asking::{Line, RunOptions};
@@ -17,7 +17,7 @@ use crate::table::{
     Bounds, CALLS, CLIENTS, OBJECTS, SEED, SHARDS, STEPS, Takes, Verb, WORKERS, verb_named,
 };
 use clap::ArgMatches;
-use search::TryFirst;
+use order_search::TryFirst;
 use seq_objects::{Kinds, default_kinds, kinds_named};
 use std::alloc::{AllocError, Global};
 

@@ -7,7 +7,7 @@ use Rattle.desk_model.specs.Records.{IsSoundRecord}
 use Rattle.report.specs.Lines.{verdict_text}
 use Rattle.report.specs.declared.verdict.Verdict.{Verdict}
 use Rattle.report.specs.declared.verdict.Verdict.TheVariants.{Yes, No, NoMemory}
-use Rattle.judging.specs.Verdicts.{IsYesUnlessMemory}
+use Rattle.text_check.specs.Verdicts.{IsYesUnlessMemory}
 use Rattle.clients.specs.Made.{IsRunRecord}
 use Rattle.command_line.specs.declared.asking.RunOptions.{RunOptions}
 use Rattle.history_commands.specs.Outputs.{status_of}

@@ -8,13 +8,13 @@ use Rattle.edn_reader.specs.Datum.{max_length}
 use Rattle.edn.specs.Given.{WasRead}
 use Rattle.edn_reader.specs.Sound.{IsShort, IsUnreadable}
 use Rattle.edn_reader.specs.declared.fault.EdnFault.{EdnFault}
-use Rattle.report.specs.declared.verdict.Fault.TheVariants.{HistoryText, HistoryMaps, CertificateText, CertificateForms}
+use Rattle.reading.specs.declared.text_failure.Fault.TheVariants.{HistoryText, HistoryMaps, CertificateText, CertificateForms}
 use Rattle.report.specs.declared.verdict.Verdict.{Verdict}
 use Rattle.report.specs.declared.verdict.Verdict.TheVariants.{Yes, No, Malformed, NoMemory}
-use Rattle.judging.specs.Texts.{IsLinearizableText}
-use Rattle.judging.specs.Verdicts.{IsJudgement, SaysOfTexts, OnYes}
-use Rattle.judging.specs.Reads.{read_limit}
-use Rattle.judging.specs.Checks.{IsVerdictOnRead}
+use Rattle.reading.specs.Texts.{IsLinearizableText}
+use Rattle.text_check.specs.Verdicts.{IsJudgement, SaysOfTexts, OnYes}
+use Rattle.reading.specs.Reads.{read_limit}
+use Rattle.text_check.specs.Checks.{IsVerdictOnRead}
 
 -- two texts are one, or both are too long
 abbrev Alike : List ℕ → List ℕ → Type 0

@@ -13,7 +13,7 @@ use Rattle.events.specs.declared.event.Action.{Action}
 use Rattle.events.specs.declared.event.Event.{Event}
 use Rattle.history.specs.Denotes.{action_of, event_of, event_of_map, events_of_forms}
 use Rattle.history.specs.Maps.{ClientMap, client_of}
-use Rattle.judging.specs.Texts.{DenotesHistory}
+use Rattle.reading.specs.Texts.{DenotesHistory}
 use Rattle.shards.specs.Forms.{is_on}
 use Rattle.shards.specs.ShardTexts.{IsSplit, SpelledMap, map_lines, maps_of_shard, IsSpelled}
 use Rattle.shards.proofs.FewerForms.{client_on}

@@ -5,7 +5,7 @@ use Rattle.std.proofs.Common.{◌≢◌, ◌∙◌, ap, arith, Bool, Option}
 use Rattle.std.specs.Prelude.{Any, slice_index}
 use Rattle.std.proofs.lemmas.Bool.{cases_lt}
 use Rattle.std.proofs.lemmas.List.{get_or_append_left, get_or_push, length-append}
-use Rattle.judging.specs.Texts.{IsLinearizableText, IsNotLinearizableText}
+use Rattle.reading.specs.Texts.{IsLinearizableText, IsNotLinearizableText}
 use Rattle.shards.specs.Dividing.{Files, name_in_shard, shard_among}
 use Rattle.shards.specs.ShardTexts.{IsLinearizableAtAnyLength}
 use Rattle.shards.proofs.DecidingTexts.{linearizable_where_judged, refuted_by_shard}

@@ -13,7 +13,7 @@ use Rattle.recorder.specs.Histories.{AreEventsOf}
 use Rattle.transcript.specs.Accounts.{AreCertificatesOf}
 use Rattle.report.specs.declared.verdict.Verdict.{Verdict}
 use Rattle.report.specs.declared.verdict.Verdict.TheVariants.{Yes, No, Malformed, NoMemory}
-use Rattle.judging.specs.Verdicts.{SaysOfCertificates}
+use Rattle.text_check.specs.Verdicts.{SaysOfCertificates}
 use Rattle.commands.specs.Runs.{HasSoundRecord, Says, journals_of, logs_of}
 
 -- ---- journals and logs of operations of all kinds are what they stand for

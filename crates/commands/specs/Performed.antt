@@ -1,7 +1,7 @@
 -- What the program does for each command line.
 use Rattle.std.specs.Prelude.{◌≡◌, ◌⊎◌, ℕ, Bool, true, false, List, [], Option}
 use Rattle.edn.specs.Given.{WasRead}
-use Rattle.judging.specs.Reads.{read_limit, WasRefused}
+use Rattle.reading.specs.Reads.{read_limit, WasRefused}
 use Rattle.command_line.specs.declared.asking.Line.{Line}
 use Rattle.command_line.specs.declared.asking.Line.TheVariants.{Check, Search, Refute, Verify}
 use Rattle.command_line.specs.declared.asking.Line.TheVariants.{Run, Simulate, OnFolder}

@@ -21,7 +21,7 @@ use Rattle.report.specs.Lines.{verdict_text}
 use Rattle.report.specs.declared.verdict.Verdict.{Verdict}
 use Rattle.report.specs.declared.verdict.Verdict.TheVariants.{Yes, No, Malformed, NoMemory}
 use Rattle.report.specs.Counts.{AreCountsOf}
-use Rattle.judging.specs.Verdicts.{IsYesUnlessMemory}
+use Rattle.text_check.specs.Verdicts.{IsYesUnlessMemory}
 use Rattle.command_line.specs.declared.asking.RunOptions.{RunOptions}
 use Rattle.history_commands.specs.Comments.{comment_lines}
 use Rattle.history_commands.specs.Outputs.{status_of}

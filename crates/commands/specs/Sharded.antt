@@ -6,8 +6,8 @@ use Rattle.history.specs.Faults.{max_maps}
 use Rattle.history.specs.declared.fault.TextFault.{TextFault}
 use Rattle.history.specs.declared.fault.TextFault.TheVariants.{Text, Maps}
 use Rattle.report.specs.Lines.{verdict_text}
-use Rattle.report.specs.declared.verdict.Fault.{Fault}
-use Rattle.report.specs.declared.verdict.Fault.TheVariants.{HistoryText, HistoryMaps}
+use Rattle.reading.specs.declared.text_failure.Fault.{Fault}
+use Rattle.reading.specs.declared.text_failure.Fault.TheVariants.{HistoryText, HistoryMaps}
 use Rattle.report.specs.declared.verdict.Verdict.TheVariants as verdict
 use Rattle.shards.specs.Dividing.{Files, IsDivided, name_in_shard, shard_among}
 use Rattle.shards.specs.Folders.{WasDivided}

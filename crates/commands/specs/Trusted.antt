@@ -4,7 +4,7 @@ use Rattle.std.specs.Prelude.{codes, decimal, get_or, if◌then◌else◌, lengt
 use Rattle.std.specs.Prelude.{option_and_then, option_map, unwrap_or}
 use Rattle.std.specs.Global.{Vec}
 use Rattle.std.specs.Str.{bytes_eq}
-use Rattle.judging.specs.Texts.{IsLinearizableText, IsNotLinearizableText}
+use Rattle.reading.specs.Texts.{IsLinearizableText, IsNotLinearizableText}
 use Rattle.shards.specs.Dividing.{Files}
 use Rattle.history_commands.specs.Merged.{status_with, worst}
 use Rattle.history_commands.specs.Outputs.{IsExactly, IsOutOfMemory}

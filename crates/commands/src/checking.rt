@@ -10,10 +10,11 @@ use crate::sources::Unread;
 use crate::write_output::write_output;
 use edn::{Sink, Source};
 use history_commands::{Status, status_of};
-use judging::{In, ToolFault, WhichText, check_over, judge};
+use reading::In;
 use report::{Verdict, write_verdict};
 use std::alloc::{AllocError, Global};
 use std::thread::Threads;
+use text_check::{ToolFault, WhichText, check_over, judge};
 
 /// Writes the lines of a verdict, and returns the exit status.
 fn write_verdict_with_status<S: Sink>(verdict: &Verdict, sink: &mut S) -> u8

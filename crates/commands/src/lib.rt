@@ -20,7 +20,7 @@ pub use folders::{
     merge_shards, split_history,
 };
 pub use history_commands::Status;
-pub use judging::{In, NamedFile, ReadFault, read_text};
+pub use reading::{In, NamedFile, ReadFault, read_text};
 pub use line_fault::status_of_fault;
 pub use program::{perform, perform_over};
 pub use shards::{Folder, TableFault, counts_in, counts_text, shards_needed};

@@ -1,7 +1,7 @@
 //! What the program does.
 
 ghost use Rattle.std.specs.Prelude.{◌≡◌, [], false, true, IfOk, IfErr};
-ghost use Rattle.judging.specs.Checks.{IsLinearizableRead, IsNotLinearizableRead};
+ghost use Rattle.reading.specs.Reads.{IsLinearizableRead, IsNotLinearizableRead};
 ghost use Rattle.history_commands.specs.Outputs.{IsExactly, status_number};
 ghost use Rattle.commands.specs.Leaves.{Leaves};
 ghost use Rattle.commands.specs.Performed.{IsPerformed, IsPerformedOn, IsUnread, says_no, says_yes};

@@ -5,7 +5,7 @@ ghost use Rattle.model.specs.declared.Kind.{Kind};
 ghost use Rattle.desk_model.specs.Records.{IsSoundRecord};
 ghost use Rattle.certificate.specs.Denotes.{AreDistinct};
 ghost use Rattle.checker.specs.Refusals.{AreValid};
-ghost use Rattle.judging.specs.Verdicts.{IsYesUnlessMemory, SaysOfCertificates};
+ghost use Rattle.text_check.specs.Verdicts.{IsYesUnlessMemory, SaysOfCertificates};
 ghost use Rattle.history_commands.specs.Comments.{comment_lines};
 ghost use Rattle.commands.specs.Runs.{IsReported, IsTextOf, Says, journals_of, logs_of};
 

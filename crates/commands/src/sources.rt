@@ -5,13 +5,13 @@ ghost use Rattle.commands.specs.Leaves.{Leaves};
 ghost use Rattle.commands.specs.Performed as spec;
 ghost use Rattle.commands.specs.Performed.{IsFileText};
 ghost use Rattle.history_commands.specs.Outputs.{IsOutOfMemory};
-ghost use Rattle.judging.specs.Reads.{SourceAfterFault, WasRefused};
-ghost use Rattle.judging.specs.declared.reading.ReadFault.TheVariants as fault_is;
+ghost use Rattle.reading.specs.Reads.{SourceAfterFault, WasRefused};
+ghost use Rattle.reading.specs.declared.read_text.ReadFault.TheVariants as fault_is;
 
 use crate::write_output::write_output;
 use command_line::Line;
 use edn::{Sink, Source};
-use judging::{ReadFault, read_text};
+use reading::{ReadFault, read_text};
 use std::alloc::{AllocError, Global};
 
 /// Which of a command's files could not be read.

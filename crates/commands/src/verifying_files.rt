@@ -8,7 +8,7 @@ use crate::sources::{Unread, end_unread};
 use crate::write_output::write_output;
 use edn::{Sink, Source};
 use history_commands::verify_history;
-use judging::{history_of_text_by_workers, read_text};
+use reading::{history_of_text_by_workers, read_text};
 use std::alloc::Global;
 use std::thread::Threads;
 

@@ -3,8 +3,8 @@
 use Rattle.std.proofs.Common.{◌≡◌, ◌≢◌, ◌∙◌, ◌⊎◌, ℕ, List, codes, inl, inr, refl, ap, sym}
 use Rattle.report.specs.declared.verdict.Verdict.{Verdict}
 use Rattle.report.specs.declared.verdict.Verdict.TheVariants as verdict
-use Rattle.judging.specs.Texts.{AreValidTexts}
-use Rattle.judging.specs.Verdicts.{IsYesUnlessMemory}
+use Rattle.text_check.specs.Texts.{AreValidTexts}
+use Rattle.text_check.specs.Verdicts.{IsYesUnlessMemory}
 use Rattle.history_commands.specs.Checked.{IsCheck}
 use Rattle.history_commands.specs.Outputs.{status_number, status_of}
 use Rattle.history_commands.specs.declared.output.Output.{Output}

@@ -1,14 +1,15 @@
 //! The check of a history by certificates.
 
 ghost use Rattle.std.specs.Prelude.{◌≡◌, ◌⊎◌};
-ghost use Rattle.judging.specs.Texts.{AreValidTexts, IsLinearizableText};
+ghost use Rattle.text_check.specs.Texts.{AreValidTexts};
+ghost use Rattle.reading.specs.Texts.{IsLinearizableText};
 ghost use Rattle.history_commands.specs.Checked.{IsCheck};
 ghost use Rattle.history_commands.specs.Outputs.{status_number};
 ghost use Rattle.embedding.specs.Handed.{IsAnswered};
 
 use crate::answer::answer;
 use history_commands::{Status, verdict_output};
-use judging::judge_alone;
+use text_check::judge_alone;
 use std::alloc::Global;
 
 /// Judges a history by certificates, and writes the lines of the verdict, or as much of them as

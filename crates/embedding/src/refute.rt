@@ -2,7 +2,7 @@
 
 ghost use Rattle.std.specs.Prelude.{◌≡◌};
 ghost use Rattle.history_commands.specs.Refuted.{IsRefute};
-ghost use Rattle.judging.specs.Texts.{IsNotLinearizableText};
+ghost use Rattle.reading.specs.Texts.{IsNotLinearizableText};
 ghost use Rattle.history_commands.specs.Outputs.{status_number};
 ghost use Rattle.embedding.specs.Handed.{IsAnswered};
 ghost use Rattle.embedding.specs.Steps as spec;

@@ -1,7 +1,7 @@
 //! The verification of a history by evidence from any source.
 
 ghost use Rattle.std.specs.Prelude.{◌≡◌};
-ghost use Rattle.judging.specs.Texts.{IsLinearizableText, IsNotLinearizableText};
+ghost use Rattle.reading.specs.Texts.{IsLinearizableText, IsNotLinearizableText};
 ghost use Rattle.history_commands.specs.Verified.{IsVerification};
 ghost use Rattle.history_commands.specs.Outputs.{status_number};
 ghost use Rattle.embedding.specs.Handed.{IsAnswered};

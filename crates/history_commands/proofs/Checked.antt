@@ -3,8 +3,8 @@ use Rattle.std.proofs.Common.{arith, ◌≡◌, ◌≢◌, ◌∙◌, ℕ, List,
 use Rattle.checker.specs.declared.refusal.Refusal.{Refusal}
 use Rattle.report.specs.declared.verdict.Verdict.{Verdict}
 use Rattle.report.specs.declared.verdict.Verdict.TheVariants.{Yes, No}
-use Rattle.judging.specs.Texts.{IsLinearizableText}
-use Rattle.judging.specs.Verdicts.{IsJudgement, OnYes}
+use Rattle.reading.specs.Texts.{IsLinearizableText}
+use Rattle.text_check.specs.Verdicts.{IsJudgement, OnYes}
 use Rattle.history_commands.specs.Checked.{IsCheck}
 use Rattle.history_commands.specs.Outputs.{IsVerdictOutput, status_of}
 use Rattle.history_commands.specs.declared.status.Status.{Status}

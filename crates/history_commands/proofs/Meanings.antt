@@ -4,7 +4,7 @@ use Rattle.std.proofs.Common.{arith, ◌≢◌, ◌∙◌, ℕ, List, inl, inr, 
 use Rattle.events.specs.declared.event.Event.{Event}
 use Rattle.certificate.specs.declared.Certificate.{Certificate}
 use Rattle.checker.specs.Refusals.{AreValid}
-use Rattle.judging.specs.Texts.{DenotesHistory, IsLinearizableText}
+use Rattle.reading.specs.Texts.{DenotesHistory, IsLinearizableText}
 use Rattle.report.specs.declared.verdict.Verdict.{Verdict}
 use Rattle.history_commands.specs.Outputs.{status_of}
 use Rattle.history_commands.specs.declared.status.Status.TheVariants as status_is

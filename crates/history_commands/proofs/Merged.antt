@@ -13,7 +13,7 @@ use Rattle.model.proofs.Lists.{all_at, all_from_in, contains_from_in, in_from_co
 use Rattle.events.specs.declared.event.Event.{Event}
 use Rattle.events.specs.Events.{kind_of_object, denoted}
 use Rattle.checker.specs.Refusals.{AreValid}
-use Rattle.judging.specs.Texts.{IsLinearizableText, IsNotLinearizableText}
+use Rattle.reading.specs.Texts.{IsLinearizableText, IsNotLinearizableText}
 use Rattle.shards.specs.Dividing.{with_numbers}
 use Rattle.shards.specs.Shards.{AreRenumbered, DenoteLinearizable}
 use Rattle.shards.proofs.Renumbered.{linearizable_same, same_from}

@@ -1,8 +1,9 @@
 -- If the text of a history could not be read, a command says so and nothing else.
 use Rattle.std.proofs.Common.{ℕ, List}
-use Rattle.judging.specs.declared.texts.TextFailure.{TextFailure}
-use Rattle.judging.specs.declared.texts.TextFailure.TheVariants.{Faulty, NoMemory}
-use Rattle.judging.specs.Texts.{IsHistoryFault, verdict_of}
+use Rattle.reading.specs.declared.text_failure.TextFailure.{TextFailure}
+use Rattle.reading.specs.declared.text_failure.TextFailure.TheVariants.{Faulty, NoMemory}
+use Rattle.reading.specs.Texts.{IsHistoryFault}
+use Rattle.report.specs.Verdicts.{verdict_of}
 use Rattle.history_commands.specs.Searches.{IsHistoryUnread}
 
 -- what stops the reading of a history stops a search of it

@@ -18,7 +18,7 @@ use Rattle.verifying.specs.declared.decision.Decision.TheVariants.{Order, Imposs
 use Rattle.verifying.specs.Decisions.{AreDecisionsOn, IsDecisionOn, certificates_decided, is_impossible, is_order}
 use Rattle.report.specs.declared.verdict.Verdict.{Verdict}
 use Rattle.report.specs.declared.verdict.Verdict.TheVariants as verdict
-use Rattle.judging.specs.Texts.{DenotesHistory, IsLinearizableText}
+use Rattle.reading.specs.Texts.{DenotesHistory, IsLinearizableText}
 use Rattle.report.specs.Verdicts.{IsVerdictOnCheck}
 use Rattle.std.specs.Prelude.{Ok}
 use Rattle.edn_reader.specs.Sound.{IsShort}

@@ -1,7 +1,7 @@
 -- The output of a check of a history by certificates.
 use Rattle.std.specs.Prelude.{◌≡◌, ℕ, List}
-use Rattle.judging.specs.Texts.{IsLinearizableText}
-use Rattle.judging.specs.Verdicts.{IsJudgement}
+use Rattle.reading.specs.Texts.{IsLinearizableText}
+use Rattle.text_check.specs.Verdicts.{IsJudgement}
 use Rattle.history_commands.specs.Outputs.{IsVerdictOutput}
 use Rattle.history_commands.specs.declared.status.Status.{Status}
 use Rattle.history_commands.specs.declared.status.Status.TheVariants.{Yes}

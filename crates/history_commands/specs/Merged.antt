@@ -7,14 +7,14 @@ use Rattle.edn_reader.specs.declared.fault.FaultKind.TheVariants.{TooLong}
 use Rattle.events.specs.declared.event.Event.{Event}
 use Rattle.events.specs.Events.{kind_of_object, denoted}
 use Rattle.history.specs.declared.fault.HistoryFaultKind.TheVariants.{TooMany}
-use Rattle.judging.specs.declared.texts.TextFailure.TheVariants.{Faulty}
-use Rattle.judging.specs.Texts.{DenotesHistory, IsHistoryFault, IsLinearizableText}
-use Rattle.judging.specs.Texts.{IsNotLinearizableText}
+use Rattle.reading.specs.declared.text_failure.TextFailure.TheVariants.{Faulty}
+use Rattle.reading.specs.Texts.{DenotesHistory, IsHistoryFault, IsLinearizableText}
+use Rattle.reading.specs.Texts.{IsNotLinearizableText}
 use Rattle.model.specs.Linearizable.{IsLinearizable}
 use Rattle.model.specs.Orders.{calls_on, events}
-use Rattle.report.specs.declared.verdict.Fault.{Fault}
-use Rattle.report.specs.declared.verdict.Fault.TheVariants.{HistoryText, HistoryMaps}
-use Rattle.report.specs.declared.verdict.Fault.TheVariants.{CertificateText, CertificateForms}
+use Rattle.reading.specs.declared.text_failure.Fault.{Fault}
+use Rattle.reading.specs.declared.text_failure.Fault.TheVariants.{HistoryText, HistoryMaps}
+use Rattle.reading.specs.declared.text_failure.Fault.TheVariants.{CertificateText, CertificateForms}
 use Rattle.report.specs.declared.verdict.Summary.{Summary}
 use Rattle.report.specs.declared.verdict.Verdict.TheVariants as verdict
 use Rattle.report.specs.Lines.{fault_line, verdict_text}

@@ -27,7 +27,7 @@ use Rattle.refutation.specs.Texts.{IsReasonTextFault}
 use Rattle.refutation.specs.declared.fault.ReasonFaultKind.TheVariants as form_kind
 use Rattle.refutation.specs.declared.fault.ReasonTextFault.{ReasonTextFault}
 use Rattle.refutation.specs.declared.fault.ReasonTextFault.TheVariants.{Text, Forms}
-use Rattle.judging.specs.Texts.{DenotesHistory, IsNotLinearizableText}
+use Rattle.reading.specs.Texts.{DenotesHistory, IsNotLinearizableText}
 use Rattle.history_commands.specs.Searches.{IsHistoryUnread}
 use Rattle.history_commands.specs.Outputs.{IsExactly, IsOutput, status_by}
 use Rattle.history_commands.specs.declared.status.Status.{Status}

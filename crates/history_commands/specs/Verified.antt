@@ -33,9 +33,9 @@ use Rattle.report.specs.declared.verdict.Summary.{Summary}
 use Rattle.report.specs.declared.verdict.Verdict.{Verdict}
 use Rattle.report.specs.declared.verdict.Verdict.TheVariants as verdict
 use Rattle.report.specs.Counts.{AreCountsOf}
-use Rattle.judging.specs.declared.texts.TextFailure.TheVariants.{Faulty}
-use Rattle.judging.specs.Texts.{DenotesHistory, IsHistoryFault, IsLinearizableText}
-use Rattle.judging.specs.Texts.{IsNotLinearizableText}
+use Rattle.reading.specs.declared.text_failure.TextFailure.TheVariants.{Faulty}
+use Rattle.reading.specs.Texts.{DenotesHistory, IsHistoryFault, IsLinearizableText}
+use Rattle.reading.specs.Texts.{IsNotLinearizableText}
 use Rattle.history_commands.specs.Outputs.{IsExactly, IsOutput, lines_on, status_on}
 use Rattle.history_commands.specs.declared.status.Status.{Status}
 use Rattle.history_commands.specs.declared.status.Status.TheVariants as ends

@@ -21,12 +21,12 @@ use crate::texts::history_or_verdict;
 use edn::{FaultKind, push_natural};
 use events::{ObjectHistory, split};
 use history::History;
+use order_search::call_count;
 use reason_report::push_operations;
 use refutation::{
     Reason, ReasonAnswer, ReasonFaultKind, ReasonTextFault, WhyNotShown, read_reasons_text,
     refute_all,
 };
-use search::call_count;
 use std::alloc::{AllocError, Global};
 
 /// The line of a fault of the text of reasons.

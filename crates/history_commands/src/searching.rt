@@ -9,9 +9,10 @@ use crate::lines::{push_object_line, push_steps};
 use crate::output::{Output, verdict_output};
 use crate::texts::history_or_verdict;
 use history::History;
-use judging::valid_certificates_suffice;
-use search::{CertificateOutcome, Search, TryFirst, search_all_by};
+use order_search::TryFirst;
+use search::{CertificateOutcome, Search, search_all_by};
 use std::alloc::{AllocError, Global};
+use text_check::valid_certificates_suffice;
 
 impl Answer for Search {
     ghost use Rattle.history_commands.specs.Searches.{answer_line, finds_impossible, is_found};

@@ -2,11 +2,11 @@
 
 ghost use Rattle.std.specs.Prelude.{IfOk, IfErr};
 ghost use Rattle.edn_reader.specs.Sound.{IsShort};
-ghost use Rattle.judging.specs.Texts.{DenotesHistory};
+ghost use Rattle.reading.specs.Texts.{DenotesHistory};
 ghost use Rattle.history_commands.specs.Searches.{IsHistoryUnread};
 
 use history::History;
-use judging::history_of_text;
+use reading::history_of_text;
 use report::Verdict;
 use std::alloc::Global;
 

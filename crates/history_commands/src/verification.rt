@@ -5,7 +5,7 @@ ghost use Rattle.std.specs.Prelude.{◌≡◌, ◌⊎◌, ◌++◌, ℕ, List, t
 ghost use Rattle.std.specs.Prelude.{IsSome, codes, decimal};
 ghost use Rattle.std.specs.List.{list_all};
 ghost use Rattle.checker.specs.Refusals.{AreValid};
-ghost use Rattle.judging.specs.Texts.{IsHistoryRead};
+ghost use Rattle.reading.specs.Texts.{IsHistoryRead};
 ghost use Rattle.verifying.specs.declared.claim.Claim.{Claim};
 ghost use Rattle.verifying.specs.Decisions.{AreDecisionsOn, certificate_decided};
 ghost use Rattle.verifying.specs.Decisions.{certificates_decided, is_order};
@@ -21,8 +21,8 @@ use crate::output::{Output, verdict_output};
 use crate::status::Status;
 use edn::{FaultKind, push_natural};
 use history::History;
-use judging::{TextFailure, history_of_text};
 use locality::named_objects;
+use reading::{TextFailure, history_of_text};
 use reason_report::{push_operations, push_reason};
 use report::{Verdict, verdict_on_check};
 use std::alloc::{AllocError, Global};

@@ -1,6 +1,6 @@
 //! Tests that the checks of an order, of a certificate and of all certificates give one answer.
 
-use crate::reading::history_of;
+use crate::texts_read::history_of;
 use certificate::Certificate;
 use checker::{OrderFault, Refusal, check_all, check_object, check_order};
 use events::split;

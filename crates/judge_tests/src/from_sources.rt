@@ -3,11 +3,13 @@
 ghost use Rattle.std.specs.Prelude.{◌≡◌, ⊤, None, false};
 
 use edn::{Failed, MAX_LENGTH, Out};
-use judging::{In, Source, ToolFault, Verdict, WhichText, check_over, read_text};
+use reading::{In, Source, read_text};
+use report::Verdict;
 use std::io;
 use std::io::{ErrorKind, Read};
 use std::test::Fail;
 use std::thread::Threads;
+use text_check::{ToolFault, WhichText, check_over};
 
 /// One process enqueues 1 and dequeues it.
 const HISTORY: &[u8] = b"{:process 0, :type :invoke, :f :enqueue, :value 1}

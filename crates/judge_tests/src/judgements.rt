@@ -1,12 +1,14 @@
 //! Tests that certificates in memory are judged as their text is.
 
-use crate::reading::certificates_of;
+use crate::texts_read::certificates_of;
 use checker::{OrderFault, Refusal, check_all};
-use judging::{Verdict, history_of_text, judge, one_history, one_list_of_orders};
+use reading::{history_of_text, one_history, one_list_of_orders};
+use report::Verdict;
 use seq_objects::AnyReply;
 use std::alloc::Global;
 use std::test::Fail;
 use std::thread::Threads;
+use text_check::judge;
 
 const HISTORY: &[u8] = b"{:process 0, :type :invoke, :f :enqueue, :value 1}
 {:process 0, :type :ok, :f :enqueue, :value 1}

@@ -1,7 +1,7 @@
 //! Tests of the public calls of `history`, `certificate`, `checker`, `parallel`, `report`,
-//! `judging` and `shards` that no command line reaches: `tests/run` tests the others on the built
-//! program. They are in a crate of their own, so that each of these libraries is proved once, and
-//! not again for its tests.
+//! `reading`, `text_check` and `shards` that no command line reaches: `tests/run` tests the others
+//! on the built program. They are in a crate of their own, so that each of these libraries is proved
+//! once, and not again for its tests.
 #![tactic(auto)]
 
 #[cfg(test)]
@@ -21,6 +21,6 @@ mod long_histories;
 #[cfg(test)]
 mod orders;
 #[cfg(test)]
-mod reading;
+mod texts_read;
 #[cfg(test)]
 mod workers;

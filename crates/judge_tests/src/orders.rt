@@ -1,6 +1,6 @@
 //! Tests that written certificates are read back, and which fault of a text is its first.
 
-use crate::reading::all_fit;
+use crate::texts_read::all_fit;
 use certificate::{
     CertFault, CertFaultKind, CertTextFault, Certificate, read_certificates,
     read_certificates_text, write_certificates,

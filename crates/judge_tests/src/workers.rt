@@ -1,6 +1,6 @@
 //! Tests that two workers check at once, and that the refusal of the least object is named.
 
-use crate::reading::{certificates_of, history_of};
+use crate::texts_read::{certificates_of, history_of};
 use checker::{OrderFault, Refusal};
 use parallel::check_parallel;
 use seq_objects::{AnyReply, Gate};

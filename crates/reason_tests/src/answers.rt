@@ -2,8 +2,8 @@
 
 use cuts::{Count, Counted, Cut};
 use history::read_history_text;
+use order_search::TryFirst;
 use refutation::{Basis, Reason, ReasonAnswer, Trial, WhyNotShown, refute_all};
-use search::TryFirst;
 use std::alloc::{AllocError, Global};
 use std::test::Fail;
 

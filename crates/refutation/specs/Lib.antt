@@ -10,7 +10,7 @@ pub use Rattle.model.specs.Linearizable
 pub use Rattle.model.specs.Orders
 pub use Rattle.events.specs.Events
 pub use Rattle.events.specs.Operations
-pub use Rattle.search.specs.Outcomes
+pub use Rattle.order_search.specs.Outcomes
 pub use Rattle.cuts.specs.Parts
 pub use Rattle.cuts.specs.Cuts
 pub use Rattle.cuts.specs.Counts

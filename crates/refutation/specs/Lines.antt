@@ -12,8 +12,8 @@ use Rattle.cuts.specs.declared.cutting.Cut.{Cut}
 use Rattle.cuts.specs.declared.cutting.Cut.TheVariants.{From, Until, Without, Keep, Cell, Entry}
 use Rattle.cuts.specs.declared.counting.Counted.{Counted}
 use Rattle.cuts.specs.declared.counting.Counted.TheVariants as counted
-use Rattle.search.specs.declared.trials.TryFirst.{TryFirst}
-use Rattle.search.specs.declared.trials.TryFirst.TheVariants.{LeastNumber, LeastReturn}
+use Rattle.order_search.specs.declared.trials.TryFirst.{TryFirst}
+use Rattle.order_search.specs.declared.trials.TryFirst.TheVariants.{LeastNumber, LeastReturn}
 use Rattle.refutation.specs.declared.reason.Basis.{Basis}
 use Rattle.refutation.specs.declared.reason.Basis.TheVariants.{Search, Counting, Ahead}
 use Rattle.refutation.specs.declared.reason.Reason.{Reason}

@@ -12,7 +12,7 @@ use crate::sets::number;
 use crate::{Basis, Trial};
 use cuts::{Count, Counted};
 use edn::{Form, Name, same_bytes, value_at};
-use search::TryFirst;
+use order_search::TryFirst;
 
 /// Reads which content is counted: `:value`, `:key` and `:value`, `:key` alone, `:held` or `:free`.
 /// If the map mixes them, `:key` and `:value` come before `:held`, and `:held` before `:free`.

@@ -4,7 +4,7 @@
 ghost use Rattle.std.specs.Prelude.{◌≡◌};
 
 use cuts::{Count, Cut};
-use search::TryFirst;
+use order_search::TryFirst;
 
 /// How the orders of a part are searched: which operation is tried first, and how many steps the
 /// search may take at most. Without a number the caller of the check says how many.

@@ -11,7 +11,7 @@ ghost use Rattle.refutation.specs.Refutations.{PartHasNoValidOrder, IsShownBy};
 use crate::reason::{Basis, Reason, Trial};
 use cuts::{Count, is_blocked, is_overdrawn, part_by};
 use events::ObjectHistory;
-use search::{OrderOutcome, OrderSearch, find_order_of_any_size};
+use order_search::{OrderOutcome, OrderSearch, find_order_of_any_size};
 use std::alloc::{AllocError, Global};
 
 /// Why a reason does not hold.

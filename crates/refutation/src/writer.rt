@@ -15,7 +15,7 @@ ghost use Rattle.refutation.specs.Written.{IsTypedBasis, IsTypedReason, IsWritte
 use crate::{Basis, Reason, Trial};
 use cuts::{Count, Counted, Cut, Values};
 use edn::{Form, Name, Out, write_form};
-use search::TryFirst;
+use order_search::TryFirst;
 use std::alloc::{AllocError, Global};
 use std::collections::BTreeSet;
 

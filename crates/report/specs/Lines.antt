@@ -16,9 +16,9 @@ use Rattle.seq_objects.specs.declared.value.Value.{Value}
 use Rattle.seq_objects.specs.declared.value.Value.TheVariants.{Nil, False, True, Int, Pair, Triple}
 use Rattle.report.specs.declared.verdict.KindCount.{KindCount}
 use Rattle.report.specs.declared.verdict.Summary.{Summary}
-use Rattle.report.specs.declared.verdict.Fault.{Fault}
-use Rattle.report.specs.declared.verdict.Fault.TheVariants.{HistoryText, HistoryMaps}
-use Rattle.report.specs.declared.verdict.Fault.TheVariants.{CertificateText, CertificateForms}
+use Rattle.reading.specs.declared.text_failure.Fault.{Fault}
+use Rattle.reading.specs.declared.text_failure.Fault.TheVariants.{HistoryText, HistoryMaps}
+use Rattle.reading.specs.declared.text_failure.Fault.TheVariants.{CertificateText, CertificateForms}
 use Rattle.report.specs.declared.verdict.Verdict.{Verdict}
 use Rattle.report.specs.declared.verdict.Verdict.TheVariants.{Yes, No, Malformed, NoMemory}
 

@@ -11,5 +11,6 @@ mod writing;
 
 pub use checked::verdict_on_check;
 pub use counting::summary;
-pub use verdict::{Fault, KindCount, Summary, Verdict};
+pub use reading::Fault;
+pub use verdict::{KindCount, Summary, Verdict};
 pub use writing::write_verdict;

@@ -6,8 +6,9 @@ ghost use Rattle.report.specs.Lines as text;
 ghost use Rattle.report.specs.Segments.{segments_text};
 
 use crate::segments::Segment;
-use crate::verdict::{Fault, KindCount, Summary};
+use crate::verdict::{KindCount, Summary};
 use checker::{OrderFault, Refusal};
+use reading::Fault;
 use seq_objects::{AnyReply, kind_name};
 
 /// The segments of a line. After the one that has the line feed are empty ones.

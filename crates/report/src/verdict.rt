@@ -1,9 +1,9 @@
-//! What a judge of histories says.
+//! The verdict on a history.
 
-use certificate::CertFault;
+ghost use Rattle.std.specs.Prelude.{◌≡◌};
+
 use checker::Refusal;
-use edn::EdnFault;
-use history::HistoryFault;
+use reading::{Fault, TextFailure};
 use seq_objects::Kind;
 
 /// What a history has of one kind: objects that some invocation names, even a failed one, and
@@ -24,19 +24,6 @@ pub struct Summary {
     pub kinds: Vec<KindCount>,
 }
 
-/// Which text is malformed, and how.
-#[derive(Clone, Copy, Debug, PartialEq, Eq)]
-pub enum Fault {
-    /// The history's text spells no forms.
-    HistoryText(EdnFault),
-    /// The forms of the history's text denote no history.
-    HistoryMaps(HistoryFault),
-    /// The certificates' text spells no forms.
-    CertificateText(EdnFault),
-    /// The forms of the certificates' text denote no certificates.
-    CertificateForms(CertFault),
-}
-
 /// The verdict on a history and its certificates.
 #[derive(Debug, PartialEq, Eq, Drop)]
 pub enum Verdict {
@@ -46,4 +33,18 @@ pub enum Verdict {
     No(Refusal),
     Malformed(Fault),
     NoMemory,
+}
+
+// The verdict if a text could not be read.
+impl From<TextFailure> for Verdict {
+    ghost use Rattle.report.specs.Verdicts.{verdict_of};
+
+    ghost from_gives = { λ stop v. v ≡ verdict_of stop };
+
+    fn from(stop: TextFailure) -> Verdict {
+        match stop {
+            TextFailure::Faulty(fault) => Verdict::Malformed(fault),
+            TextFailure::NoMemory => Verdict::NoMemory,
+        }
+    }
 }

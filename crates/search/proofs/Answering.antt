@@ -4,11 +4,11 @@ use Rattle.std.proofs.Common.{◌≡◌, ℕ, ◌<◌, ◌≤◌, List, length, 
 use Rattle.std.specs.Prelude.{◌↔◌}
 use Rattle.model.specs.declared.Kind.{Kind}
 use Rattle.model.specs.Orders.{Call, IsValidOrder, HasNoValidOrder}
-use Rattle.search.specs.declared.order_search.OrderSearch.{OrderSearch}
-use Rattle.search.specs.declared.order_search.OrderOutcome.{OrderOutcome}
-use Rattle.search.specs.declared.order_search.OrderOutcome.TheVariants as outcome
-use Rattle.search.specs.Outcomes.{max_operations}
-use Rattle.search.specs.Outcomes as order
+use Rattle.order_search.specs.declared.order_search.OrderSearch.{OrderSearch}
+use Rattle.order_search.specs.declared.order_search.OrderOutcome.{OrderOutcome}
+use Rattle.order_search.specs.declared.order_search.OrderOutcome.TheVariants as outcome
+use Rattle.order_search.specs.Outcomes.{max_operations}
+use Rattle.order_search.specs.Outcomes as order
 use Rattle.search.specs.declared.certificate_search.CertificateOutcome.TheVariants.{TooLarge}
 use Rattle.search.specs.Answers.{IsSearchAnswer, IsSoundAnswer, search_for, outcome_for}
 

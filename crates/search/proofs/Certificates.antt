@@ -15,7 +15,8 @@ use Rattle.search.specs.declared.certificate_search.Search.{Search}
 use Rattle.search.specs.declared.certificate_search.CertificateOutcome.{CertificateOutcome}
 use Rattle.search.specs.declared.certificate_search.CertificateOutcome.TheVariants.{Impossible}
 use Rattle.search.specs.declared.certificate_search.CertificateOutcome.TheVariants as found
-use Rattle.search.specs.Answers.{certificate_found, IfFound, IsCertificateOf, IsSearchAnswer}
+use Rattle.search.specs.Answers.{certificate_found, IfFound, IsSearchAnswer}
+use Rattle.checker.specs.Refusals.{IsCertificateOf}
 
 -- an answer within this limit
 abbrev pub IsWithin : ℕ → ℕ → Kind → List Call → Search → Type 0

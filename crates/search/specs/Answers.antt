@@ -3,14 +3,15 @@ use Rattle.std.specs.Prelude.{◌≡◌, ℕ, ◌<◌, ◌≤◌, ◌↔◌, ⊤
 use Rattle.std.specs.Prelude.{Any, IsSome}
 use Rattle.std.specs.List.{filter_map}
 use Rattle.model.specs.declared.Kind.{Kind}
-use Rattle.model.specs.Orders.{Call, IsValidOrder, calls_on, HasNoValidOrder}
+use Rattle.model.specs.Orders.{Call, calls_on, HasNoValidOrder}
 use Rattle.events.specs.declared.event.Event.{Event}
 use Rattle.events.specs.Events.{kind_of_object, denoted}
 use Rattle.certificate.specs.declared.Certificate.{Certificate}
-use Rattle.search.specs.Outcomes.{max_operations}
-use Rattle.search.specs.declared.order_search.OrderSearch.{OrderSearch}
-use Rattle.search.specs.declared.order_search.OrderOutcome.{OrderOutcome}
-use Rattle.search.specs.declared.order_search.OrderOutcome.TheVariants as outcome
+use Rattle.checker.specs.Refusals.{IsCertificateOf}
+use Rattle.order_search.specs.Outcomes.{max_operations}
+use Rattle.order_search.specs.declared.order_search.OrderSearch.{OrderSearch}
+use Rattle.order_search.specs.declared.order_search.OrderOutcome.{OrderOutcome}
+use Rattle.order_search.specs.declared.order_search.OrderOutcome.TheVariants as outcome
 use Rattle.search.specs.declared.certificate_search.Search.{Search}
 use Rattle.search.specs.declared.certificate_search.CertificateOutcome.{CertificateOutcome}
 use Rattle.search.specs.declared.certificate_search.CertificateOutcome.TheVariants.{Impossible}
@@ -52,10 +53,6 @@ IfFound NoMemory P = ⊤
 -- the search found a certificate
 abbrev pub IsFound : Search → Type 0
 IsFound s = IsSome (certificate_found s.found)
-
--- the certificate is one of the object, and its order is valid
-abbrev pub IsCertificateOf : ℕ → Kind → List Call → Certificate → Type 0
-IsCertificateOf object kind calls c = (c.object ≡ object) × IsValidOrder kind calls c.order.items
 
 -- what a search within a limit may answer of the calls of an object, however many they are
 pub record IsSoundAnswer (object : ℕ) (kind : Kind) (calls : List Call) (limit : ℕ)

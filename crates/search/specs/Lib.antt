@@ -1,14 +1,7 @@
-pub mod Continuations
-pub mod Links
-pub mod Remembered
-pub mod Arranged
-pub mod Searching
-pub mod Outcomes
-pub mod Undoing
-pub mod Kinds
 pub mod Answers
-pub use Rattle.model.specs.Objects
 pub use Rattle.model.specs.Orders
 pub use Rattle.events.specs.Operations
 pub use Rattle.model.specs.Linearizable
 pub use Rattle.events.specs.Events
+pub use Rattle.checker.specs.Refusals
+pub use Rattle.order_search.specs.Outcomes

@@ -8,11 +8,11 @@ ghost use Rattle.certificate.specs.Denotes.{AreDistinct};
 ghost use Rattle.checker.specs.Refusals.{AreValid};
 ghost use Rattle.search.specs.Answers.{IsSearchAnswerOn, IsFound, certificates_found};
 
-use crate::TryFirst;
 use crate::certificate_search::{CertificateOutcome, Search};
 use crate::object::search_by;
 use events::{History, split};
 use locality::linearizable_has_orders;
+use order_search::TryFirst;
 use std::alloc::{AllocError, Global};
 
 /// Searches for a certificate of each object of a history, each within the limit, and answers in

@@ -3,14 +3,15 @@
 ghost use Rattle.std.specs.Prelude.{◌≡◌, ◌<◌, ◌≤◌, ◌↔◌, length, Any, IsSome};
 ghost use Rattle.model.specs.Orders.{HasNoValidOrder};
 ghost use Rattle.events.specs.Operations.{calls_of};
-ghost use Rattle.search.specs.Outcomes.{max_operations};
-ghost use Rattle.search.specs.Answers.{IfFound, IsCertificateOf, IsSearchAnswer};
+ghost use Rattle.order_search.specs.Outcomes.{max_operations};
+ghost use Rattle.search.specs.Answers.{IfFound, IsSearchAnswer};
+ghost use Rattle.checker.specs.Refusals.{IsCertificateOf};
 ghost use Rattle.search.specs.Answers.{search_for, outcome_for};
 
 use crate::certificate_search::{CertificateOutcome, Search};
-use crate::{OrderOutcome, OrderSearch, TryFirst, find_order};
 use certificate::Certificate;
 use events::ObjectHistory;
+use order_search::{OrderOutcome, OrderSearch, TryFirst, find_order};
 use std::alloc::Global;
 
 /// What was found, for the object with this number.

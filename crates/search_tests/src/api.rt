@@ -4,10 +4,11 @@ use certificate::write_certificates;
 use edn::Out;
 use events::split;
 use history::read_history_text;
-use judging::{In, check_over, judge};
+use reading::In;
 use report::Verdict;
 use search::{CertificateOutcome, search, search_all};
 use std::test::Fail;
+use text_check::{check_over, judge};
 
 /// Two values are enqueued at the same time, and the second goes out.
 const AT_ONCE: &[u8] = b"

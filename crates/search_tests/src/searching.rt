@@ -3,7 +3,8 @@
 
 use events::{History, ObjectHistory, split};
 use history::read_history_text;
-use search::{CertificateOutcome, Search, TryFirst, search, search_all, search_by};
+use order_search::TryFirst;
+use search::{CertificateOutcome, Search, search, search_all, search_by};
 use std::alloc::Global;
 use std::test::Fail;
 

@@ -8,7 +8,7 @@ use Rattle.events.specs.declared.event.Event.{Event}
 use Rattle.history.specs.Denotes.{events_of_forms}
 use Rattle.shards.specs.Shards.{AreShards, DenoteLinearizable}
 use Rattle.shards.proofs.WholeAndShards.{decided_by_shards}
-use Rattle.judging.specs.Texts.{IsLinearizableText, IsNotLinearizableText}
+use Rattle.reading.specs.Texts.{IsLinearizableText, IsNotLinearizableText}
 use Rattle.history.proofs.MapLimit.{at_any_length}
 use Rattle.history.proofs.Reading.{nothing_faulty}
 use Rattle.edn_reader.proofs.Joined.{nothing_spelled}

@@ -6,7 +6,7 @@ ghost use Rattle.std.specs.Prelude.{◌≡◌, ◌≤◌, ◌^◌, ◌==◌, ◌
 ghost use Rattle.edn_reader.specs.Datum.{Datum};
 ghost use Rattle.events.specs.declared.event.Event.{Event};
 ghost use Rattle.history.specs.Faults.{IsFaultlessAtAnyLength};
-ghost use Rattle.judging.specs.Texts.{IsLinearizableText, IsNotLinearizableText};
+ghost use Rattle.reading.specs.Texts.{IsLinearizableText, IsNotLinearizableText};
 ghost use Rattle.shards.specs.Dividing.{Files, IsDivided, table_text, with_numbers};
 ghost use Rattle.shards.specs.Forms.{forms_on};
 ghost use Rattle.shards.specs.Shards.{events_on, renamed};

@@ -12,7 +12,7 @@ use Rattle.certificate.specs.declared.Certificate.{Certificate}
 use Rattle.certificate.specs.Denotes.{AreDistinct}
 use Rattle.checker.specs.Refusals.{AreValid}
 use Rattle.cuts.specs.Cuts.{NamesPart}
-use Rattle.search.specs.Answers.{IsCertificateOf}
+use Rattle.checker.specs.Refusals.{IsCertificateOf}
 use Rattle.refutation.specs.declared.reason.Reason.{Reason}
 use Rattle.refutation.specs.declared.refuting.WhyNotShown.TheVariants.{Possible, NotExceeded}
 use Rattle.refutation.specs.Refutations.{PartHasNoValidOrder, IsWhyNotShown, IsNamedPart}

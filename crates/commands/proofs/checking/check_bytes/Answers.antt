@@ -1,8 +1,8 @@
 -- `check_bytes`: the exit status and the output are those of a check of the two texts. What was read from memory is
 -- these texts (`holds_in_memory`). Where one could not be copied nothing is written yet, and `judge` decides.
 use Rattle.std.proofs.Common.{◌≡◌, ◌≢◌, ◌∙◌, ap, sym, subst, rules}
-use Rattle.judging.specs.declared.check.ToolFault.TheVariants as fault
-use Rattle.judging.specs.Verdicts.{IsJudgement}
+use Rattle.text_check.specs.declared.check.ToolFault.TheVariants as fault
+use Rattle.text_check.specs.Verdicts.{IsJudgement}
 use Rattle.report.specs.declared.verdict.Verdict.{Verdict}
 use Rattle.history_commands.specs.Outputs.{status_number, status_of}
 use Rattle.history_commands.proofs.Checked.{is_check}

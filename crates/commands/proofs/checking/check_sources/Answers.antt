@@ -1,8 +1,8 @@
 -- `check_sources`: the exit status and the output are those of a check of the texts read, or of a failed
 -- allocation, before which nothing was written. If the sink fails a front of the verdict is out (`wrote_front_of`).
 use Rattle.std.proofs.Common.{◌≡◌, ◌≢◌, ◌∙◌, ap, inl, inr, sym, rules}
-use Rattle.judging.specs.declared.check.ToolFault.TheVariants as fault
-use Rattle.judging.specs.Checks.{IsVerdictOnRead}
+use Rattle.text_check.specs.declared.check.ToolFault.TheVariants as fault
+use Rattle.text_check.specs.Checks.{IsVerdictOnRead}
 use Rattle.history_commands.specs.Outputs.{status_number, status_of}
 use Rattle.history_commands.proofs.Checked.{is_check}
 use Rattle.commands.proofs.Leaving.{leaves_as, wrote_front_of, wrote_verdict}

@@ -1,4 +1,4 @@
-use Rattle.judging.proofs.Verdicts.{judges_by, yes_unless_memory}
+use Rattle.text_check.proofs.Verdicts.{judges_by, yes_unless_memory}
 use Rattle.commands.proofs.reporting.verdict_by.Goals as goal
 
 pub returns : goal.returns

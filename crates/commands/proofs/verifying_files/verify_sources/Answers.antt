@@ -2,8 +2,8 @@
 -- those of the sources, and the verification of them is that of `verify_history`.
 use Rattle.std.proofs.Common.{ℕ, List, sym, subst, inl}
 use Rattle.edn.specs.Given.{WasRead}
-use Rattle.judging.specs.Reads.{read_limit}
-use Rattle.judging.specs.Texts.{IsHistoryRead}
+use Rattle.reading.specs.Reads.{read_limit}
+use Rattle.reading.specs.Texts.{IsHistoryRead}
 use Rattle.history_commands.specs.Verified.{IsVerification}
 use Rattle.commands.proofs.Leaving.{leaves_as, made_as}
 use Rattle.commands.proofs.verifying_files.verify_sources.Goals as goal

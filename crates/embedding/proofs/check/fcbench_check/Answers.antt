@@ -1,7 +1,7 @@
 -- `fcbench_check`: an answer 0 means that the history is linearizable, and the lines are those of a verdict that
 -- holds. It is what `judge_alone` ensures; only the status of `Yes` gives the number 0.
 use Rattle.std.proofs.lemmas.Result.{IfOk-weaker}
-use Rattle.judging.specs.Texts.{IsLinearizableText}
+use Rattle.reading.specs.Texts.{IsLinearizableText}
 use Rattle.history_commands.specs.Checked.{IsCheck}
 use Rattle.history_commands.specs.declared.status.Status.TheVariants.{Yes}
 use Rattle.history_commands.proofs.Checked.{is_check}

@@ -1,7 +1,7 @@
 use Rattle.std.proofs.Common.{ℕ, subst}
 use Rattle.std.specs.Prelude.{IfOk}
 use Rattle.history_commands.specs.Refuted.{IsRefute}
-use Rattle.judging.specs.Texts.{IsNotLinearizableText}
+use Rattle.reading.specs.Texts.{IsNotLinearizableText}
 use Rattle.history_commands.specs.declared.status.Status.TheVariants.{No}
 use Rattle.history_commands.proofs.Numbers.{no_by_number}
 use Rattle.embedding.specs.Handed.{IsAnswered}

@@ -2,7 +2,7 @@
 -- `answered` says that of what `verify` made, and the number tells which status it is (`shows`).
 use Rattle.std.proofs.Common.{ℕ, subst}
 use Rattle.std.specs.Prelude.{IfOk}
-use Rattle.judging.specs.Texts.{IsLinearizableText, IsNotLinearizableText}
+use Rattle.reading.specs.Texts.{IsLinearizableText, IsNotLinearizableText}
 use Rattle.history_commands.specs.Verified.{IsVerification}
 use Rattle.history_commands.specs.declared.status.Status.TheVariants.{Yes, No}
 use Rattle.history_commands.proofs.Numbers.{no_by_number, yes_by_number}

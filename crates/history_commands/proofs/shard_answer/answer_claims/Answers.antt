@@ -1,6 +1,6 @@
 use Rattle.std.proofs.Common.{ap, ◌∙◌, subst}
 use Rattle.events.specs.Events.{kind_of_object, denoted}
-use Rattle.judging.proofs.Naming.{orders}
+use Rattle.text_check.proofs.Naming.{orders}
 use Rattle.verifying.specs.Decisions.{AreDecisionsOn, certificates_decided}
 use Rattle.shards.specs.Dividing.{object_named}
 use Rattle.history_commands.specs.Merged.{finding_on}

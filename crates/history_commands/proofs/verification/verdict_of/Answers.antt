@@ -1,6 +1,6 @@
 use Rattle.events.specs.Events.{kind_of_object, denoted}
 use Rattle.verifying.specs.Decisions.{certificates_decided}
-use Rattle.judging.proofs.Naming.{orders}
+use Rattle.text_check.proofs.Naming.{orders}
 use Rattle.history_commands.proofs.Verified.{on_valid}
 use Rattle.history_commands.proofs.verification.verdict_of.Goals as goal
 

@@ -1,6 +1,6 @@
 use Rattle.std.proofs.Common.{inr, subst, sym}
 use Rattle.std.proofs.lemmas.Result.{IfOk-weaker}
-use Rattle.judging.specs.Texts.{IsHistoryRead}
+use Rattle.reading.specs.Texts.{IsHistoryRead}
 use Rattle.history_commands.specs.Searches.{IsHistoryUnread}
 use Rattle.history_commands.proofs.UnreadTexts.{stops_search}
 use Rattle.history_commands.proofs.Verified.{is_verification, on_text, unread}

@@ -4,7 +4,6 @@ use Rattle.std.proofs.Common.{arith, ◌≡◌, ◌+◌, Bool, if◌then◌else�
 use Rattle.desk_invariant.specs.Views.{after_end_seen, after_end_unset}
 use Rattle.publication.specs.Closing.{HaveEnded, HasLearntEnds}
 use Rattle.publication.proofs.Endings.{own_number, one_ended, there_still}
-use Rattle.publication.proofs.closing.first_unretired.Goals.{}
 use Rattle.publication.proofs.closing.first_unretired.Goals.{else-client-number-via-then-client-number+else-not-sees_end}
 use Rattle.publication.proofs.closing.first_unretired.Goals.{else-client-number-via-else-client-number}
 use Rattle.publication.proofs.closing.first_unretired.Goals as goal

@@ -1,0 +1,13 @@
+pub mod Positions
+pub mod Deadness
+pub mod Links
+pub mod Owed
+pub mod Calls
+pub mod Stack
+pub mod Steps
+pub mod Generations
+pub mod Measure
+pub mod Orders
+pub mod Keys
+pub mod Members
+pub mod SortedArrays

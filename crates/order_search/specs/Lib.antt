@@ -1,0 +1,11 @@
+pub mod Continuations
+pub mod Links
+pub mod Remembered
+pub mod Arranged
+pub mod Searching
+pub mod Outcomes
+pub mod Undoing
+pub mod Kinds
+pub use Rattle.model.specs.Objects
+pub use Rattle.model.specs.Orders
+pub use Rattle.events.specs.Operations

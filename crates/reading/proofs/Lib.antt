@@ -1,0 +1,3 @@
+pub mod ReadFaults
+pub mod OneMeaning
+pub mod ReadSoFar

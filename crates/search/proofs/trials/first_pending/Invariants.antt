@@ -1,9 +1,0 @@
-use Rattle.std.proofs.Common.{ℕ, ◌≡◌, ◌<◌, IsSome}
-use Rattle.search.specs.Arranged.{call_at}
-use Rattle.search.proofs.trials.first_pending.Given as goal
-
-abbrev pub invariant-loop-item : goal.invariant-loop-item
-invariant-loop-item l = record {
-  here : l.place ≡ l.item-index;
-  returned : (k : ℕ) → k < l.place → IsSome (call_at l.items k).returned;
-}

@@ -1,0 +1,4 @@
+pub mod Naming
+pub mod Accepting
+pub mod Verdicts
+pub mod Judging

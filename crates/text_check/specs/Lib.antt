@@ -1,0 +1,9 @@
+pub mod Texts
+pub mod Verdicts
+pub mod Checks
+pub use Rattle.model.specs.Linearizable
+pub use Rattle.events.specs.Events
+pub use Rattle.checker.specs.Refusals
+pub use Rattle.edn.specs.Given
+pub use Rattle.edn.specs.Ins
+pub use Rattle.report.specs.Lines
