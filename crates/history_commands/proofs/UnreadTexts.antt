@@ -6,7 +6,7 @@ use Rattle.reading.specs.Texts.{IsHistoryFault}
 use Rattle.report.specs.Verdicts.{verdict_of}
 use Rattle.history_commands.specs.Searches.{IsHistoryUnread}
 
--- what stops the reading of a history stops a search of it
-pub stops_search : (h : List ℕ) (s : TextFailure) → IsHistoryFault h s → IsHistoryUnread h (verdict_of s)
-stops_search h (Faulty f) k = k
-stops_search h NoMemory k = tt
+-- what stops the reading of a history stops a command on it
+pub stops : (h : List ℕ) (s : TextFailure) → IsHistoryFault h s → IsHistoryUnread h (verdict_of s)
+stops h (Faulty f) k = k
+stops h NoMemory k = tt

@@ -15,7 +15,6 @@ mod searching;
 mod shard_answer;
 mod shard_counts;
 mod status;
-mod texts;
 mod verification;
 
 pub use comments::comments_text;
@@ -23,8 +22,8 @@ pub use finding::Finding;
 pub use lines::{line_with_place, text_with_number};
 pub use merging::Merging;
 pub use output::{Output, verdict_output, with_verdict};
-pub use refuting::refute;
-pub use searching::search;
+pub use refuting::{refute, refute_history};
+pub use searching::{search, search_history};
 pub use shard_answer::ShardNumber;
 pub use status::{Status, status_of};
 pub use verification::{verify, verify_history};

@@ -1,7 +1,8 @@
 //! The check of reasons, from any source, why a history is not linearizable.
 
 ghost use Rattle.std.specs.Prelude.{◌≡◌, ◌⊎◌, ◌++◌, false, length, map, All, Any, Contains};
-ghost use Rattle.std.specs.Prelude.{ℕ, IfOk, OnOk};
+ghost use Rattle.std.specs.Prelude.{ℕ, List, IfOk, OnOk};
+ghost use Rattle.reading.specs.Texts.{IsHistoryRead};
 ghost use Rattle.std.specs.List.{AllZip, list_any};
 ghost use Rattle.model.specs.Orders.{calls_on};
 ghost use Rattle.events.specs.Events.{IsNamed, denoted};
@@ -17,16 +18,17 @@ ghost use Rattle.history_commands.specs.Refuted.{IsOfReasonText, IsReasonsFault,
 use crate::lines::line_with_place;
 use crate::output::{Output, verdict_output};
 use crate::status::{Status, status_by};
-use crate::texts::history_or_verdict;
 use edn::{FaultKind, push_natural};
 use events::{ObjectHistory, split};
 use history::History;
 use order_search::call_count;
+use reading::{TextFailure, history_of_text};
 use reason_report::push_operations;
 use refutation::{
     Reason, ReasonAnswer, ReasonFaultKind, ReasonTextFault, WhyNotShown, read_reasons_text,
     refute_all,
 };
+use report::Verdict;
 use std::alloc::{AllocError, Global};
 
 /// The line of a fault of the text of reasons.
@@ -275,8 +277,24 @@ fn answer_text(
     }
 }
 
-/// Checks the reasons in one text on the history in another, each with a limit of `steps` steps of
-/// its search.
+/// Checks the reasons in a text on a history that was read from another text, or says what stopped
+/// its reading. Each reason has a limit of `steps` steps of its search.
+pub fn refute_history(
+    alloc: Global,
+    history: Result<History, TextFailure>,
+    reasons: &[u8],
+    steps: u32,
+) -> Result<Output, AllocError>
+    ensures { (h : List ℕ) → IsHistoryRead h history → IfOk result (λ o.
+        IsRefute h reasons.now steps o.status o.text.items) }
+{
+    match history {
+        Ok(history) => answer_text(alloc, &history, reasons, steps),
+        Err(stop) => verdict_output(alloc, &Verdict::from(stop)),
+    }
+}
+
+/// Checks the reasons in one text on the history in another, as `refute_history` does.
 pub fn refute(
     alloc: Global,
     history: &[u8],
@@ -285,8 +303,6 @@ pub fn refute(
 ) -> Result<Output, AllocError>
     ensures { IfOk result (λ o. IsRefute history.now reasons.now steps o.status o.text.items) }
 {
-    match history_or_verdict(alloc, history) {
-        Ok(history) => answer_text(alloc, &history, reasons, steps),
-        Err(verdict) => verdict_output(alloc, &verdict),
-    }
+    let history_read = history_of_text(alloc, history);
+    refute_history(alloc, history_read, reasons, steps)
 }

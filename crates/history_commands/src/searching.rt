@@ -1,15 +1,17 @@
 //! A search for certificates of a history.
 
-ghost use Rattle.std.specs.Prelude.{IfOk};
+ghost use Rattle.std.specs.Prelude.{ℕ, List, IfOk};
+ghost use Rattle.reading.specs.Texts.{IsHistoryRead};
 ghost use Rattle.history_commands.specs.Searches.{AreSearched, IsSearchResult};
 
 use crate::answers::{Answer, output_of};
 use crate::comments::certificates_text;
 use crate::lines::{push_object_line, push_steps};
 use crate::output::{Output, verdict_output};
-use crate::texts::history_or_verdict;
 use history::History;
 use order_search::TryFirst;
+use reading::{TextFailure, history_of_text};
+use report::Verdict;
 use search::{CertificateOutcome, Search, search_all_by};
 use std::alloc::{AllocError, Global};
 use text_check::valid_certificates_suffice;
@@ -51,8 +53,8 @@ impl Answer for Search {
     }
 }
 
-/// Searches, and says what was found.
-fn search_history(
+/// Searches on each object, and says what was found.
+fn search_objects(
     alloc: Global,
     history: &History,
     steps: u32,
@@ -64,15 +66,29 @@ fn search_history(
     output_of(alloc, history, &answers)
 }
 
-/// Searches for certificates of the history in the text, with a limit of `steps` steps for each
-/// object.
-pub fn search(alloc: Global, text: &[u8], steps: u32, first: TryFirst) -> Result<Output, AllocError>
-    ensures { IfOk result (λ o. IsSearchResult text.now steps o.status o.text.items) }
+/// Searches for certificates of a history that was read from a text, with a limit of `steps` steps
+/// for each object; or says what stopped its reading.
+pub fn search_history(
+    alloc: Global,
+    history: Result<History, TextFailure>,
+    steps: u32,
+    first: TryFirst,
+) -> Result<Output, AllocError>
+    ensures { (h : List ℕ) → IsHistoryRead h history → IfOk result (λ o.
+        IsSearchResult h steps o.status o.text.items) }
 {
     // This does nothing: it is locality.
     valid_certificates_suffice();
-    match history_or_verdict(alloc, text) {
-        Ok(history) => search_history(alloc, &history, steps, first),
-        Err(verdict) => verdict_output(alloc, &verdict),
+    match history {
+        Ok(history) => search_objects(alloc, &history, steps, first),
+        Err(stop) => verdict_output(alloc, &Verdict::from(stop)),
     }
+}
+
+/// Searches for certificates of the history in a text, as `search_history` does.
+pub fn search(alloc: Global, text: &[u8], steps: u32, first: TryFirst) -> Result<Output, AllocError>
+    ensures { IfOk result (λ o. IsSearchResult text.now steps o.status o.text.items) }
+{
+    let history_read = history_of_text(alloc, text);
+    search_history(alloc, history_read, steps, first)
 }

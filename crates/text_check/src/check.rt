@@ -14,7 +14,7 @@ ghost use Rattle.reading.specs.Texts.{IsHistoryRead};
 use crate::decision::judge_read;
 use edn::{Failed, Sink, Source};
 use history::History;
-use reading::{ReadFault, TextFailure, history_of_text_by_workers, read_text};
+use reading::{ReadFault, TextFailure, UnreadSource, WhichSource, read_history_and_text};
 use report::{Verdict, write_verdict};
 use std::alloc::Global;
 use std::thread::Threads;
@@ -41,14 +41,18 @@ pub enum ToolFault {
     NoMemory,
 }
 
-/// The fault if this text could not be read.
-fn fault_of_reading(text: WhichText, fault: ReadFault) -> ToolFault
-    ensures failed { fault ≡ ReadFault.Failed → result ≡ ToolFault.Read text }
-    ensures memory { fault ≡ ReadFault.NoMemory → result ≡ ToolFault.NoMemory }
+/// The fault if a text could not be read.
+fn fault_of_reading(unread: UnreadSource) -> ToolFault
+    ensures first { unread.which ≡ WhichSource.First → unread.fault ≡ ReadFault.Failed →
+        result ≡ ToolFault.Read WhichText.History }
+    ensures second { unread.which ≡ WhichSource.Second → unread.fault ≡ ReadFault.Failed →
+        result ≡ ToolFault.Read WhichText.Certificates }
+    ensures memory { unread.fault ≡ ReadFault.NoMemory → result ≡ ToolFault.NoMemory }
 {
-    match fault {
-        ReadFault::Failed => ToolFault::Read(text),
-        ReadFault::NoMemory => ToolFault::NoMemory,
+    match (unread.fault, unread.which) {
+        (ReadFault::Failed, WhichSource::First) => ToolFault::Read(WhichText::History),
+        (ReadFault::Failed, WhichSource::Second) => ToolFault::Read(WhichText::Certificates),
+        (ReadFault::NoMemory, _) => ToolFault::NoMemory,
     }
 }
 
@@ -123,15 +127,9 @@ pub fn check_over<R: Threads + Sync, H: Source, C: Source, W: Sink>(
         (H.broken history.new ≡ false) × (C.broken certificates.new ≡ false)) }
     ensures nothing_written { IfErr result (λ e. e ≢ ToolFault.Write → sink.new ≡ sink.old) }
 {
-    let first = match read_text(alloc, history) {
-        Ok(bytes) => bytes,
-        Err(fault) => return Err(fault_of_reading(WhichText::History, fault)),
-    };
-    let read = history_of_text_by_workers(rt, alloc, &first, workers);
-    drop(first);
-    let second = match read_text(alloc, certificates) {
-        Ok(bytes) => bytes,
-        Err(fault) => return Err(fault_of_reading(WhichText::Certificates, fault)),
+    let (read, second) = match read_history_and_text(rt, alloc, history, certificates, workers) {
+        Ok(texts) => texts,
+        Err(unread) => return Err(fault_of_reading(unread)),
     };
     match judge_and_write(rt, alloc, read, &second, workers, sink) {
         Ok(verdict) => Ok(verdict),

@@ -1,19 +1,23 @@
-use Rattle.std.proofs.Common.{◌∙◌, ℕ, All, ap, subst}
+use Rattle.std.proofs.Common.{inl, inr, subst, sym}
 use Rattle.std.proofs.lemmas.Result.{IfOk-weaker}
-use Rattle.search.specs.Answers.{IsSearchAnswerOn}
-use Rattle.history_commands.specs.Outputs.{lines_on}
-use Rattle.history_commands.specs.Searches.{answer_line, search_status}
-use Rattle.history_commands.proofs.Answering.{searched}
+use Rattle.reading.specs.Texts.{IsHistoryRead}
+use Rattle.history_commands.specs.Searches.{IsHistoryUnread}
+use Rattle.history_commands.proofs.Meanings.{is_search}
+use Rattle.history_commands.proofs.UnreadTexts.{stops}
 use Rattle.history_commands.proofs.searching.search_history.Goals as goal
 
-pub returns : goal.returns
-returns c =
-    let es = c.args.history.now in
-    let answers = c.in_ok-answers.answers.items in
-    let e = c.in_ok-answers.ensures in
-    let value = c.deref.ensures.value in
-    let each = subst (λ (limit : ℕ). All (λ a. IsSearchAnswerOn es limit a.0 a.1) answers) c.from.ensures e.answers in
-    IfOk-weaker c.output_of.result _ _
-    (λ o k. searched es c.args.steps o.status o.text.items answers e.rising e.named each
-    e.impossible e.valid e.distinct (k.0 ∙ ap search_status value) (k.1 ∙ ap (lines_on answer_line) value))
-    c.output_of.ensures
+pub returns-in-Ok : goal.returns-in-Ok
+returns-in-Ok c h read =
+    let r = subst (IsHistoryRead h) c.in-Ok.is read in
+    IfOk-weaker c.search_objects.result _ _
+    (λ o m. is_search c.valid_certificates_suffice.ensures h c.args.steps o.status o.text.items
+    (inl (r.short, c.in-Ok.history, r.denotes, m))) c.search_objects.ensures
+
+pub returns-in-Err : goal.returns-in-Err
+returns-in-Err c h read =
+    let r = subst (IsHistoryRead h) c.in-Err.is read in
+    let v = c.from.result in
+    let unread = subst (IsHistoryUnread h) (sym c.from.ensures) (stops h c.in-Err.stop r.stop) in
+    IfOk-weaker c.verdict_output.result _ _
+    (λ o k. is_search c.valid_certificates_suffice.ensures h c.args.steps o.status o.text.items
+    (inr (v, unread, k.0, k.1))) c.verdict_output.ensures
