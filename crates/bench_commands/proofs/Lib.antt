@@ -1,0 +1,5 @@
+pub mod Reports
+pub mod Accepted
+pub mod Simulations
+pub mod Meanings
+pub mod InMemory

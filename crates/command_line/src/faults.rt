@@ -1,0 +1,94 @@
+//! Why words give no line, and the text that says so.
+
+ghost use Rattle.std.specs.Prelude.{◌≡◌, ◌≢◌};
+ghost use Rattle.clap.specs.Values.{kind_of};
+ghost use Rattle.command_line.specs.Lines as spec;
+ghost use Rattle.command_line.specs.declared.faults.LineFault.TheVariants.{NoMemory};
+
+use crate::table::Takes;
+use crate::values::Unfit;
+use clap::Error;
+use clap::error::ErrorKind;
+use std::alloc::{AllocError, AllocFailed, Global};
+use thiserror::Error as ErrorText;
+
+/// Why there is no command: help was asked for, the words are wrong, or an allocation failed.
+#[derive(Debug, Drop, ErrorText)]
+pub enum LineFault {
+    /// They ask for help: this text.
+    #[error("{0}")]
+    Help(String),
+    /// They are refused, for this reason.
+    #[error("{0}")]
+    Refused(String),
+    #[error("out of memory")]
+    NoMemory,
+}
+
+impl From<AllocError> for LineFault {
+    ghost from_gives = { λ _ e. e ≡ NoMemory };
+
+    fn from(_e: AllocError) -> LineFault {
+        LineFault::NoMemory
+    }
+}
+
+impl<T: Drop> From<AllocFailed<T>> for LineFault {
+    ghost from_gives = { λ _ e. e ≡ NoMemory };
+
+    fn from(_e: AllocFailed<T>) -> LineFault {
+        LineFault::NoMemory
+    }
+}
+
+/// What `--kind` takes.
+const KINDS: &str = "queue, stack, heap, register, map, mutex, set, counter, lock, mixed";
+
+/// What `--first` takes.
+const TRY_FIRST_WORDS: &str = "number, return";
+
+/// What `clap` says: help, or what is wrong.
+pub(crate) fn fault_of(alloc: Global, error: &Error) -> LineFault
+    ensures { spec.IsClapFaultFor (kind_of error.now) result }
+{
+    if error.kind() == ErrorKind::OutOfMemory {
+        return LineFault::NoMemory;
+    }
+    match format!(in alloc; "{error}") {
+        Ok(text) if error.use_stderr() => LineFault::Refused(text),
+        Ok(text) => LineFault::Help(text),
+        Err(_) => LineFault::NoMemory,
+    }
+}
+
+/// Why a value that `clap` accepted is refused.
+fn reason_of(alloc: Global, unread: &Unfit) -> Result<String, AllocError> {
+    let Unfit::Value(name, takes) = unread else {
+        return String::from_str(alloc, "error: these words are no command\n");
+    };
+    match takes {
+        Takes::Kind => format!(in alloc; "error: --{name} takes one of the words {KINDS}\n"),
+        Takes::TryFirst => {
+            format!(in alloc; "error: --{name} takes one of the words {TRY_FIRST_WORDS}\n")
+        }
+        Takes::Number(bounds) => format!(in alloc;
+            "error: --{name} takes a number from {} to {}\n",
+            bounds.least, bounds.most
+        ),
+        Takes::Nothing => format!(in alloc; "error: --{name} takes no value\n"),
+    }
+}
+
+/// Says why what was found fits no line.
+pub(crate) fn explain(alloc: Global, unread: &Unfit) -> LineFault
+    ensures memory { unread.now ≡ Unfit.NoMemory → result ≡ LineFault.NoMemory }
+    ensures refused { result ≢ LineFault.NoMemory → spec.AreWordsRefused result }
+{
+    if matches!(unread, Unfit::NoMemory) {
+        return LineFault::NoMemory;
+    }
+    match reason_of(alloc, unread) {
+        Ok(text) => LineFault::Refused(text),
+        Err(_) => LineFault::NoMemory,
+    }
+}

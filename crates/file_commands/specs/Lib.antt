@@ -1,0 +1,5 @@
+pub mod LineFaults
+pub mod Leaves
+pub mod OnFiles
+pub mod Sharded
+pub mod Trusted
