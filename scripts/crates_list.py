@@ -4,7 +4,10 @@ import re
 from building import TOP, fail, files_in, sums
 
 LIST = f"{TOP}/crates.txt"
-PROGRAM = "fcbench"
+# The crate of each program, and of the proved half of the library.
+CRATES = {"verifier": "verifier", "bench": "fcbench", "library": "embedding"}
+# The file that says which version it is, and which logic proves it.
+VERSION = "crates/file_commands/src/host.rt"
 
 
 def line_of_each_crate(top=TOP):
@@ -39,10 +42,10 @@ def files_of(crate, top=TOP):
 
 
 def logic(top=TOP):
-    """Returns the logic that proves the crates, as the program says it."""
-    with open(f"{top}/crates/{PROGRAM}/src/main.rt") as file:
-        found = re.search(r'^const VERSION: &str = "fcbench [\d.]+, proved by Rattle logic ([0-9a-f]+)";$', file.read(), re.M)
-    return found[1] if found else fail(f"crates/{PROGRAM}/src/main.rt says in another way which logic proves it")
+    """Returns the logic that proves the crates, as the programs say it."""
+    with open(f"{top}/{VERSION}") as file:
+        found = re.search(r'^pub const VERSION: &str = "fcbench [\d.]+, proved by Rattle logic ([0-9a-f]+)";$', file.read(), re.M)
+    return found[1] if found else fail(f"{VERSION} says in another way which logic proves it")
 
 
 def sources_of(crate, top=TOP):

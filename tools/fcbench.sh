@@ -1,44 +1,42 @@
 #!/bin/sh
-# Runs a command of fcbench. judge, find, draw and import are commands of the tools, which are ordinary Rust. Every other command is one of the
-# proved verifier. ./install puts this file into bin as fcbench, and the two programs into libexec/fcbench: an installed copy runs these, whatever
-# the environment says. In the checkout it is tools/fcbench.sh, and runs what FCBENCH and FCBENCH_TOOLS name: ./fcbench sets both.
+# Runs a command of fcbench, by the program that commands.txt names: the proved verifier, the bench, which is proved too, or the tools, which are
+# ordinary Rust. ./install puts this file into bin as fcbench, and the programs with commands.txt into libexec/fcbench: an installed copy runs
+# these, whatever the environment says. In the checkout it is tools/fcbench.sh, and runs what FCBENCH (the verifier), FCBENCH_BENCH and
+# FCBENCH_TOOLS name: ./fcbench sets them.
 own=$(readlink -f "$0") || exit 70
 case $own in
-  */tools/fcbench.sh) ;;
-  *) FCBENCH=${own%/bin/*}/libexec/fcbench/fcbench FCBENCH_TOOLS=${own%/bin/*}/libexec/fcbench/fcbench-tools ;;
+  */tools/fcbench.sh) commands=${own%/fcbench.sh}/fcbench-tools/commands.txt ;;
+  *)
+    folder=${own%/bin/*}/libexec/fcbench
+    commands=$folder/commands.txt
+    FCBENCH=$folder/fcbench-verifier FCBENCH_BENCH=$folder/fcbench-bench FCBENCH_TOOLS=$folder/fcbench-tools ;;
 esac
-if [ ! -x "${FCBENCH:-}" ] || [ ! -x "${FCBENCH_TOOLS:-}" ]; then
-  echo 'fcbench: start ./fcbench, or install it with ./install' >&2
-  exit 70
-fi
 export FCBENCH
-tools=$FCBENCH_TOOLS
 
-is_of_tools() {
-  case ${1:-} in judge | find | draw | import) return 0 ;; esac
-  return 1
+# Becomes a program with these words, if it is there.
+become() {
+  if [ ! -x "$1" ]; then
+    echo 'fcbench: start ./fcbench, or install it with ./install' >&2
+    exit 70
+  fi
+  exec "$@"
 }
-if is_of_tools "$@"; then
-  exec "$tools" "$@"
-elif [ "${1:-}" = help ] && is_of_tools "${2:-}"; then
-  exec "$tools" "$2" --help
-fi
-all_commands() {
-  "$tools" --help || exit
-  echo
-  "$FCBENCH" --help
+
+# Prints the kind of program that has a command; the tools say what is wrong with another word.
+program_of() {
+  while read -r name program _; do
+    if [ "$name" = "$1" ]; then echo "$program"; return; fi
+  done <"$commands"
+  case $1 in --version | -V) echo verifier ;; *) echo tools ;; esac
 }
+
 case $#-${1:-} in
-  1-help | 1--h | 1---help)
-    all_commands
-    exit ;;
-  0-)
-    echo 'error: a command is missing' >&2
-    all_commands >&2
-    exit 64 ;;
+  1-help) set -- --help ;;
+  2-help) set -- "$2" --help ;;
 esac
-case $1 in
-  check | search | refute | verify | split | merge | run | simulate | help | -*) ;;
-  *) echo 'fcbench: the commands of the tools are judge, find, draw and import' >&2 ;;
+case $(program_of "${1:-}") in
+  verifier) become "${FCBENCH:-}" "$@" ;;
+  bench) become "${FCBENCH_BENCH:-}" "$@" ;;
+  tools) become "${FCBENCH_TOOLS:-}" "$@" ;;
+  *) exit 70 ;;
 esac
-exec "$FCBENCH" "$@"

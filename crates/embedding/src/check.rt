@@ -9,7 +9,7 @@ ghost use Rattle.embedding.specs.Handed.{IsAnswered};
 
 use crate::answer::answer;
 use history_commands::{Status, verdict_output};
-use text_check::judge_alone;
+use text_check::check_alone;
 use std::alloc::Global;
 
 /// Judges a history by certificates, and writes the lines of the verdict, or as much of them as
@@ -34,6 +34,6 @@ pub extern "C" fn fcbench_check(
     ensures accepts { AreValidTexts history.now certificates.now →
         (result ≡ status_number Status.Yes) ⊎ (result ≡ status_number Status.OutOfMemory) }
 {
-    let verdict = judge_alone(alloc, history, certificates);
+    let verdict = check_alone(alloc, history, certificates);
     answer(verdict_output(alloc, &verdict), out, needed)
 }

@@ -1,4 +1,4 @@
 pub mod Naming
 pub mod Accepting
 pub mod Verdicts
-pub mod Judging
+pub mod Checking

@@ -11,7 +11,7 @@ ghost use Rattle.reading.specs.Reads.{IsLinearizableRead};
 ghost use Rattle.reading.specs.Reads.{WasRefused};
 ghost use Rattle.reading.specs.Texts.{IsHistoryRead};
 
-use crate::decision::judge_read;
+use crate::decision::check_read;
 use edn::{Failed, Sink, Source};
 use history::History;
 use reading::{ReadFault, TextFailure, UnreadSource, WhichSource, read_history_and_text};
@@ -58,7 +58,7 @@ fn fault_of_reading(unread: UnreadSource) -> ToolFault
 
 /// Judges a history that was read by the certificates in a text, and writes the lines of the
 /// verdict. Only the sink can fail.
-fn judge_and_write<R: Threads + Sync, W: Sink>(
+fn check_and_write<R: Threads + Sync, W: Sink>(
     rt: &R,
     alloc: Global,
     history: Result<History, TextFailure>,
@@ -76,7 +76,7 @@ fn judge_and_write<R: Threads + Sync, W: Sink>(
         ((v : ReportVerdict) × IsJudgement h certificates.now v
         × WritesPrefix (W.sent sink.old) (W.sent sink.new) (verdict_text false v)) }
 {
-    let verdict = judge_read(rt, alloc, history, certificates, workers);
+    let verdict = check_read(rt, alloc, history, certificates, workers);
     match write_verdict(&verdict, false, sink) {
         Ok(()) => Ok(verdict),
         Err(_) => Err(Failed),
@@ -131,7 +131,7 @@ pub fn check_over<R: Threads + Sync, H: Source, C: Source, W: Sink>(
         Ok(texts) => texts,
         Err(unread) => return Err(fault_of_reading(unread)),
     };
-    match judge_and_write(rt, alloc, read, &second, workers, sink) {
+    match check_and_write(rt, alloc, read, &second, workers, sink) {
         Ok(verdict) => Ok(verdict),
         Err(Failed) => Err(ToolFault::Write),
     }

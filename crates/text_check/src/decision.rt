@@ -56,7 +56,7 @@ fn with_certificates(
 }
 
 /// Judges a history that was read from a text, as `judge` does.
-pub(crate) fn judge_read<R: Threads + Sync>(
+pub(crate) fn check_read<R: Threads + Sync>(
     rt: &R,
     alloc: Global,
     history: Result<History, TextFailure>,
@@ -99,11 +99,11 @@ pub fn judge<R: Threads + Sync>(
     ensures holds { IsJudgement history.now certificates.now result }
 {
     let read = history_of_text_by_workers(rt, alloc, history, workers);
-    judge_read(rt, alloc, read, certificates, workers)
+    check_read(rt, alloc, read, certificates, workers)
 }
 
 /// Judges two texts as `judge` does. It starts no thread.
-pub fn judge_alone(alloc: Global, history: &[u8], certificates: &[u8]) -> Verdict
+pub fn check_alone(alloc: Global, history: &[u8], certificates: &[u8]) -> Verdict
     ensures linearizable { OnYes result (IsLinearizableText history.now) }
     ensures holds { IsJudgement history.now certificates.now result }
 {

@@ -290,7 +290,7 @@ mod tests {
             Some(Command::Help(text)) => text.starts_with(first),
             _ => false,
         };
-        assert!(is_help("--help", "fcbench: judge, find, draw and import"));
+        assert!(is_help("--help", "judges histories of concurrent objects"));
         assert!(is_help("judge --help", "decides whether a history is linearizable"));
         assert!(is_help("find -h", "writes evidence"));
         assert!(is_help("draw h.edn --help", "judges a history, or checks it"));

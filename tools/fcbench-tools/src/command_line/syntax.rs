@@ -234,8 +234,45 @@ pub const IMPORT: Syntax = Syntax {
     ],
 };
 
-/// The commands.
+/// The commands of this program.
 pub const COMMANDS: [&Syntax; 4] = [&JUDGE, &FIND, &DRAW, &IMPORT];
+
+/// All commands, each with the program that does it and what it does, with tabs between.
+const TABLE: &str = include_str!("../../commands.txt");
+
+/// Each command of the table, and what it does.
+fn table() -> impl Iterator<Item = (&'static str, &'static str)> {
+    TABLE.lines().filter_map(|line| {
+        let (name, rest) = line.split_once('\t')?;
+        Some((name, rest.split_once('\t')?.1))
+    })
+}
+
+/// How many letters must be put in, left out or exchanged to make one word of another (Levenshtein,
+/// Soviet Physics Doklady 10, 1966). Two neighbours that change places count as one.
+fn distance(one: &str, other: &str) -> usize {
+    let (one, other): (Vec<char>, Vec<char>) = (one.chars().collect(), other.chars().collect());
+    let mut rows = vec![(0..=other.len()).collect::<Vec<_>>()];
+    for i in 1..=one.len() {
+        let mut row = vec![i];
+        for j in 1..=other.len() {
+            let exchanged = rows[i - 1][j - 1] + usize::from(one[i - 1] != other[j - 1]);
+            let mut least = exchanged.min(rows[i - 1][j] + 1).min(row[j - 1] + 1);
+            if i > 1 && j > 1 && one[i - 1] == other[j - 2] && one[i - 2] == other[j - 1] {
+                least = least.min(rows[i - 2][j - 2] + 1);
+            }
+            row.push(least);
+        }
+        rows.push(row);
+    }
+    rows[one.len()][other.len()]
+}
+
+/// The command whose name is the nearest to this word, if it is near.
+pub fn nearest(word: &str) -> Option<&'static str> {
+    let near = table().map(|(name, _)| (distance(word, name), name));
+    near.filter(|(far, _)| *far <= 2).min().map(|(_, name)| name)
+}
 
 /// The help on all commands.
 pub struct Commands;
@@ -246,8 +283,37 @@ impl Commands {
 
 impl Display for Commands {
     fn fmt(&self, f: &mut Formatter<'_>) -> fmt::Result {
-        writeln!(f, "fcbench: judge, find, draw and import\n\n{}\n", Commands::USAGE)?;
-        writeln!(f, "Commands:")?;
-        COMMANDS.iter().try_for_each(|it| writeln!(f, "  {:6} {}", it.name, it.about))
+        writeln!(f, "judges histories of concurrent objects\n\n{}\n\nCommands:", Commands::USAGE)?;
+        table().try_for_each(|(name, about)| writeln!(f, "  {name:8}  {about}"))?;
+        writeln!(f, "\nOf one command: fcbench <COMMAND> --help")
+    }
+}
+
+#[cfg(test)]
+mod tests {
+    use super::*;
+
+    #[test]
+    fn the_table_has_the_commands_of_this_program() {
+        for command in COMMANDS {
+            let in_table = table().find(|(name, _)| *name == command.name);
+            assert_eq!(in_table, Some((command.name, command.about)));
+        }
+    }
+
+    #[test]
+    fn the_nearest_command_is_named() {
+        for (word, name) in [
+            ("jugde", Some("judge")),
+            ("chek", Some("check")),
+            ("serach", Some("search")),
+            ("simulation", None),
+            ("verfy", Some("verify")),
+            ("spilt", Some("split")),
+            ("help-me", None),
+            ("", None),
+        ] {
+            assert_eq!(nearest(word), name, "{word}");
+        }
     }
 }

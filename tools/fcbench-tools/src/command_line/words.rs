@@ -1,6 +1,6 @@
 //! The words after a command, sorted into files and options, and what is wrong with them.
 
-use super::syntax::{Commands, Syntax, Value};
+use super::syntax::{Commands, Syntax, Value, nearest};
 use std::fmt::{self, Display, Formatter};
 
 /// What is wrong with a command line.
@@ -53,7 +53,10 @@ impl Refused {
         let name = self.command.map_or("fcbench", |it| it.name);
         match &self.fault {
             Fault::NoCommand => f.write_str("a command is missing"),
-            Fault::NoSuchCommand(word) => write!(f, "no such command: {}", Quoted(word)),
+            Fault::NoSuchCommand(word) => {
+                write!(f, "no such command: {}", Quoted(word))?;
+                nearest(word).map_or(Ok(()), |name| write!(f, "; the nearest is {name}"))
+            }
             Fault::NoSuchOption(word) => write!(
                 f,
                 "{name} has no option {}; to name such a file, put -- before it",

@@ -1,5 +1,5 @@
 -- `fcbench_check`: an answer 0 means that the history is linearizable, and the lines are those of a verdict that
--- holds. It is what `judge_alone` ensures; only the status of `Yes` gives the number 0.
+-- holds. It is what `check_alone` ensures; only the status of `Yes` gives the number 0.
 use Rattle.std.proofs.lemmas.Result.{IfOk-weaker}
 use Rattle.reading.specs.Texts.{IsLinearizableText}
 use Rattle.history_commands.specs.Checked.{IsCheck}
@@ -14,8 +14,8 @@ pub returns : goal.returns
 returns c =
     let h = c.args.history.now in
     let o = c.args.certificates.now in
-    let v = c.judge_alone-verdict.result in
-    let e = c.judge_alone-verdict.ensures in
+    let v = c.check_alone-verdict.result in
+    let e = c.check_alone-verdict.ensures in
     let out = c.args.out.now in
     let checked : IsAnswered (IsCheck h o) c.answer.result out c.answer.new.out c.answer.new.needed =
     answered (IsCheck h o) c.verdict_output.result c.answer.result out c.answer.new.out c.answer.new.needed

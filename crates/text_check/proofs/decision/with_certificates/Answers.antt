@@ -1,7 +1,7 @@
 use Rattle.std.proofs.Common.{subst}
 use Rattle.std.proofs.lemmas.Result.{err_from_is_err_and}
 use Rattle.reading.specs.Texts.{IsHistoryRead}
-use Rattle.text_check.proofs.Judging.{both_read, stopped_certificates, stopped_history}
+use Rattle.text_check.proofs.Checking.{both_read, stopped_certificates, stopped_history}
 use Rattle.text_check.proofs.decision.with_certificates.Goals as goal
 
 pub returns-in_err-history-clause-read : goal.returns-in_err-history-clause-read

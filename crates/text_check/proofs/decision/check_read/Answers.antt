@@ -1,8 +1,8 @@
 use Rattle.std.proofs.Common.{sym, subst}
 use Rattle.text_check.specs.Texts.{DenoteOnly}
 use Rattle.text_check.specs.Verdicts.{AreBothRead, IsJudgement}
-use Rattle.text_check.proofs.Judging.{holds_checked, holds_stopped}
-use Rattle.text_check.proofs.decision.judge_read.Goals as goal
+use Rattle.text_check.proofs.Checking.{holds_checked, holds_stopped}
+use Rattle.text_check.proofs.decision.check_read.Goals as goal
 
 pub returns-in-Ok : goal.returns-in-Ok
 returns-in-Ok g c = λ h read.

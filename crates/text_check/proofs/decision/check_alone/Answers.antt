@@ -1,11 +1,11 @@
--- `judge_alone`: the verdict holds of the two texts, and a yes means that the history is linearizable. Where both
+-- `check_alone`: the verdict holds of the two texts, and a yes means that the history is linearizable. Where both
 -- are read the check decides, by locality (`holds_checked`); else the stop does (`holds_stopped`).
 use Rattle.std.proofs.Common.{sym, subst}
 use Rattle.text_check.specs.Texts.{DenoteOnly}
 use Rattle.text_check.specs.Verdicts.{AreBothRead, IsJudgement}
-use Rattle.text_check.proofs.Judging.{holds_checked, holds_stopped}
-use Rattle.text_check.proofs.decision.judge_alone.Goals as goal
-use Rattle.text_check.proofs.decision.judge_alone.Goals.{After-with_certificates}
+use Rattle.text_check.proofs.Checking.{holds_checked, holds_stopped}
+use Rattle.text_check.proofs.decision.check_alone.Goals as goal
+use Rattle.text_check.proofs.decision.check_alone.Goals.{After-with_certificates}
 
 read : (c : After-with_certificates) → AreBothRead (λ v. v.items) c.args.history.now c.args.certificates.now
     c.with_certificates.result
