@@ -10,7 +10,7 @@ use std::os::unix::fs::{FileTypeExt, MetadataExt};
 use std::path::PathBuf;
 use std::process::{Child, Command, Stdio};
 
-const NAME: &str = "fcbench";
+const NAME: &str = "fcbench-verifier";
 
 /// Where the verifier is: the file that the environment variable FCBENCH names, otherwise the one
 /// next to this program. It is never looked for on the PATH, where another program may have its
