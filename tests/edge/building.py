@@ -495,3 +495,5 @@ PARTS = (
     tools_by_content, library_by_content, older_build_of_rattle, installed_whole, installed_into_checkout, words_of_help, quick_after_the_proof,
     side_by_side, ended_by_a_signal, odd_surroundings, without_the_kit, nothing_to_prove,
 )
+# Those that test the scripts alone, with stubs in place of the programs.
+WITHOUT_PROGRAM = tuple(part for part in PARTS if part not in (words_of_help, without_the_kit, nothing_to_prove))

@@ -154,11 +154,14 @@ def alone(path, folder):
 @contextlib.contextmanager
 def in_own_folder(proved, tools, folder):
     """The proved program and the tools beside each other in a new folder of this folder, as long as one part of the tests runs, so that no
-    part finds a file of another one. The label is the name of the proved program."""
+    part finds a file of another one. The label is the name of the proved program. A part that needs no program gets the folder alone."""
     with tempfile.TemporaryDirectory(prefix="part-", dir=folder) as own:
         # Some runs are those of another user.
         os.chmod(own, 0o777)
-        yield Program(copied(proved, own, "fcbench"), own, faults_in(folder), copied(tools, own, "fcbench-tools"), os.path.basename(proved))
+        if proved:
+            yield Program(copied(proved, own, "fcbench"), own, faults_in(folder), copied(tools, own, "fcbench-tools"), os.path.basename(proved))
+        else:
+            yield Program(None, own, None, label="no program:")
 
 
 def at_once(call, values):
@@ -178,9 +181,11 @@ def told(value):
 
 
 class Report:
-    """Counts the tests that passed, and keeps what the others expected and got."""
+    """Counts the tests that passed, and keeps what the others expected and got. With a pattern it counts only those that have it in their names, and
+    prints the names of those that passed."""
 
-    def __init__(self):
+    def __init__(self, pattern=""):
+        self.pattern = pattern
         self.passed = 0
         self.failed = []
 
@@ -190,8 +195,12 @@ class Report:
 
     def equal(self, name, expected, came, more=""):
         """Counts a test that passes where what came is what was expected."""
+        if self.pattern not in name:
+            return
         if expected == came:
             self.passed += 1
+            if self.pattern:
+                print(f"  passed {name}", flush=True)
         else:
             self.failed.append(f"FAILED {name}\n  expected: {told(expected)}\n  came:     {told(came)} {told(more) if more != '' else ''}".rstrip())
 

@@ -5,7 +5,7 @@ import re
 
 from ..running import at_once
 
-# How many texts are drawn. By hand: IMPORTED_TEXTS=20000 tests/run PROGRAM drawn_texts
+# How many texts are drawn. By hand: IMPORTED_TEXTS=20000 tests/run drawn_texts
 TEXTS = int(os.environ.get("IMPORTED_TEXTS", 500))
 # An argument of each function, and its replies, with numbers from a few for v. The functions of a kind.
 KINDS = (
