@@ -30,7 +30,7 @@ use crate::cuts::{Cut, Values};
 use crate::history::ObjectHistory;
 use crate::search::{Searched, TryFirst};
 use narrow::narrowed;
-use plan::{Element, Plan};
+use plan::{Chosen, Form, KeptValue, Plan, ShownBy};
 use propose::Proposal;
 use std::collections::BTreeSet;
 

@@ -1,7 +1,7 @@
 //! Patterns of a number in which no order is valid: two calls, of which the later one finds what
 //! can't be there any more, or not yet. A part has all additions of its time.
 
-use super::{Candidate, Element, Pattern, Plan};
+use super::{Candidate, Form, Pattern, Plan};
 use crate::timeline::{Call, Timeline};
 use std::collections::HashSet;
 
@@ -69,12 +69,11 @@ impl<'a> Scene<'a> {
         calls: &[Call],
     ) -> Option<Candidate> {
         let last = calls.iter().max_by_key(|call| call.end)?;
-        let named = first.into_iter().chain(calls).map(|call| Element::Operation(call.number));
+        let operations = first.into_iter().chain(calls).map(|call| call.number).collect();
         let plan = Plan {
             from: first.map(|first| first.number),
             until: Some(last.until()),
-            all_values: true,
-            ..Plan::of(named.collect())
+            ..Plan::of(Form::Window { operations })
         };
         Some(Candidate::without_key(pattern, plan, self.weight(first, last)))
     }

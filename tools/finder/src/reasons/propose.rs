@@ -6,7 +6,7 @@ use super::numbers::number_patterns;
 use super::shrink::Judge;
 use super::value_pairs::value_pairs_of;
 use super::wholes::wholes_of;
-use super::{Candidate, Element, Pattern, Plan, Reason, Trial};
+use super::{Candidate, Form, Pattern, Plan, Reason, Trial};
 use crate::cuts::{Cut, part_by};
 use crate::history::ObjectHistory;
 use crate::kinds::Family;
@@ -93,12 +93,12 @@ impl Proposer<'_> {
     }
 
     /// The last calls that find nothing and return before this number, at which a part may begin.
-    fn starts(&self, until: u32) -> impl Iterator<Item = Element> {
+    fn starts(&self, until: u32) -> impl Iterator<Item = u32> {
         let starts = self.history.ops.iter().rev().filter(move |o| {
             o.returned().is_some_and(|at| at < until)
                 && o.reply().is_some_and(|reply| o.op.tells(reply))
         });
-        starts.map(|o| Element::Operation(o.number)).take(MOST_STARTS)
+        starts.map(|o| o.number).take(MOST_STARTS)
     }
 
     /// The cuts of the part in which a plan is made smaller. Where that of a queue, stack or heap
@@ -106,14 +106,17 @@ impl Proposer<'_> {
     fn base_cuts(&self, candidate: &Candidate) -> Vec<Cut> {
         let plan = &candidate.plan;
         let mut cuts = Vec::new();
-        if !self.history.kind.is_container() {
-            plan.push_cuts(self.history, &mut cuts);
-        } else if candidate.weight <= LIGHT {
-            plan.push_keeping(self.history, &mut cuts);
-        } else {
-            let starts = self.starts(plan.until.unwrap_or(u32::MAX));
-            let elements = starts.chain(plan.elements.iter().copied()).collect();
-            Plan::of(elements).push_keeping(self.history, &mut cuts);
+        match &plan.form {
+            Form::Container(chosen) if candidate.weight <= LIGHT => {
+                chosen.push_cuts(self.history, &mut cuts);
+            }
+            Form::Container(chosen) => {
+                let starts = self.starts(plan.until.unwrap_or(u32::MAX));
+                chosen.with(starts).push_cuts(self.history, &mut cuts);
+            }
+            Form::Window { .. } | Form::Register(_) | Form::Keys(_) | Form::Entry { .. } => {
+                plan.push_cuts(self.history, &mut cuts);
+            }
         }
         cuts
     }
@@ -143,11 +146,11 @@ impl Proposer<'_> {
         let Base { part, mut cuts, from } = base;
         let own = plan.from;
         plan.from = own.or(from);
-        plan.elements.extend(plan.from.map(Element::Operation));
+        plan.from.into_iter().for_each(|number| plan.form.add(number));
         self.checked(plan.reason(self.history)).or_else(|| {
             plan.from = own;
             plan.push_cuts(&part, &mut cuts);
-            self.checked(Reason { cuts, count: plan.count })
+            self.checked(Reason { cuts, count: plan.count() })
         })
     }
 

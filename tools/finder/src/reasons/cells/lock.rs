@@ -5,13 +5,13 @@ use super::scene::Scene;
 use super::{asking, takers};
 use crate::accesses::{NOTHING, Need, owners_of};
 use crate::cuts::Counted;
-use crate::reasons::{Candidate, Pattern, Plan};
+use crate::reasons::{Candidate, Form, Pattern, Plan};
 use crate::timeline::Timeline;
 
 /// The candidate whose part has all calls of its time.
 fn of_time(candidate: Candidate, pattern: Pattern) -> Candidate {
     let Plan { from, until, .. } = candidate.plan;
-    let plan = Plan { from, until, ..Plan::default() };
+    let plan = Plan { from, until, ..Plan::of(Form::Window { operations: Vec::new() }) };
     Candidate { plan, pattern, ..candidate }
 }
 

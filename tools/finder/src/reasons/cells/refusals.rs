@@ -4,7 +4,7 @@
 use super::MOST;
 use super::scene::Scene;
 use crate::accesses::{Access, Cell, NOTHING, Need};
-use crate::reasons::{Candidate, Element, Pattern, Plan};
+use crate::reasons::{Candidate, Chosen, Form, Pattern, Plan};
 use crate::timeline::{Call, PENDING};
 
 /// A call that shows a content, and the one that begins last among those that show the same and
@@ -121,12 +121,15 @@ fn candidate_of(
     };
     let around = shown_around(scene, shown, overs, content, &access.call)?;
     let calls = around.iter().take(1).chain([&access.call]).chain(around.iter().skip(1));
-    let elements = calls.clone().map(|call| Element::Operation(call.number));
+    let operations = calls.clone().map(|call| call.number).collect();
+    let form = match scene.cell.key {
+        None => Form::Window { operations },
+        Some(key) => Form::Keys(Chosen { values: vec![key], operations }),
+    };
     let plan = Plan {
-        all_values: scene.cell.key.is_none(),
         from: around.first().map(|first| first.number),
         until: calls.clone().map(Call::until).max(),
-        ..Plan::of(scene.cell.key.map(Element::Value).into_iter().chain(elements).collect())
+        ..Plan::of(form)
     };
     let number = access.call.number;
     let pattern = match scene.value(content) {

@@ -5,7 +5,7 @@ use super::windows::{shortest_window, starts_in, takers_in};
 use super::{MOST, MOST_NAMED};
 use crate::accesses::{Access, NOTHING, Need};
 use crate::cuts::{Count, Counted};
-use crate::reasons::{Candidate, Pattern};
+use crate::reasons::{Candidate, Pattern, ShownBy};
 use crate::timeline::Call;
 
 /// What of a cell is counted. `None`: a register that contains nothing, which no call counts.
@@ -17,14 +17,18 @@ fn counted(scene: &Scene, content: usize) -> Option<Counted> {
     }
 }
 
-/// The count, from this number on, in the part of a cell's plan, where a key of a map is a
-/// register. `None`: a search must show it, since nothing is counted at a cell without values.
-fn count_in_part(scene: &Scene, counted: Counted, from: u32) -> Option<Count> {
+/// What shows that too much of this is counted from a number on, in the part of a cell's plan,
+/// where a key of a map is a register. A search must show it of a cell without values, at which
+/// nothing is counted.
+fn shown_in_part(scene: &Scene, counted: Counted, from: u32) -> ShownBy {
     let counted = match counted {
         Counted::Entry { value, .. } => Counted::Value(value),
         _ => counted,
     };
-    scene.has_values.then_some(Count { counted, from })
+    match scene.has_values {
+        true => ShownBy::count(Count { counted, from }),
+        false => ShownBy::Search,
+    }
 }
 
 /// The content that a call takes away, by its reply.
@@ -92,7 +96,7 @@ pub fn excesses(scene: &Scene) -> Vec<Candidate> {
         let takers = &takers[..taken];
         let mut plan = scene.plan(&[content], takers);
         plan.until = takers.last().map(Call::until);
-        plan.count = count_in_part(scene, counted, 0);
+        plan.shown_by = shown_in_part(scene, counted, 0);
         let pattern = excess_pattern(scene, content, taken, counted);
         Some(scene.candidate(pattern, plan, 2 * taken))
     });
@@ -117,11 +121,11 @@ fn window(
     let candidates = starts_in(&inside, window).into_iter().map(|start| {
         let mut plan = scene.plan(&contents, &inside);
         plan.until = inside.last().map(Call::until);
-        plan.from = start.part;
-        plan.count = counted.and_then(|it| count_in_part(scene, it, start.count));
-        if plan.count.is_none() {
-            plan.from = sight_before(scene, &inside);
-        }
+        plan.shown_by = counted.map_or(ShownBy::Search, |it| shown_in_part(scene, it, start.count));
+        plan.from = match plan.shown_by {
+            ShownBy::Search => sight_before(scene, &inside),
+            ShownBy::Count { .. } => start.part,
+        };
         scene.candidate(pattern.clone(), plan, 2 * inside.len())
     });
     Some(candidates.collect())

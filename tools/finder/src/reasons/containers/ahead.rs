@@ -15,7 +15,7 @@
 use super::runs::{Run, Runs};
 use crate::cuts::{Count, Counted};
 use crate::kinds::Gives;
-use crate::reasons::{Candidate, Element, Pattern, Plan};
+use crate::reasons::{Candidate, Chosen, Form, KeptValue, Pattern, Plan, ShownBy};
 use crate::timeline::Call;
 use crate::trees::{ABSENT, Least};
 
@@ -271,7 +271,7 @@ fn answered<'a>(mut questions: Vec<Question<'a>>, pairs: &mut Pairs) -> Vec<Ques
 
 /// What was done with a value until a removal returned.
 struct Share {
-    element: Element,
+    value: KeptValue,
     /// How many of the puts that count are not taken.
     surplus: usize,
     /// How many more puts than removals the whole history has.
@@ -281,13 +281,10 @@ struct Share {
     number: u32,
 }
 
-/// The element that keeps a value from the run at this place on.
-fn element_of(own: &[Run], place: usize) -> Element {
+/// The value of these runs, kept from the run at this place on.
+fn kept_from(own: &[Run], place: usize) -> KeptValue {
     let run = &own[place];
-    match run.since {
-        Some(since) if place > 0 => Element::Since(run.value, since),
-        _ => Element::Value(run.value),
-    }
+    KeptValue { value: run.value, since: run.since.filter(|_| place > 0) }
 }
 
 impl Asking<'_> {
@@ -310,7 +307,7 @@ impl Asking<'_> {
         let (all_puts, all_taken) =
             own.iter().map(size).fold((0, 0), |a, b| (a.0 + b.0, a.1 + b.1));
         Some(Share {
-            element: element_of(own, place),
+            value: kept_from(own, place),
             surplus: puts.checked_sub(taken).filter(|surplus| *surplus > 0)?,
             left: all_puts.checked_sub(all_taken)?,
             calls: self.calls(rest, question),
@@ -328,7 +325,7 @@ impl Asking<'_> {
         let (puts, size) =
             own.iter().fold((0, 0), |sum, run| (sum.0 + run.put_count(), sum.1 + run.size()));
         Some(Share {
-            element: element_of(own, at),
+            value: kept_from(own, at),
             surplus: 0,
             left: (2 * puts).saturating_sub(size),
             calls: self.calls(&own[at..], question),
@@ -385,7 +382,7 @@ impl Asking<'_> {
 /// The values that a candidate keeps.
 #[derive(Clone, Default)]
 struct Kept {
-    elements: Vec<Element>,
+    values: Vec<KeptValue>,
     /// How many of the puts that count are not taken.
     surplus: usize,
     /// How many more puts than removals the whole history has.
@@ -395,7 +392,7 @@ struct Kept {
 
 impl Kept {
     fn with(mut self, share: &Share) -> Kept {
-        self.elements.push(share.element);
+        self.values.push(share.value);
         self.surplus += share.surplus;
         self.left += share.left;
         self.calls += share.calls;
@@ -422,13 +419,13 @@ impl Kept {
 /// The candidate that keeps these values.
 fn candidate_of(question: &Question, kept: Kept) -> Candidate {
     let (number, weight) = (question.call.number, kept.calls + kept.pending(question));
-    let mut elements = kept.elements;
-    if question.run.is_none() {
-        elements.push(Element::Operation(number));
-    }
+    let operations = question.run.is_none().then_some(number).into_iter().collect();
     let count = Count { counted: Counted::Ahead(number), from: question.from };
-    let plan =
-        Plan { until: Some(question.call.until()), count: Some(count), ..Plan::of(elements) };
+    let plan = Plan {
+        until: Some(question.call.until()),
+        shown_by: ShownBy::count(count),
+        ..Plan::of(Form::Container(Chosen { values: kept.values, operations }))
+    };
     Candidate::without_key(Pattern::General, plan, weight)
 }
 

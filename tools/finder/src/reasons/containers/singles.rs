@@ -4,7 +4,7 @@
 use super::chains::{FEW_CALLS, plan_of_runs};
 use super::runs::{Run, Runs};
 use crate::cuts::{Count, Counted};
-use crate::reasons::{Candidate, Pattern};
+use crate::reasons::{Candidate, Pattern, ShownBy};
 use crate::timeline::Call;
 
 /// The most candidates of this kind.
@@ -55,8 +55,8 @@ pub fn singles(runs: &Runs) -> Vec<Candidate> {
         let chain = chain_with_puts(runs, place);
         let size: usize = runs.weight_of(&chain);
         let mut plan = plan_of_runs(runs, &chain, &[], removal.until());
-        plan.keeps_beginning = size <= FEW_CALLS;
-        plan.count = Some(Count { counted: Counted::Value(run.value), from: 0 });
+        let count = Count { counted: Counted::Value(run.value), from: 0 };
+        plan.shown_by = ShownBy::Count { count, keeps_beginning: size <= FEW_CALLS };
         Some(Candidate::without_key(pattern, plan, size))
     });
     found.take(MOST).collect()
