@@ -68,7 +68,7 @@ pub enum Form {
     /// Some values of a queue, stack or heap.
     Container(Chosen<KeptValue>),
     /// Some values of a register, with one other value in place of all others.
-    Register(Chosen<i64>),
+    LoneCell(Chosen<i64>),
     /// Some keys of a map, or elements of a set, each with all its values.
     Keys(Chosen<i64>),
     /// Some values under one key of a map, of which the part is a register.
@@ -201,7 +201,7 @@ impl Chosen<i64> {
 
     /// The cut that keeps the values and operations of a register. All that returned can be left
     /// out.
-    fn register(&self, history: &ObjectHistory) -> Cut {
+    fn lone_cell(&self, history: &ObjectHistory) -> Cut {
         let chosen = self.numbers();
         let numbers = numbers_where(history, |o| {
             chosen.contains(&o.number)
@@ -229,7 +229,7 @@ impl Form {
         match self {
             Form::Window { operations } => operations,
             Form::Container(chosen) => &mut chosen.operations,
-            Form::Register(chosen) | Form::Keys(chosen) | Form::Entry { chosen, .. } => {
+            Form::LoneCell(chosen) | Form::Keys(chosen) | Form::Entry { chosen, .. } => {
                 &mut chosen.operations
             }
         }
@@ -245,7 +245,7 @@ impl Form {
         match self {
             Form::Window { operations } => operations.len(),
             Form::Container(chosen) => chosen.size(),
-            Form::Register(chosen) | Form::Keys(chosen) | Form::Entry { chosen, .. } => {
+            Form::LoneCell(chosen) | Form::Keys(chosen) | Form::Entry { chosen, .. } => {
                 chosen.size()
             }
         }
@@ -258,7 +258,7 @@ impl Form {
                 Form::Window { operations: all_except(operations, places) }
             }
             Form::Container(chosen) => Form::Container(chosen.without(places)),
-            Form::Register(chosen) => Form::Register(chosen.without(places)),
+            Form::LoneCell(chosen) => Form::LoneCell(chosen.without(places)),
             Form::Keys(chosen) => Form::Keys(chosen.without(places)),
             Form::Entry { key, chosen } => {
                 Form::Entry { key: *key, chosen: chosen.without(places) }
@@ -344,8 +344,8 @@ impl Plan {
             Form::Entry { key, chosen } if history.kind.has_keys() => {
                 cuts.push(chosen.cell(Some(*key), chosen.numbers()));
             }
-            Form::Register(chosen) | Form::Entry { chosen, .. } => {
-                cuts.push(chosen.register(history));
+            Form::LoneCell(chosen) | Form::Entry { chosen, .. } => {
+                cuts.push(chosen.lone_cell(history));
             }
         }
         self.push_time(cuts);

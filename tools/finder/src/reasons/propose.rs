@@ -114,7 +114,7 @@ impl Proposer<'_> {
                 let starts = self.starts(plan.until.unwrap_or(u32::MAX));
                 chosen.with(starts).push_cuts(self.history, &mut cuts);
             }
-            Form::Window { .. } | Form::Register(_) | Form::Keys(_) | Form::Entry { .. } => {
+            Form::Window { .. } | Form::LoneCell(_) | Form::Keys(_) | Form::Entry { .. } => {
                 plan.push_cuts(self.history, &mut cuts);
             }
         }

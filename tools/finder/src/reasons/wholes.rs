@@ -61,10 +61,10 @@ pub fn wholes_of(kind: Kind, timeline: &Timeline) -> Vec<Candidate> {
             Form::Container(Chosen { values, operations })
         })],
         Family::Cells(Cells { has_keys: false, .. }) => {
-            let register = whole(None, &calls, |operations| {
-                Form::Register(Chosen { values: values_of(&calls), operations })
+            let cell = whole(None, &calls, |operations| {
+                Form::LoneCell(Chosen { values: values_of(&calls), operations })
             });
-            vec![register, window()]
+            vec![cell, window()]
         }
         Family::Holdable(_) | Family::Number(_) => vec![window()],
         Family::Cells(Cells { has_keys: true, .. }) => {

@@ -51,7 +51,7 @@ impl<'a> Scene<'a> {
         let values = || contents.iter().filter_map(|content| self.value(*content)).collect();
         let is_whole = !self.has_values || contents.contains(&NOTHING);
         Plan::of(match self.cell.key {
-            None => Form::Register(Chosen { values: values(), operations }),
+            None => Form::LoneCell(Chosen { values: values(), operations }),
             Some(key) if is_whole => Form::Keys(Chosen { values: vec![key], operations }),
             Some(key) => Form::Entry { key, chosen: Chosen { values: values(), operations } },
         })
