@@ -95,18 +95,6 @@ impl<'a> Narrowing<'a> {
     }
 }
 
-/// The pattern for a window: one that says how often something was done is not true of the whole.
-fn pattern_in_window(pattern: Pattern) -> Pattern {
-    match pattern {
-        Pattern::Stale(_) | Pattern::RefusedUnderItsValue { .. } => pattern,
-        Pattern::DoneOverValue { .. } | Pattern::RefusedWithoutValue { .. } => pattern,
-        Pattern::Repeated { .. } | Pattern::NotHolder { .. } => pattern,
-        Pattern::Fell { .. } | Pattern::FoundTwice(_) => pattern,
-        Pattern::CountExceeded(_) => pattern,
-        _ => Pattern::General,
-    }
-}
-
 /// A reason for a smaller part than that of these cuts, which a search or a count refuted, if one
 /// is found in a third of the steps that the search took.
 pub fn narrowed(
@@ -140,7 +128,7 @@ pub fn narrowed(
         let (reason, smaller) = is_smaller(alone)
             .filter(|(_, smaller)| smaller.ops.len() <= small.ops.len())
             .or_else(|| is_smaller(in_window))?;
-        Some((Proposal { reason, pattern: pattern_in_window(pattern), key }, smaller))
+        Some((Proposal { reason, pattern: pattern.in_window(), key }, smaller))
     });
     proposed.or_else(|| {
         let (reason, smaller) = is_smaller(Reason { cuts: [cuts, &window].concat(), count: None })?;

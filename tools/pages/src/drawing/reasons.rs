@@ -4,7 +4,10 @@
 
 use crate::contents::{puts, takes, value_put};
 use crate::timeline::{DrawnOperation, Role, Span, Spans, State, Tried, spans};
-use finder::{Counted, Gives, Kind, Lost, Need, Pattern, Reply, Sentence};
+use finder::{
+    Absent, CountExceeded, Counted, Gives, Kind, Lost, Need, OneValue, Pattern, Reply, Sentence,
+    WrongPair,
+};
 
 /// The operations of an object, and those of a part of which no order is valid. If the part
 /// begins, if not at the beginning, and the pattern that led to it.
@@ -401,18 +404,30 @@ impl Reason<'_> {
             Pattern::Lost(lost) => self.not_empty().or_else(|| self.lost(lost)),
             // If an operation failed that would have put the value in, the finder's sentence says
             // so.
-            Pattern::NeverSet(_) | Pattern::TooEarly(_) if self.sentence.facts.undone.is_some() => {
+            Pattern::OneValue(OneValue::NeverSet(_) | OneValue::TooEarly(_))
+                if self.sentence.facts.undone.is_some() =>
+            {
                 None
             }
-            Pattern::NeverSet(_) | Pattern::TooEarly(_) => self.never_put(),
-            Pattern::SurelyNotEmpty { .. } => self.not_empty(),
-            Pattern::Stale(_) => self.out_of_date(),
-            Pattern::CountExceeded(Counted::Held) => self.twice_released(),
-            Pattern::WrongOrder { .. } | Pattern::LeftBehind { .. } => self.wrong_turn(),
-            Pattern::TakenTwice(_)
-            | Pattern::TakenTooOften { .. }
-            | Pattern::CountExceeded(Counted::Value(_)) => self.too_often(),
-            _ => None,
+            Pattern::OneValue(OneValue::NeverSet(_) | OneValue::TooEarly(_)) => self.never_put(),
+            Pattern::SurelyNotEmpty(_) => self.not_empty(),
+            Pattern::Absent(Absent::Stale(_)) => self.out_of_date(),
+            Pattern::WrongPair(WrongPair::Order { .. } | WrongPair::LeftBehind { .. }) => {
+                self.wrong_turn()
+            }
+            Pattern::OneValue(OneValue::TakenTwice(_) | OneValue::TakenTooOften { .. }) => {
+                self.too_often()
+            }
+            Pattern::CountExceeded(CountExceeded(counted)) => match counted {
+                Counted::Held => self.twice_released(),
+                Counted::Value(_) => self.too_often(),
+                Counted::Entry { .. } | Counted::NoEntry(_) => None,
+                Counted::Free | Counted::Ahead(_) => None,
+            },
+            Pattern::Absent(Absent::DoneOverValue { .. } | Absent::Repeated { .. }) => None,
+            Pattern::WrongPair(WrongPair::LeftAbove { .. }) | Pattern::UnderSmaller(_) => None,
+            Pattern::Crossing(_) | Pattern::Refused(_) | Pattern::NotHolder(_) => None,
+            Pattern::WrongNumber(_) | Pattern::General => None,
         }
     }
 

@@ -1,6 +1,7 @@
 //! Mutexes: in a window of time one is acquired, or released, more often than it can have been
 //! free, or held.
 
+use super::takers::CountExceeded;
 use super::windows::{shortest_window, starts_in, takers_in};
 use crate::cuts::{Count, Counted};
 use crate::reasons::{Candidate, Form, Pattern, Plan, ShownBy};
@@ -20,7 +21,8 @@ fn window(takers: &[Call], setters: &[Call], counted: Counted) -> Vec<Candidate>
             until: inside.iter().map(Call::until).max(),
             shown_by: ShownBy::count(Count { counted, from: start.count }),
         };
-        Candidate::without_key(Pattern::CountExceeded(counted), plan, 2 * inside.len())
+        let pattern = Pattern::CountExceeded(CountExceeded(counted));
+        Candidate::without_key(pattern, plan, 2 * inside.len())
     });
     candidates.collect()
 }

@@ -4,8 +4,33 @@
 use super::MOST;
 use super::scene::Scene;
 use crate::accesses::{Access, Cell, NOTHING, Need};
-use crate::reasons::{Candidate, Chosen, Form, Pattern, Plan};
+use crate::kinds::Kind;
+use crate::reasons::pattern::Says;
+use crate::reasons::{Candidate, Chosen, Facts, Form, Pattern, Plan};
 use crate::timeline::{Call, PENDING};
+
+/// A call that is refused, and cannot have been.
+#[derive(Clone, Copy, Debug, PartialEq, Eq)]
+pub enum Refused {
+    /// A swap is refused while the value that it expects definitely is there.
+    UnderItsValue { value: i64, number: u32 },
+    /// An operation that sets a value if there is none is refused, while there definitely is none.
+    WithoutValue { name: &'static str, number: u32 },
+}
+
+impl Says for Refused {
+    fn sentence(&self, kind: Kind, _: Facts) -> String {
+        match *self {
+            Refused::UnderItsValue { value, number } => {
+                let swap = format!("the :{} of event {number}, which expects it", kind.swap_name());
+                format!("value {value} was definitely there when {swap}, was refused")
+            }
+            Refused::WithoutValue { name, number } => {
+                format!("no value was there when the :{name} of event {number} was refused")
+            }
+        }
+    }
+}
 
 /// A call that shows a content, and the one that begins last among those that show the same and
 /// return no later.
@@ -133,10 +158,10 @@ fn candidate_of(
     };
     let number = access.call.number;
     let pattern = match scene.value(content) {
-        Some(value) => Pattern::RefusedUnderItsValue { value, number },
-        None => Pattern::RefusedWithoutValue { name: access.call.op.name(), number },
+        Some(value) => Refused::UnderItsValue { value, number },
+        None => Refused::WithoutValue { name: access.call.op.name(), number },
     };
-    Some(scene.candidate(pattern, plan, 2))
+    Some(scene.candidate(Pattern::Refused(pattern), plan, 2))
 }
 
 /// The calls that are refused while the content that they expect definitely is there.

@@ -1,12 +1,65 @@
 //! Contents of a cell that are taken away more often than they are set.
 
+use super::asking::Absent;
 use super::scene::Scene;
 use super::windows::{shortest_window, starts_in, takers_in};
 use super::{MOST, MOST_NAMED};
 use crate::accesses::{Access, NOTHING, Need};
 use crate::cuts::{Count, Counted};
-use crate::reasons::{Candidate, Pattern, ShownBy};
+use crate::kinds::{Kind, Words};
+use crate::reasons::pattern::{General, Says, SaysOfElement};
+use crate::reasons::{Candidate, Facts, OneValue, Pattern, ShownBy};
 use crate::timeline::Call;
+
+/// A content is taken away in a time more often than it can have been there.
+#[derive(Clone, Copy, Debug, PartialEq, Eq)]
+pub struct CountExceeded(pub Counted);
+
+impl Says for CountExceeded {
+    fn sentence(&self, kind: Kind, facts: Facts) -> String {
+        let Words { put, taken, .. } = kind.words;
+        match self.0 {
+            Counted::Value(owner) if kind.has_owner() => {
+                format!("owner {owner} {taken} more often than it had {put}")
+            }
+            Counted::Value(value) | Counted::Entry { value, .. } => {
+                format!("value {value} was {taken} more often than it can have been there")
+            }
+            Counted::NoEntry(_) => {
+                "nil was seen more often than the key can have been without a value".to_owned()
+            }
+            Counted::Held => {
+                format!("the lock was {taken} more often than it can have been held")
+            }
+            Counted::Free => format!("the lock was {put} more often than it can have been free"),
+            // of this says more what was lost
+            Counted::Ahead(_) => General.sentence(kind, facts),
+        }
+    }
+}
+
+impl SaysOfElement for CountExceeded {
+    fn sentence_of_element(&self, element: i64, kind: Kind, facts: Facts) -> String {
+        let Words { put, taken, .. } = kind.words;
+        let word = kind.word;
+        match self.0 {
+            Counted::Entry { .. } => {
+                format!(
+                    "value {element} was {taken} more often than it can have been in the {word}"
+                )
+            }
+            Counted::NoEntry(_) => {
+                format!(
+                    "value {element} was {put} more often than it can have been out of the {word}"
+                )
+            }
+            // no set has these
+            Counted::Value(_) | Counted::Held | Counted::Free | Counted::Ahead(_) => {
+                General.sentence_of_element(element, kind, facts)
+            }
+        }
+    }
+}
 
 /// What of a cell is counted. `None`: a register that contains nothing, which no call counts.
 fn counted(scene: &Scene, content: usize) -> Option<Counted> {
@@ -75,12 +128,12 @@ fn is_set_again(scene: &Scene, content: usize) -> bool {
 /// What these calls, one more than have set the content, are said to do.
 fn excess_pattern(scene: &Scene, content: usize, taken: usize, counted: Counted) -> Pattern {
     match scene.value(content) {
-        Some(_) if is_set_again(scene, content) => Pattern::CountExceeded(counted),
+        Some(_) if is_set_again(scene, content) => Pattern::CountExceeded(CountExceeded(counted)),
         Some(value) if taken == 2 && scene.setters.count(content) == 1 => {
-            Pattern::TakenTwice(value)
+            Pattern::OneValue(OneValue::TakenTwice(value))
         }
-        Some(value) => Pattern::TakenTooOften { value, taken, set: taken - 1 },
-        None => Pattern::CountExceeded(counted),
+        Some(value) => Pattern::OneValue(OneValue::TakenTooOften { value, taken, set: taken - 1 }),
+        None => Pattern::CountExceeded(CountExceeded(counted)),
     }
 }
 
@@ -110,11 +163,12 @@ fn window(
     content: usize,
     takers: &[Call],
     setters: &[Call],
+    pattern: impl Fn(Option<Counted>, &Call) -> Pattern,
 ) -> Option<Vec<Candidate>> {
     let window = shortest_window(takers, setters, content == NOTHING)?;
     let inside = takers_in(takers, window);
     let counted = counted(scene, content);
-    let pattern = window_pattern(counted, inside.last()?);
+    let pattern = pattern(counted, inside.last()?);
     // What sets a register that contains nothing is kept with what it sets.
     let new = inside.iter().filter(|_| counted.is_none()).filter_map(|call| scene.set_by(call));
     let contents: Vec<usize> = [content].into_iter().chain(new).collect();
@@ -133,9 +187,12 @@ fn window(
 
 /// The pattern for calls, of which this is the last, that take away too often what is counted; a
 /// register that contains nothing is not.
-fn window_pattern(counted: Option<Counted>, last: &Call) -> Pattern {
+pub fn window_pattern(counted: Option<Counted>, last: &Call) -> Pattern {
     let (name, number) = (last.op.name(), last.number);
-    counted.map_or(Pattern::DoneOverValue { name, number }, Pattern::CountExceeded)
+    match counted {
+        Some(counted) => Pattern::CountExceeded(CountExceeded(counted)),
+        None => Pattern::Absent(Absent::DoneOverValue { name, number }),
+    }
 }
 
 /// The last call that shows a content and returns before all of these calls begin, so that a part
@@ -147,8 +204,11 @@ fn sight_before(scene: &Scene, calls: &[Call]) -> Option<u32> {
 }
 
 /// The contents that are set more than once and in a window taken away more often than they can
-/// have been there.
-pub fn windows(scene: &Scene) -> Vec<Candidate> {
+/// have been there; the pattern of each follows from what is counted and the last call.
+pub fn windows(
+    scene: &Scene,
+    pattern: impl Fn(Option<Counted>, &Call) -> Pattern,
+) -> Vec<Candidate> {
     let takers = by_content(scene, taken_by);
     let setters = by_content(scene, |access| access.sets);
     let found =
@@ -156,7 +216,7 @@ pub fn windows(scene: &Scene) -> Vec<Candidate> {
             if takers.len() < 2 {
                 return None;
             }
-            window(scene, content, takers, setters)
+            window(scene, content, takers, setters, &pattern)
         });
     found.take(MOST).flatten().collect()
 }

@@ -4,7 +4,7 @@
 use super::chains::{FEW_CALLS, plan_of_runs};
 use super::runs::{Run, Runs};
 use crate::cuts::{Count, Counted};
-use crate::reasons::{Candidate, Pattern, ShownBy};
+use crate::reasons::{Candidate, OneValue, Pattern, ShownBy};
 use crate::timeline::Call;
 
 /// The most candidates of this kind.
@@ -37,12 +37,12 @@ fn chain_with_puts(runs: &Runs, place: usize) -> Vec<usize> {
 
 /// What is wrong with a value that is put in `puts` times in all, when `taken` removals of it have
 /// returned, one more than puts have begun.
-fn pattern_of(value: i64, puts: usize, taken: usize) -> Pattern {
+fn pattern_of(value: i64, puts: usize, taken: usize) -> OneValue {
     match (puts, taken) {
-        (0, _) => Pattern::NeverSet(value),
-        (_, 1) => Pattern::TooEarly(value),
-        (1, 2) => Pattern::TakenTwice(value),
-        _ => Pattern::TakenTooOften { value, taken, set: taken - 1 },
+        (0, _) => OneValue::NeverSet(value),
+        (_, 1) => OneValue::TooEarly(value),
+        (1, 2) => OneValue::TakenTwice(value),
+        _ => OneValue::TakenTooOften { value, taken, set: taken - 1 },
     }
 }
 
@@ -57,7 +57,7 @@ pub fn singles(runs: &Runs) -> Vec<Candidate> {
         let mut plan = plan_of_runs(runs, &chain, &[], removal.until());
         let count = Count { counted: Counted::Value(run.value), from: 0 };
         plan.shown_by = ShownBy::Count { count, keeps_beginning: size <= FEW_CALLS };
-        Some(Candidate::without_key(pattern, plan, size))
+        Some(Candidate::without_key(Pattern::OneValue(pattern), plan, size))
     });
     found.take(MOST).collect()
 }
