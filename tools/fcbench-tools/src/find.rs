@@ -2,7 +2,8 @@
 
 use crate::answer::Answer;
 use crate::command_line::Find;
-use crate::limit::{BETWEEN_LIMIT_CHECKS, Limit, Progress};
+use crate::limit::{BETWEEN_LIMIT_CHECKS, Limit, ProgressTeller};
+use crate::message::{Message, Remark};
 use crate::program::{note, output, output_failed, say};
 use crate::status::Status;
 use finder::{
@@ -74,7 +75,7 @@ fn decisions_by(limit: Limit, history: History, command: &Find) -> Vec<Decision>
     if let Err(error) = Builder::new().spawn(work) {
         say(format_args!("no thread can be started: {error}"));
     }
-    let mut progress = Progress::new(limit, all, command.shows_progress);
+    let mut progress = ProgressTeller::new(limit, command.reader, all, command.shows_progress);
     let mut decisions = Vec::with_capacity(all);
     while !limit.is_over() {
         match decided.recv_timeout(BETWEEN_LIMIT_CHECKS) {
@@ -114,10 +115,10 @@ fn history_of(command: &Find) -> Result<History, Status> {
     }
 }
 
-/// How much the operations of a history overlap, and what is suspicious in it: a line for each.
-pub fn summary_of(history: &History) -> String {
-    let warnings = warnings(history).into_iter().map(|it| format!("; warning: {it}\n"));
-    iter::once(format!("; {}\n", Statistics::of(history))).chain(warnings).collect()
+/// How much the operations of a history overlap, and what is suspicious in it.
+pub fn remarks_on(history: &History) -> Vec<Remark> {
+    let overlap = Remark::Overlap(Statistics::of(history));
+    iter::once(overlap).chain(warnings(history).into_iter().map(Remark::Warning)).collect()
 }
 
 /// Writes evidence for a history to standard output.
@@ -128,7 +129,9 @@ pub fn find(command: &Find) -> Status {
         Err(status) => return status,
     };
     if command.summarizes {
-        summary_of(&history).lines().for_each(|line| note(format_args!("{line}")));
+        for remark in remarks_on(&history) {
+            note(format_args!("{}", Message::OfHistory(remark).line_for(command.reader)));
+        }
     }
     let all = history.objects.len();
     let decisions = decisions_by(limit, history, command);

@@ -4,16 +4,17 @@
 
 use crate::answer::{Answer, answer_of};
 use crate::command_line::{Find, Judge};
-use crate::find::{bytes_of, read_with, require_returned, summary_of};
+use crate::find::{bytes_of, read_with, remarks_on, require_returned};
 use crate::finder_process::{Finder, finder};
 use crate::import::names_in;
 use crate::limit::Limit;
+use crate::message::Remark;
 use crate::program::{output, output_failed, path_for_both, put_out, say, start, verifier};
 use crate::status::Status;
 use crate::system::ignore_sigterm;
 use crate::terminal::copy_shortened;
 use ::import::{Names, with_names};
-use finder::{OF_A_YES, SILENT_PUTS, count_returned, read_history, read_history_from};
+use finder::{count_returned, read_history, read_history_from};
 use pages::{Asked, Fault, Verdict, fault_lines};
 use std::fmt::Write as _;
 use std::fs::{self, File};
@@ -47,7 +48,7 @@ impl Lines<'_> {
 #[derive(Debug)]
 struct Judgement {
     answer: Answer,
-    summary: String,
+    remarks: Vec<Remark>,
 }
 
 /// Runs the two programs, the finder's output being the verifier's input. SIGTERM stops the finder
@@ -69,28 +70,22 @@ fn run(
         say(format_args!("the finder cannot be started, so there is no evidence: {error}"));
     }
     let answer = answer_of(&mut verifier, Asked::Verify);
-    let summary = finder.map(Finder::end).unwrap_or_default();
-    Ok(Judgement { answer: answer?, summary })
+    let remarks = finder.map(Finder::end).unwrap_or_default();
+    Ok(Judgement { answer: answer?, remarks })
 }
 
-/// Whether a warning is printed. That no race can show matters only with a yes; puts without
-/// replies only without one, since a correct store may then get a no.
-fn warns(warning: &str, is_yes: bool) -> bool {
-    !warning.contains(if is_yes { SILENT_PUTS } else { OF_A_YES })
-}
-
-/// Prints the summary of a history, if it is asked for, and what is suspicious in it in any case.
-/// On a terminal it prints the summary too.
-fn summarize(summary: &str, is_yes: bool, is_printed: bool) -> Result<(), Status> {
-    let lines = || summary.lines().filter_map(|line| line.strip_prefix("; "));
+/// Prints the remarks on a history, if a summary is asked for, and the warnings that matter in any
+/// case. On a terminal it prints how much the operations overlap too.
+fn summarize(remarks: &[Remark], is_yes: bool, is_printed: bool) -> Result<(), Status> {
     if is_printed {
-        return put_out(&lines().map(|line| format!("; {line}\n")).collect::<String>());
+        return put_out(&remarks.iter().map(|remark| format!("; {remark}\n")).collect::<String>());
     }
-    let is_shown = io::stderr().is_terminal();
-    let is_printed_now = |line: &&str| {
-        if line.starts_with("warning: ") { warns(line, is_yes) } else { is_shown }
+    let is_on_terminal = io::stderr().is_terminal();
+    let is_shown = |remark: &&Remark| match remark {
+        Remark::Overlap(_) => is_on_terminal,
+        Remark::Warning(warning) => warning.kind.matters(is_yes),
     };
-    lines().filter(is_printed_now).for_each(|line| say(format_args!("{line}")));
+    remarks.iter().filter(is_shown).for_each(|remark| say(format_args!("{remark}")));
     Ok(())
 }
 
@@ -184,22 +179,29 @@ fn require_enough(command: &Judge, history: &str, answer: &Answer) -> Result<(),
 
 /// What is to be said of a history. With `--strict` a yes needs it from this program's own
 /// reading, since a finder may die, or be another one that says nothing.
-fn summary_for(command: &Judge, history: &str, judgement: &Judgement) -> Result<String, Status> {
+fn remarks_for(
+    command: &Judge,
+    history: &str,
+    judgement: &Judgement,
+) -> Result<Vec<Remark>, Status> {
     if !(command.is_strict && judgement.answer.status == Status::YES) {
-        return Ok(judgement.summary.clone());
+        return Ok(judgement.remarks.clone());
     }
     let workers = command.find.workers;
     let read = read_with(history, |file| read_history_from(file, workers))?;
-    read.as_ref().map(summary_of).ok_or_else(|| {
+    read.as_ref().map(remarks_on).ok_or_else(|| {
         say(format_args!("cannot look for what --strict asks for"));
         Status::BROKEN
     })
 }
 
 /// Whether, with `--strict`, a warning is the reason that a yes is not printed.
-fn is_withheld(command: &Judge, summary: &str, status: Status) -> bool {
-    let is_warning = |line: &str| line.starts_with("; warning: ") && warns(line, true);
-    command.is_strict && status == Status::YES && summary.lines().any(is_warning)
+fn is_withheld(command: &Judge, remarks: &[Remark], status: Status) -> bool {
+    let is_reason = |remark: &Remark| match remark {
+        Remark::Overlap(_) => false,
+        Remark::Warning(warning) => warning.kind.matters(true),
+    };
+    command.is_strict && status == Status::YES && remarks.iter().any(is_reason)
 }
 
 /// Judges, and returns the status of the verifier, or that of what went wrong.
@@ -211,16 +213,16 @@ fn try_judge(command: &Judge) -> Result<Status, Status> {
     let find = Find { history, ..command.find.clone() };
     let verifier = verifier(&find.history, find.steps, find.workers);
     let judgement = run(verifier, finder(&find), limit)?;
-    let summary = summary_for(command, &find.history, &judgement)?;
+    let remarks = remarks_for(command, &find.history, &judgement)?;
     let Answer { status, verdict, lines } = &judgement.answer;
     let are_enough = require_enough(command, &find.history, &judgement.answer);
-    let is_withheld = is_withheld(command, &summary, *status);
+    let is_withheld = is_withheld(command, &remarks, *status);
     let is_printed = are_enough.is_ok() && !is_withheld;
     if is_printed {
         let is_shortened = io::stdout().is_terminal() && !command.shows_all;
         Lines { names: names.as_ref(), is_shortened }.write(lines).map_err(output_failed)?;
     }
-    summarize(&summary, *status == Status::YES, find.summarizes && is_printed)?;
+    summarize(&remarks, *status == Status::YES, find.summarizes && is_printed)?;
     are_enough?;
     if is_withheld {
         say(format_args!("--strict: it is a yes, which is not printed, with a warning"));

@@ -56,4 +56,4 @@ pub use reasons::{
     UnderSmaller, Undone, WhyUndone, WrongNumber, WrongPair,
 };
 pub use search::TryFirst;
-pub use statistics::{OF_A_YES, SILENT_PUTS, Statistics, warnings};
+pub use statistics::{Statistics, Warning, WarningKind, warnings};

@@ -189,63 +189,118 @@ fn named(word: &str, all: &[u32]) -> Option<String> {
     }
 }
 
-/// Words of warnings, by which `judge` knows them again: it prints those with the first only with a
-/// yes, and the one with the second only without one.
-pub const OF_A_YES: &str = " show in this history";
-pub const SILENT_PUTS: &str = "every :put replied nil";
+/// What a warning is about.
+#[derive(Clone, Copy, Debug, PartialEq, Eq)]
+pub enum WarningKind {
+    NoOperations,
+    FailedRemovals,
+    /// A race could not have led to a no, or hardly.
+    NoRace,
+    StrangeReplies,
+    /// Registers seem to begin with a value.
+    FirstValue,
+    /// The replies of puts were not recorded, so that a correct store may get a no.
+    SilentPuts,
+}
+
+impl WarningKind {
+    pub const ALL: [WarningKind; 6] = [
+        WarningKind::NoOperations,
+        WarningKind::FailedRemovals,
+        WarningKind::NoRace,
+        WarningKind::StrangeReplies,
+        WarningKind::FirstValue,
+        WarningKind::SilentPuts,
+    ];
+
+    /// Whether it matters with a yes, or else with another answer.
+    pub fn matters(self, is_yes: bool) -> bool {
+        match self {
+            WarningKind::NoRace => is_yes,
+            WarningKind::SilentPuts => !is_yes,
+            WarningKind::NoOperations | WarningKind::FailedRemovals => true,
+            WarningKind::StrangeReplies | WarningKind::FirstValue => true,
+        }
+    }
+}
+
+/// Something suspicious in a history: its kind, and words for it.
+#[derive(Clone, Debug, PartialEq, Eq)]
+pub struct Warning {
+    pub kind: WarningKind,
+    pub text: String,
+}
 
 /// Why a race could not have led to a no, or hardly.
 fn race_warning(history: &History, statistics: &Statistics) -> Option<String> {
     let Statistics { operations, overlapping, .. } = *statistics;
     if operations > 0 && !depends_on_order(history) {
-        Some(format!(
-            "no reply depends on the order of operations of different processes: a race cannot{OF_A_YES}"
-        ))
+        let what = "no reply depends on the order of operations of different processes";
+        Some(format!("{what}: a race cannot show in this history"))
     } else if !statistics.is_sequential() {
         None
     } else if overlapping == 0 {
-        Some(format!("no two operations overlap: a race cannot{OF_A_YES}"))
+        Some("no two operations overlap: a race cannot show in this history".to_owned())
     } else {
         Some(format!(
-            "only {overlapping} of {operations} operations overlap another one: a race can hardly{OF_A_YES}"
+            "only {overlapping} of {operations} operations overlap another one: a race can hardly show in this history"
         ))
     }
 }
 
-/// What is suspicious in a history, in words.
-pub fn warnings(history: &History) -> Vec<String> {
-    let statistics = Statistics::of(history);
-    let mut all = Vec::new();
-    if statistics.operations == 0 {
-        all.push("the history has no operations, so a yes means nothing".to_owned());
-    }
-    if let Some((failed, f)) = failed_removals(history) {
-        all.push(format!(
-            "all {failed} calls of :{f} failed, so none is judged. If they found nothing, record :ok with :value nil"
-        ));
-    }
-    all.extend(race_warning(history, &statistics));
-    if let Some(event) = named("event", &strange_replies(history)) {
-        all.push(format!(
-            "the reply of {event} is not its argument: the recorder is probably wrong, not the store"
-        ));
-    }
-    if let Some((value, objects)) = first_values(history)
-        && let Some(objects) = named("object", &objects)
-    {
-        all.push(format!(
-            "{objects}: value {value} was read first, and no operation writes it. If registers begin with {value}: fcbench import --initial {value}"
-        ));
-    }
+/// The removals that failed, if none is judged.
+fn removal_warning(history: &History) -> Option<String> {
+    let (failed, f) = failed_removals(history)?;
+    Some(format!(
+        "all {failed} calls of :{f} failed, so none is judged. If they found nothing, record :ok with :value nil"
+    ))
+}
+
+/// The replies that are not the argument.
+fn reply_warning(history: &History) -> Option<String> {
+    let event = named("event", &strange_replies(history))?;
+    Some(format!(
+        "the reply of {event} is not its argument: the recorder is probably wrong, not the store"
+    ))
+}
+
+/// The registers that seem to begin with a value.
+fn first_warning(history: &History) -> Option<String> {
+    let (value, objects) = first_values(history)?;
+    let objects = named("object", &objects)?;
+    Some(format!(
+        "{objects}: value {value} was read first, and no operation writes it. If registers begin with {value}: fcbench import --initial {value}"
+    ))
+}
+
+/// The puts whose replies were not recorded.
+fn put_warning(history: &History) -> Option<String> {
     let silent = history.objects.iter().filter(|it| puts_tell_nothing(it));
-    let silent: Vec<u32> = silent.map(|it| it.object).collect();
-    if let Some(objects) = named("object", &silent) {
-        all.push(format!(
-            "{objects}: {SILENT_PUTS}, which means that the key had no value, even after an earlier put. If your store \
-             does not report the earlier value, record :assoc; for a put if absent, record :put-if-absent"
-        ));
+    let objects = named("object", &silent.map(|it| it.object).collect::<Vec<u32>>())?;
+    Some(format!(
+        "{objects}: every :put replied nil, which means that the key had no value, even after an earlier put. If your store \
+         does not report the earlier value, record :assoc; for a put if absent, record :put-if-absent"
+    ))
+}
+
+/// The words of a warning of this kind, if there is reason for one.
+fn text_of(kind: WarningKind, history: &History, statistics: &Statistics) -> Option<String> {
+    match kind {
+        WarningKind::NoOperations => (statistics.operations == 0)
+            .then(|| "the history has no operations, so a yes means nothing".to_owned()),
+        WarningKind::FailedRemovals => removal_warning(history),
+        WarningKind::NoRace => race_warning(history, statistics),
+        WarningKind::StrangeReplies => reply_warning(history),
+        WarningKind::FirstValue => first_warning(history),
+        WarningKind::SilentPuts => put_warning(history),
     }
-    all
+}
+
+/// What is suspicious in a history.
+pub fn warnings(history: &History) -> Vec<Warning> {
+    let statistics = Statistics::of(history);
+    let of_kind = |kind| Some(Warning { kind, text: text_of(kind, history, &statistics)? });
+    WarningKind::ALL.into_iter().filter_map(of_kind).collect()
 }
 
 #[cfg(test)]
@@ -259,7 +314,8 @@ mod tests {
     }
 
     fn warnings_of(text: &str) -> Vec<String> {
-        warnings(&read_history(text.as_bytes()).expect("a history"))
+        let history = read_history(text.as_bytes()).expect("a history");
+        warnings(&history).into_iter().map(|warning| warning.text).collect()
     }
 
     fn event(process: u32, kind: &str, call: &str, object: u32) -> String {

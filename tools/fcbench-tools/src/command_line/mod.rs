@@ -3,6 +3,7 @@
 mod syntax;
 mod words;
 
+use crate::message::Reader;
 use std::num::NonZero;
 use std::thread;
 use syntax::{COMMANDS, Commands, OptionSpec, Syntax, Value};
@@ -26,6 +27,8 @@ pub struct Find {
     pub shows_progress: bool,
     /// Whether the history is summarized.
     pub summarizes: bool,
+    /// Who reads its messages.
+    pub reader: Reader,
 }
 
 /// What is drawn.
@@ -95,6 +98,7 @@ fn find_of(mut words: Words) -> Result<Find, Fault> {
         seconds: words.take_number("--seconds", 1, MOST_SECONDS)?,
         shows_progress: words.take_flag("--progress"),
         summarizes: words.take_flag("--summary"),
+        reader: if words.take_flag("--for-judge") { Reader::Judge } else { Reader::Person },
         history: words.files()?.0,
     })
 }
@@ -215,6 +219,7 @@ mod tests {
             seconds: None,
             shows_progress: false,
             summarizes: false,
+            reader: Reader::Person,
         };
         assert_eq!(parsed("find h.edn"), Some(Command::Find(find.clone())));
         let find = Find { workers: 4, steps: Some(0), ..find };
@@ -247,6 +252,11 @@ mod tests {
             Find { history: "-h.edn".into(), shows_progress: true, summarizes: true, ..find };
         let line = "find --summary --workers 4 --progress --seconds=60 --steps 0 -- -h.edn";
         assert_eq!(parsed(line), Some(Command::Find(find)));
+        let for_judge = |line| match parsed(line) {
+            Some(Command::Find(find)) => find.reader == Reader::Judge,
+            _ => false,
+        };
+        assert!(for_judge("find h.edn --for-judge"));
         assert!(matches!(parsed("find -"), Some(Command::Find(find)) if find.history == "-"));
         for line in ["find --places 5.places 5.edn", "find 5.edn --places=5.places"] {
             let places = match parsed(line) {

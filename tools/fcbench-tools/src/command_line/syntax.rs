@@ -12,21 +12,26 @@ pub enum Value {
     AfterEquals(&'static str),
 }
 
-/// An option, and what help says of it.
+/// An option, and what help says of it; nothing of one that only a program gives.
 #[derive(Debug)]
 pub struct OptionSpec {
     pub name: &'static str,
     pub value: Value,
-    about: &'static str,
+    about: Option<&'static str>,
 }
 
 impl OptionSpec {
     const fn flag(name: &'static str, about: &'static str) -> OptionSpec {
-        OptionSpec { name, value: Value::Nothing, about }
+        OptionSpec { name, value: Value::Nothing, about: Some(about) }
+    }
+
+    /// A flag that help does not have.
+    const fn hidden_flag(name: &'static str) -> OptionSpec {
+        OptionSpec { name, value: Value::Nothing, about: None }
     }
 
     const fn valued(name: &'static str, value: &'static str, about: &'static str) -> OptionSpec {
-        OptionSpec { name, value: Value::Needed(value), about }
+        OptionSpec { name, value: Value::Needed(value), about: Some(about) }
     }
 }
 
@@ -73,12 +78,12 @@ impl Syntax {
 impl Display for Syntax {
     fn fmt(&self, f: &mut Formatter<'_>) -> fmt::Result {
         let help = "-h, --help";
-        let names = self.options.iter().map(|it| it.to_string().len() + 4);
-        let width = names.fold(help.len(), usize::max);
+        let told = self.options.iter().filter_map(|it| Some((it.to_string(), it.about?)));
+        let width = told.clone().map(|(name, _)| name.len() + 4).fold(help.len(), usize::max);
         writeln!(f, "{}\n\n{}\n\nOptions:", self.about, self.usage())?;
-        for option in self.options {
-            let about = option.about.replace('\n', &format!("\n{:width$}    ", ""));
-            writeln!(f, "  {:width$}  {about}", format!("    {option}"))?;
+        for (name, about) in told {
+            let about = about.replace('\n', &format!("\n{:width$}    ", ""));
+            writeln!(f, "  {:width$}  {about}", format!("    {name}"))?;
         }
         writeln!(f, "  {help:width$}  Print help")
     }
@@ -164,6 +169,8 @@ pub const FIND: Syntax = Syntax {
         ),
         &STEPS,
         &WORKERS,
+        // judge gives it: what is printed on standard error is then for it to read
+        &OptionSpec::hidden_flag("--for-judge"),
     ],
 };
 
@@ -205,9 +212,11 @@ pub const IMPORT: Syntax = Syntax {
         &OptionSpec {
             name: "--fail-is-reply",
             value: Value::AfterEquals("ERRORS"),
-            about: "a :fail with one of these as its :error is a reply of nil (of a :cas: false):\n\
-                    one error, such as :drained, or a set, such as '#{:drained \"no job\"}' (default: :empty and :not-found).\n\
-                    nil stands for no :error, except of :read and :get",
+            about: Some(
+                "a :fail with one of these as its :error is a reply of nil (of a :cas: false):\n\
+                 one error, such as :drained, or a set, such as '#{:drained \"no job\"}' (default: :empty and :not-found).\n\
+                 nil stands for no :error, except of :read and :get",
+            ),
         },
         &OptionSpec::flag(
             "--check-owners",
