@@ -4,9 +4,9 @@
 
 use crate::program::say;
 use crate::status::Status;
-use pages::{Asked, Verdict};
 use std::io::{self, Read};
 use std::process::{Child, ChildStdout, ExitStatus};
+use verdict::{Asked, Verdict};
 
 /// What the verifier said: its lines, what they say, and the status that belongs to them.
 #[derive(Debug)]

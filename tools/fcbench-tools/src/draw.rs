@@ -8,12 +8,11 @@ use crate::program::{path_for_both, proved, put_out, say, start, verifier};
 use crate::status::Status;
 use ::import::{Names, with_names};
 use finder::{Decision, History, Options, count_returned, decide, read_history};
-use pages::{
-    Asides, Asked, Drawn, Fault, Verdict, Which, Words, malformed_page, memory_page, orders_in,
-};
+use pages::{Asides, Drawn, Words, malformed_page, memory_page, orders_in};
 use std::io;
 use std::panic::{AssertUnwindSafe, catch_unwind};
 use std::process::{ChildStdin, Command};
+use verdict::{Asked, Fault, Verdict, Which};
 
 /// What the verifier answers to this, whose input a function gives meanwhile.
 fn answer_by(

@@ -10,12 +10,12 @@ use finder::{
     Decision, Evidence, History, LONGEST, Options, Places, Statistics, decide_each,
     read_history_from, warnings,
 };
-use pages::Verdict;
 use std::fs::File;
 use std::io::{self, BufWriter, Read, Write};
 use std::iter;
 use std::sync::mpsc::{RecvTimeoutError, channel};
 use std::thread::Builder;
+use verdict::Verdict;
 
 /// The result of reading a file, or why there is none. The file - is standard input.
 pub fn read_with<T>(path: &str, read: impl FnOnce(File) -> io::Result<T>) -> Result<T, Status> {

@@ -15,11 +15,12 @@ use crate::system::ignore_sigterm;
 use crate::terminal::copy_shortened;
 use ::import::{Names, with_names};
 use finder::{count_returned, read_history, read_history_from};
-use pages::{Asked, Fault, Verdict, fault_lines};
+use pages::fault_lines;
 use std::fmt::Write as _;
 use std::fs::{self, File};
 use std::io::{self, IsTerminal, Read, Write};
 use std::process::{Command, Stdio};
+use verdict::{Asked, Fault, Verdict};
 
 /// How the lines of an answer are printed.
 struct Lines<'a> {
@@ -33,12 +34,12 @@ impl Lines<'_> {
     /// Writes an answer to standard output.
     fn write(&self, answer: &str) -> io::Result<()> {
         let named = self.names.map(|names| with_names(names, answer));
-        let lines = named.as_deref().unwrap_or(answer).as_bytes();
+        let lines = named.as_deref().unwrap_or(answer);
         let mut out = output()?;
         if self.is_shortened {
             copy_shortened(lines, &mut out)?;
         } else {
-            out.write_all(lines)?;
+            out.write_all(lines.as_bytes())?;
         }
         out.flush()
     }
@@ -136,8 +137,7 @@ fn try_to_read(history: &str) -> Result<(), Status> {
 
 /// Says what to do if a search was out of steps.
 fn advise(verdict: &Verdict) {
-    let is_out_of_steps = |it: &(u32, pages::Answer)| it.1 == pages::Answer::OutOfSteps;
-    if matches!(verdict, Verdict::Judged(answers) if answers.iter().any(is_out_of_steps)) {
+    if verdict.has(verdict::Answer::OutOfSteps) {
         say(format_args!(
             "out of steps: --steps N lets the search take longer; distinct values and fewer :info operations help too"
         ));

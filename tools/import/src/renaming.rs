@@ -5,6 +5,7 @@ use crate::form::Form;
 use crate::names::Names;
 use finder::setting;
 use std::collections::{BTreeMap, HashMap};
+use verdict::{Line, OperationLine, Which};
 
 /// The text, in which each integer is what this gives of it. The sign belongs to an integer that
 /// follows no letter or digit.
@@ -134,29 +135,23 @@ fn counted(names: &Names, others: &HashMap<i64, &str>, text: &str) -> String {
     said + end
 }
 
-/// The line of an operation, as `events 4 and 9: process 2, :dequeue nil, :ok 7`, if it is one.
-fn operation(names: &Names, others: &HashMap<i64, &str>, text: &str) -> Option<String> {
-    let (word, rest) =
-        text.split_once(' ').filter(|(word, _)| ["event", "events"].contains(word))?;
-    let (numbers, rest) = rest.split_once(": process ")?;
-    let (process, call) = rest.split_once(", ")?;
-    let first: u32 = numbers.split(' ').next()?.parse().ok()?;
-    let (call, counts) = call
-        .split_once(", counted as ")
-        .map_or((call, None), |(call, counts)| (call, Some(counts)));
-    let mut words = with_numbers(call, |number| name(&names.values, number));
-    if let Some(counts) = counts {
-        words.push_str(&format!(", counted as {}", counted(names, others, counts)));
+/// The line of an operation.
+fn operation(names: &Names, others: &HashMap<i64, &str>, line: &OperationLine) -> String {
+    let mut words = with_numbers(line.call, |number| name(&names.values, number));
+    if let Some(text) = line.counted {
+        words.push_str(&format!(", counted as {}", counted(names, others, text)));
     }
-    if first < names.before {
-        return Some(format!("the initial value: {words}"));
+    if line.first < names.before {
+        return format!("the initial value: {words}");
     }
-    let process = process
+    let process = line
+        .process
         .parse()
         .ok()
         .and_then(|number| name(&names.processes, number))
-        .unwrap_or_else(|| process.to_owned());
-    Some(format!("{word} {}: process {process}, {words}", named_after(names, word, numbers)))
+        .unwrap_or_else(|| line.process.to_owned());
+    let numbers = named_after(names, line.word, line.numbers);
+    format!("{} {numbers}: process {process}, {words}", line.word)
 }
 
 impl Names {
@@ -187,18 +182,22 @@ pub fn with_names(names: &Names, answer: &str) -> String {
     let mut others = HashMap::new();
     let mut lines: Vec<String> = Vec::new();
     for line in answer.lines().rev() {
-        let Some(text) = line.strip_prefix("; ") else {
-            let is_of_history = line.starts_with("malformed history: ");
-            lines.push(if is_of_history { sentence(names, line) } else { line.to_owned() });
-            continue;
-        };
-        if text.starts_with('{') {
-            others = others_of(text);
-            lines.push(line.to_owned());
-            continue;
-        }
-        let said = operation(names, &others, text).unwrap_or_else(|| sentence(names, text));
-        lines.push(format!("; {said}"));
+        lines.push(match Line::read(line) {
+            Some(Line::Operation(of)) => format!("; {}", operation(names, &others, &of)),
+            Some(Line::Sentence(text)) => format!("; {}", sentence(names, text)),
+            Some(Line::Object { text, .. }) => format!("; {}", sentence(names, text)),
+            Some(Line::Malformed(fault)) if fault.which() == Which::History => {
+                sentence(names, line)
+            }
+            Some(Line::Reason(reason)) => {
+                others = others_of(reason);
+                line.to_owned()
+            }
+            Some(Line::Yes { .. } | Line::Kind | Line::No(_) | Line::Malformed(_)) => {
+                line.to_owned()
+            }
+            Some(Line::MalformedEvidence | Line::NoMemory) | None => line.to_owned(),
+        });
     }
     lines.reverse();
     lines.iter().map(|line| format!("{line}\n")).collect()
