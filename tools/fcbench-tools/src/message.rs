@@ -9,7 +9,7 @@ use ::import::{Form, form_of};
 use finder::{Statistics, Warning, WarningKind};
 use std::fmt::{self, Display, Formatter};
 
-/// The version of the lines. A line of another one is none.
+/// The version of the lines. Those of other versions are passed over.
 const VERSION: i64 = 1;
 
 /// What `find` tells.
@@ -19,7 +19,7 @@ pub enum Message {
     Progress(Progress),
 }
 
-/// What is said of a history.
+/// What `find` says about a history.
 #[derive(Clone, Debug, PartialEq, Eq)]
 pub enum Remark {
     /// How much its operations overlap.
@@ -36,7 +36,7 @@ pub struct Progress {
     pub is_stopped: bool,
 }
 
-/// Whom `find` tells it.
+/// Who reads what `find` tells.
 #[derive(Clone, Copy, Debug, PartialEq, Eq)]
 pub enum Reader {
     Person,
@@ -97,12 +97,12 @@ fn number_in<T: TryFrom<i64>>(line: &Form, key: &str) -> Option<T> {
 impl Remark {
     fn entries(&self) -> Vec<(&'static str, Form)> {
         match self {
-            Remark::Overlap(it) => vec![
-                ("operations", number(it.operations)),
-                ("overlapping", number(it.overlapping)),
-                ("at-once", number(it.at_once)),
-                ("pending", number(it.pending)),
-                ("failed", number(it.failed)),
+            Remark::Overlap(overlap) => vec![
+                ("operations", number(overlap.operations)),
+                ("overlapping", number(overlap.overlapping)),
+                ("at-once", number(overlap.at_once)),
+                ("pending", number(overlap.pending)),
+                ("failed", number(overlap.failed)),
             ],
             Remark::Warning(Warning { kind, text }) => vec![
                 ("warning", Form::Keyword(word(*kind).to_owned())),
@@ -168,8 +168,10 @@ impl Message {
 
     /// What a line for `judge` tells. `None`: it is no such line.
     pub fn parse(line: &str) -> Option<Message> {
-        let line =
-            form_of(line).filter(|it| it.get("fcbench-find") == Some(&Form::Int(VERSION)))?;
+        let line = form_of(line)?;
+        if line.get("fcbench-find") != Some(&Form::Int(VERSION)) {
+            return None;
+        }
         let remark = || Remark::warning(&line).or_else(|| Remark::overlap(&line));
         let progress = || Progress::read(&line).map(Message::Progress);
         remark().map(Message::OfHistory).or_else(progress)
@@ -243,22 +245,23 @@ mod tests {
     }
 
     #[test]
-    fn other_lines_are_none() {
-        for line in [
-            "",
-            "; objects done: 3 of 10, after 2 s",
-            "fcbench: the finder failed on object 0",
-            "{:fcbench-find 2, :done 3, :of 10, :seconds 2, :stopped true}",
-            "{:done 3, :of 10, :seconds 2, :stopped true}",
-            "{:fcbench-find 1, :done -3, :of 10, :seconds 2, :stopped true}",
-            "{:fcbench-find 1, :done 3, :of 10, :seconds 2}",
-            "{:fcbench-find 1, :warning :other, :text \"words\"}",
-            "{:fcbench-find 1, :warning :no-race, :text words}",
-            "{:fcbench-find 1, :warning :no-race, :text \"words\"",
-            "{:fcbench-find 1}",
-            "{:fcbench-find 1, :done 3, :of 10, :seconds 2, :stopped true} 1",
-        ] {
-            assert_eq!(Message::parse(line), None, "{line}");
+    fn other_lines_are_passed_over() {
+        let other = ["", "; objects done: 3 of 10, after 2 s", "{:fcbench-find 1}"];
+        let line = progress(true).line_for(Reader::Judge);
+        let changed = [
+            line.replace("find 1", "find 2"),
+            line.replace(":fcbench-find 1, ", ""),
+            line.replace(":done 3", ":done -3"),
+            line.replace(", :stopped true", ""),
+            line.replace('}', ""),
+            format!("{line} 1"),
+        ];
+        let warning = warning(WarningKind::NoRace).line_for(Reader::Judge);
+        let changed_warnings =
+            [warning.replace(":no-race", ":other"), warning.replace(":text", ":words")];
+        let lines = other.map(str::to_owned).into_iter().chain(changed).chain(changed_warnings);
+        for line in lines {
+            assert_eq!(Message::parse(&line), None, "{line}");
         }
     }
 }

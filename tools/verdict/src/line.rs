@@ -63,15 +63,15 @@ impl<'a> OperationLine<'a> {
     }
 }
 
-/// What is said of an object, as `object 3: out of steps after 10`.
+/// What a line says about an object, as `object 3: out of steps after 10`.
 fn answer_in(text: &str) -> Option<Line<'_>> {
-    let (object, said) = text.strip_prefix("object ")?.split_once(": ")?;
-    let answer = match said {
+    let (object, words) = text.strip_prefix("object ")?.split_once(": ")?;
+    let answer = match words {
         "impossible" => Answer::Impossible,
         "out of memory" => Answer::OutOfMemory,
         "open" => Answer::Open,
         _ => {
-            let _steps: u64 = said.strip_prefix("out of steps after ")?.parse().ok()?;
+            let _steps: u64 = words.strip_prefix("out of steps after ")?.parse().ok()?;
             Answer::OutOfSteps
         }
     };

@@ -32,13 +32,13 @@ pub enum Pattern {
 
 /// What is wrong with an object, in words.
 pub trait Says {
-    /// What is said of an object of this kind, by these facts.
+    /// The sentence for an object of this kind, by these facts.
     fn sentence(&self, kind: Kind, facts: Facts) -> String;
 }
 
 /// What is wrong with one element of a set, which is the key of a cell without values.
 pub trait SaysOfElement {
-    /// What is said of this element of an object of this kind, by these facts.
+    /// The sentence for this element of an object of this kind, by these facts.
     fn sentence_of_element(&self, element: i64, kind: Kind, facts: Facts) -> String;
 }
 

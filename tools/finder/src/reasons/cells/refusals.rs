@@ -14,7 +14,8 @@ use crate::timeline::{Call, PENDING};
 pub enum Refused {
     /// A swap is refused while the value that it expects definitely is there.
     UnderItsValue { value: i64, number: u32 },
-    /// An operation that sets a value if there is none is refused, while there definitely is none.
+    /// An operation that sets a value if there is none is refused, and definitely no value was
+    /// there.
     WithoutValue { name: &'static str, number: u32 },
 }
 
