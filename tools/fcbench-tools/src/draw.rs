@@ -30,8 +30,8 @@ fn answer_by(
 /// What is found of a history. If the finder fails that is nothing, or less.
 fn decisions_on(history: &History, steps: Option<u64>) -> Vec<Decision> {
     let options = Options { steps, ..Options::default() };
-    let found = catch_unwind(AssertUnwindSafe(|| decide(history, options)));
-    let decisions = found.unwrap_or_else(|_| {
+    let decided = catch_unwind(AssertUnwindSafe(|| decide(history, options)));
+    let decisions = decided.unwrap_or_else(|_| {
         say(format_args!("the finder failed, so there is no evidence"));
         Vec::new()
     });
@@ -72,7 +72,7 @@ impl<'a> Drawing<'a> {
         let names = command.names.as_deref().map(names_in).transpose()?.map(Names::for_a_page);
         let read = read_history(&history.bytes);
         if let (Some(object), Some(read)) = (command.options.object, &read)
-            && read.objects.iter().all(|it| it.object != object)
+            && read.objects.iter().all(|own| own.object != object)
         {
             say(format_args!("warning: --object {object}: the history has no such object"));
         }

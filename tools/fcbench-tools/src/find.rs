@@ -143,14 +143,14 @@ pub fn find(command: &Find) -> Status {
 
 /// Reports for which objects the search for evidence failed, and returns whether any did.
 pub fn say_failures(decisions: &[Decision]) -> bool {
-    let failed = |it: &&Decision| matches!(it.evidence, Evidence::Open);
-    let failures = decisions.iter().filter(failed);
-    failures.map(|it| say(format_args!("the finder failed on object {}", it.object))).count() > 0
+    let has_failed = |decision: &&Decision| matches!(decision.evidence, Evidence::Open);
+    let objects = decisions.iter().filter(has_failed).map(|decision| decision.object);
+    objects.map(|object| say(format_args!("the finder failed on object {object}"))).count() > 0
 }
 
 /// Returns how a search ended that decided these of `all` objects.
 fn status_of(decisions: &[Decision], all: usize) -> Status {
-    let is_order = |it: &Decision| matches!(it.evidence, Evidence::Order(_));
+    let is_order = |decision: &Decision| matches!(decision.evidence, Evidence::Order(_));
     if say_failures(decisions) {
         Status::BROKEN
     } else if decisions.len() == all && decisions.iter().all(is_order) {
@@ -166,11 +166,11 @@ mod tests {
 
     #[test]
     fn a_search_that_failed_is_status_70() {
-        let found = |evidence| Decision { object: 1, evidence };
-        let order = || found(Evidence::Order(Vec::new()));
+        let decision = |evidence| Decision { object: 1, evidence };
+        let order = || decision(Evidence::Order(Vec::new()));
         assert_eq!(status_of(&[], 0), Status::YES);
         assert_eq!(status_of(&[order()], 1), Status::YES);
-        assert_eq!(status_of(&[order(), found(Evidence::Open)], 2), Status::BROKEN);
+        assert_eq!(status_of(&[order(), decision(Evidence::Open)], 2), Status::BROKEN);
     }
 
     #[test]

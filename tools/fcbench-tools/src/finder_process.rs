@@ -127,7 +127,8 @@ impl Finder {
     /// Starts a finder that works until the limit at most.
     pub fn start(command: &mut Command, limit: Limit) -> io::Result<Finder> {
         let mut finder = command.spawn()?;
-        let reading = finder.stderr.take().map(|it| Builder::new().spawn(|| forward_messages(it)));
+        let reading =
+            finder.stderr.take().map(|pipe| Builder::new().spawn(|| forward_messages(pipe)));
         let reader = reading.transpose()?;
         let has_reader = reader.is_some();
         let (answer, answered) = channel();
@@ -140,6 +141,6 @@ impl Finder {
     pub fn end(self) -> Vec<Remark> {
         drop(self.answer);
         let _ = self.keeper.join();
-        self.reader.and_then(|it| it.join().ok()).unwrap_or_default()
+        self.reader.and_then(|reader| reader.join().ok()).unwrap_or_default()
     }
 }

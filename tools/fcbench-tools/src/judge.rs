@@ -100,7 +100,7 @@ fn options_of_import(text: &[u8]) -> Option<&'static str> {
     let imported = |(is_independent, has_owners, words)| {
         let options =
             ::import::Options { is_independent, has_owners, ..::import::Options::default() };
-        let made = ::import::import(text, &options).ok().filter(|it| !it.has_new_processes)?;
+        let made = ::import::import(text, &options).ok().filter(|made| !made.has_new_processes)?;
         read_history(made.text.as_bytes()).map(|_| (words, made.lacks_owners))
     };
     let judged: Vec<_> = [
@@ -112,12 +112,16 @@ fn options_of_import(text: &[u8]) -> Option<&'static str> {
     .into_iter()
     .filter_map(imported)
     .collect();
-    judged.iter().find(|(_, lacks_owners)| !lacks_owners).or(judged.first()).map(|it| it.0)
+    judged
+        .iter()
+        .find(|(_, lacks_owners)| !lacks_owners)
+        .or(judged.first())
+        .map(|(words, _)| *words)
 }
 
 /// A path as a word of a shell.
 fn quoted(path: &str) -> String {
-    let is_plain = |it: char| it.is_alphanumeric() || "/._-+=:,@%".contains(it);
+    let is_plain = |letter: char| letter.is_alphanumeric() || "/._-+=:,@%".contains(letter);
     if path.chars().all(is_plain) {
         path.to_owned()
     } else {
@@ -128,7 +132,7 @@ fn quoted(path: &str) -> String {
 /// Reads the beginning of a file or folder, and reports the cause if that fails, which the verifier
 /// does not. Pipes and other files are not read: what is read here would be missing there.
 fn try_to_read(history: &str) -> Result<(), Status> {
-    let is_other = fs::metadata(history).is_ok_and(|it| !it.is_file() && !it.is_dir());
+    let is_other = fs::metadata(history).is_ok_and(|file| !file.is_file() && !file.is_dir());
     if is_other {
         return Ok(());
     }

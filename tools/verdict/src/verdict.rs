@@ -285,16 +285,16 @@ fn reply(words: &str) -> Option<Reply> {
 impl OrderFault {
     /// As `C5` and `4 returned before 2 was invoked`.
     fn read(code: &str, words: &str) -> Option<OrderFault> {
-        let (op, said) = words.split_once(' ')?;
+        let (op, rest) = words.split_once(' ')?;
         let op: i64 = op.parse().ok()?;
         Some(match code {
             "C3" => OrderFault::UnknownOperation { op },
             "C4" => OrderFault::Repeated { op },
             "C5" => {
-                let by = said.strip_prefix("returned before ")?.strip_suffix(" was invoked")?;
+                let by = rest.strip_prefix("returned before ")?.strip_suffix(" was invoked")?;
                 OrderFault::TooLate { op, by: by.parse().ok()? }
             }
-            "C6" => OrderFault::WrongReply { op, gives: reply(said.strip_prefix("gives ")?)? },
+            "C6" => OrderFault::WrongReply { op, gives: reply(rest.strip_prefix("gives ")?)? },
             "C7" => OrderFault::Omitted { op: op.try_into().ok()? },
             "C9" => OrderFault::NotPossible { op },
             _ => return None,
@@ -331,8 +331,8 @@ impl Refusal {
     /// What follows `no: `.
     pub(crate) fn read(words: &str) -> Option<Refusal> {
         let (code, rest) = words.split_once(" object ")?;
-        if let Some((object, said)) = rest.split_once(": ") {
-            let fault = OrderFault::read(code, said)?;
+        if let Some((object, fault)) = rest.split_once(": ") {
+            let fault = OrderFault::read(code, fault)?;
             return Some(Refusal::BadOrder { object: object.parse().ok()?, fault });
         }
         let object = rest.split(' ').next()?.parse().ok()?;
@@ -379,7 +379,7 @@ impl Verdict {
     /// Whether this is the answer for some object.
     pub fn has(&self, answer: Answer) -> bool {
         match self {
-            Verdict::Judged(answers) => answers.iter().any(|(_, it)| *it == answer),
+            Verdict::Judged(answers) => answers.iter().any(|(_, own)| *own == answer),
             Verdict::Yes { .. } | Verdict::No(_) | Verdict::Malformed(_) => false,
             Verdict::MalformedEvidence | Verdict::NoMemory => false,
         }
@@ -419,8 +419,8 @@ fn beginnings(status: u8) -> &'static [&'static str] {
 /// Whether an answer of `verify` with this status, which has so many bytes, can begin with these.
 pub fn can_begin(status: u8, bytes: &[u8], length: usize) -> bool {
     let begins = |with: &&str| {
-        let known = bytes.len().min(with.len());
-        length >= with.len() && bytes[..known] == with.as_bytes()[..known]
+        let shown = bytes.len().min(with.len());
+        length >= with.len() && bytes[..shown] == with.as_bytes()[..shown]
     };
     beginnings(status).iter().any(begins)
 }

@@ -164,8 +164,8 @@ fn ask_for_help(command: &'static Syntax, words: &[String]) -> bool {
         if word == "--help" || word == "-h" {
             return true;
         }
-        let needs = |it: &OptionSpec| matches!(it.value, Value::Needed(_));
-        if command.option(word).is_some_and(needs) {
+        let needs_value = |option: &OptionSpec| matches!(option.value, Value::Needed(_));
+        if command.option(word).is_some_and(needs_value) {
             words.next();
         }
     }
@@ -195,7 +195,7 @@ impl Command {
         if name == "--help" || name == "-h" {
             return Ok(Command::Help(Commands.to_string()));
         }
-        let command = COMMANDS.into_iter().find(|it| it.name == name);
+        let command = COMMANDS.into_iter().find(|command| command.name == name);
         let command = command.ok_or_else(|| unknown(Fault::NoSuchCommand(name.clone())))?;
         command_of(command, words).map_err(|fault| Refused { fault, command: Some(command) })
     }
@@ -303,6 +303,8 @@ mod tests {
         assert!(is_help("--help", "fcbench: judge, find, draw and import"));
         assert!(is_help("judge --help", "decides whether a history is linearizable"));
         assert!(is_help("find -h", "writes evidence"));
+        let help = parsed("find --help");
+        assert!(matches!(help, Some(Command::Help(text)) if !text.contains("--for-judge")));
         assert!(is_help("draw h.edn --help", "judges a history, or checks it"));
         assert!(is_help("import --other --help", "rewrites a history from a Jepsen store"));
     }

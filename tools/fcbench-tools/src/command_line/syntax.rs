@@ -60,7 +60,7 @@ pub struct Syntax {
 impl Syntax {
     /// Its files, as help names them.
     pub fn files(&self) -> String {
-        let other = self.other_file.map(|it| format!(" [{it}]")).unwrap_or_default();
+        let other = self.other_file.map(|file| format!(" [{file}]")).unwrap_or_default();
         format!("<{}>{other}", self.file)
     }
 
@@ -70,7 +70,7 @@ impl Syntax {
 
     /// Its option of this name.
     pub fn option(&self, name: &str) -> Option<&'static OptionSpec> {
-        self.options.iter().find(|it| it.name == name).copied()
+        self.options.iter().find(|option| option.name == name).copied()
     }
 }
 
@@ -78,10 +78,11 @@ impl Syntax {
 impl Display for Syntax {
     fn fmt(&self, f: &mut Formatter<'_>) -> fmt::Result {
         let help = "-h, --help";
-        let told = self.options.iter().filter_map(|it| Some((it.to_string(), it.about?)));
-        let width = told.clone().map(|(name, _)| name.len() + 4).fold(help.len(), usize::max);
+        let shown = self.options.iter();
+        let shown = shown.filter_map(|option| Some((option.to_string(), option.about?)));
+        let width = shown.clone().map(|(name, _)| name.len() + 4).fold(help.len(), usize::max);
         writeln!(f, "{}\n\n{}\n\nOptions:", self.about, self.usage())?;
-        for (name, about) in told {
+        for (name, about) in shown {
             let about = about.replace('\n', &format!("\n{:width$}    ", ""));
             writeln!(f, "  {:width$}  {about}", format!("    {name}"))?;
         }
@@ -257,6 +258,8 @@ impl Display for Commands {
     fn fmt(&self, f: &mut Formatter<'_>) -> fmt::Result {
         writeln!(f, "fcbench: judge, find, draw and import\n\n{}\n", Commands::USAGE)?;
         writeln!(f, "Commands:")?;
-        COMMANDS.iter().try_for_each(|it| writeln!(f, "  {:6} {}", it.name, it.about))
+        COMMANDS
+            .iter()
+            .try_for_each(|command| writeln!(f, "  {:6} {}", command.name, command.about))
     }
 }

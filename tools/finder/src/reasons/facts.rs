@@ -67,14 +67,16 @@ impl Undone {
         match (count, why) {
             (1, WhyUndone::Failed) => format!("event {first}, which failed"),
             (1, WhyUndone::Refused(function)) => {
-                let of = function.map_or(String::new(), |it| format!("the :{} of ", it.name));
+                let of = function
+                    .map_or(String::new(), |function| format!("the :{} of ", function.name));
                 format!("{of}event {first}, which was refused")
             }
             (_, WhyUndone::Failed) => {
                 format!("{count} operations that failed, the first of them event {first}")
             }
             (_, WhyUndone::Refused(function)) => {
-                let those = function.map_or("operations".to_owned(), |it| format!(":{}", it.name));
+                let those = function.map(|function| format!(":{}", function.name));
+                let those = those.unwrap_or_else(|| "operations".to_owned());
                 format!("{count} {those} that were refused, the first of them event {first}")
             }
         }

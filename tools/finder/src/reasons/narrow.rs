@@ -66,7 +66,8 @@ impl<'a> Narrowing<'a> {
         let by = Trial { first: self.by.first, steps: self.by.steps.min(self.left) };
         let reason = Reason { cuts: window.to_vec(), count: None };
         let checked = reason.check(self.part, by);
-        self.left = self.left.saturating_sub(checked.searched.as_ref().map_or(0, |it| it.steps));
+        self.left =
+            self.left.saturating_sub(checked.searched.as_ref().map_or(0, |search| search.steps));
         checked.part.is_some()
     }
 

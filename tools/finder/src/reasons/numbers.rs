@@ -77,7 +77,12 @@ impl<'a> Scene<'a> {
             Some(*most)
         });
         let mut amounts = timeline.calls.iter().filter_map(|call| call.op.adds());
-        Scene { most: most.collect(), is_rising: amounts.all(|it| it >= 0), timeline, steps }
+        Scene {
+            most: most.collect(),
+            is_rising: amounts.all(|amount| amount >= 0),
+            timeline,
+            steps,
+        }
     }
 
     /// The steps that were over before this moment.

@@ -307,7 +307,7 @@ impl Plan {
         let End::Returned { at, reply } = operation.end else {
             return false;
         };
-        let is_refused = operation.op.effect(Some(reply)).is_some_and(|it| it.is_refused());
+        let is_refused = operation.op.effect(Some(reply)).is_some_and(|effect| effect.is_refused());
         let is_cut = operation.number < begun || self.until.is_some_and(|until| at >= until);
         is_refused && is_cut && self.touches(operation)
     }

@@ -215,7 +215,7 @@ impl Proposer<'_> {
     /// patterns that are rare.
     fn best_by_patterns(&self, timeline: &Timeline) -> Option<Confirmed> {
         let best = self.best_of(self.patterns(timeline));
-        if best.as_ref().is_some_and(|it| it.size <= FEW) {
+        if best.as_ref().is_some_and(|best| best.size <= FEW) {
             return best;
         }
         let others = match &self.history.kind.family {

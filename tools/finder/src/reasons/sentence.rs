@@ -142,17 +142,17 @@ mod tests {
     #[test]
     fn what_left_nothing_is_named() {
         let queue = [("enqueue", "1", "1"), ("dequeue", "nil", "1"), ("dequeue", "nil", "nil")];
-        let said = beginning_of(&queue, &[Cut::From(4)]);
-        assert_eq!(said.as_deref(), Some("before that, event 4 found nothing"));
+        let beginning = beginning_of(&queue, &[Cut::From(4)]);
+        assert_eq!(beginning.as_deref(), Some("before that, event 4 found nothing"));
         assert_eq!(beginning_of(&queue, &[Cut::Until(6)]), None);
         let lock = [("acquire", "nil", "nil"), ("release", "nil", "nil")];
-        let said = beginning_of(&lock, &[Cut::From(2), Cut::Until(4)]);
-        assert_eq!(said.as_deref(), Some("before that, event 2 released the lock"));
+        let beginning = beginning_of(&lock, &[Cut::From(2), Cut::Until(4)]);
+        assert_eq!(beginning.as_deref(), Some("before that, event 2 released the lock"));
         assert_eq!(beginning_of(&lock, &[Cut::From(0)]), None);
         let map = [("put", "[5 1]", "nil"), ("del", "5", "1"), ("get", "5", "nil")];
-        let said = beginning_of(&map, &[Cut::From(2)]);
-        assert_eq!(said.as_deref(), Some("before that, event 2 took the value away"));
-        let said = beginning_of(&map, &[Cut::From(4)]);
-        assert_eq!(said.as_deref(), Some("before that, event 4 found nothing"));
+        let beginning = beginning_of(&map, &[Cut::From(2)]);
+        assert_eq!(beginning.as_deref(), Some("before that, event 2 took the value away"));
+        let beginning = beginning_of(&map, &[Cut::From(4)]);
+        assert_eq!(beginning.as_deref(), Some("before that, event 4 found nothing"));
     }
 }

@@ -44,7 +44,7 @@ fn of_time(candidate: Candidate) -> Candidate {
 /// The pattern for the last call of a plan: the lock has another owner than the call needs, or no
 /// owner.
 fn pattern_of(scene: &Scene, plan: &Plan) -> Option<Pattern> {
-    let access = scene.cell.accesses.iter().find(|it| Some(it.call.until()) == plan.until)?;
+    let access = scene.cell.accesses.iter().find(|own| Some(own.call.until()) == plan.until)?;
     let first = plan.from.and_then(|from| {
         scene.cell.accesses.iter().find(|access| access.call.number == from)?.shows()
     });
@@ -56,7 +56,7 @@ fn pattern_of(scene: &Scene, plan: &Plan) -> Option<Pattern> {
 
 /// The last call that was over before the last one of the plan began.
 fn start_of(scene: &Scene, plan: &Plan) -> Option<u32> {
-    let last = scene.cell.accesses.iter().find(|it| Some(it.call.until()) == plan.until)?;
+    let last = scene.cell.accesses.iter().find(|own| Some(own.call.until()) == plan.until)?;
     let sight = scene.sights.last_before(last.call.begin)?;
     Some(scene.call(sight.place).number)
 }

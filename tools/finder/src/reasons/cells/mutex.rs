@@ -50,7 +50,7 @@ pub fn mutex_patterns(timeline: &Timeline) -> Vec<Candidate> {
     let (acquires, releases) = split(timeline);
     let mut candidates = window(&acquires, &releases, Counted::Free);
     let held = window(&releases, &acquires, Counted::Held).into_iter();
-    candidates.extend(held.filter_map(|it| with_acquire(it, &acquires, &releases)));
+    candidates.extend(held.filter_map(|window| with_acquire(window, &acquires, &releases)));
     candidates
 }
 

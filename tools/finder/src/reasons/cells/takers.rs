@@ -175,7 +175,10 @@ fn window(
     let candidates = starts_in(&inside, window).into_iter().map(|start| {
         let mut plan = scene.plan(&contents, &inside);
         plan.until = inside.last().map(Call::until);
-        plan.shown_by = counted.map_or(ShownBy::Search, |it| shown_in_part(scene, it, start.count));
+        plan.shown_by = match counted {
+            None => ShownBy::Search,
+            Some(counted) => shown_in_part(scene, counted, start.count),
+        };
         plan.from = match plan.shown_by {
             ShownBy::Search => sight_before(scene, &inside),
             ShownBy::Count { .. } => start.part,

@@ -107,7 +107,9 @@ impl Pairs {
 
     /// Admits the pairs whose puts returned before this number.
     fn admit(&mut self, before: u32) {
-        while let Some((_, place)) = self.by_return.get(self.admitted).filter(|it| it.0 < before) {
+        while let Some((_, place)) =
+            self.by_return.get(self.admitted).filter(|(returned, _)| *returned < before)
+        {
             self.tree.set(*place, -self.leaves[*place]);
             self.admitted += 1;
         }
@@ -193,7 +195,7 @@ impl<'a> Asking<'a> {
     /// How many removals of a run, other than this one, can be before it.
     fn others(&self, run: &Run, call: &Call) -> usize {
         let removals = self.runs.removals(run);
-        removals.partition_point(|it| it.number <= call.returned).saturating_sub(1)
+        removals.partition_point(|removal| removal.number <= call.returned).saturating_sub(1)
     }
 
     /// How many pending removals can be before a call that returned.
@@ -300,7 +302,8 @@ impl Asking<'_> {
         let counts = |put: &Call| put.returned < question.before && put.number >= question.from;
         let place = own.iter().rposition(|run| self.runs.puts(run).iter().any(counts))?;
         let rest = &own[place..];
-        let puts = rest.iter().flat_map(|run| self.runs.puts(run)).filter(|it| counts(it)).count();
+        let puts =
+            rest.iter().flat_map(|run| self.runs.puts(run)).filter(|put| counts(put)).count();
         let removals = rest.iter().flat_map(|run| self.runs.removals(run));
         let taken = removals.filter(|call| question.can_follow(call.number)).count();
         let size = |run: &Run| (run.put_count(), run.size() - run.put_count());
