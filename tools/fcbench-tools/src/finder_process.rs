@@ -38,7 +38,9 @@ pub fn finder(command: &Find) -> io::Result<Command> {
     if let Some(steps) = command.steps {
         finder.args(["--steps", &steps.to_string()]);
     }
-    // The verifier says what is wrong with a history. Nothing else is known about another finder.
+    // The verifier says what is wrong with a history. This program's own finder tells how far it
+    // is, and what it says about the history, in lines for `judge`. What another one prints on
+    // standard error is dropped.
     if is_own {
         finder.args(["--summary", "--for-judge"]);
         if io::stderr().is_terminal() {

@@ -126,7 +126,7 @@ fn each_pattern_has_its_sentence() {
 
 #[test]
 fn facts_beside_a_pattern_are_said() {
-    let said = |kind, pattern, facts| {
+    let sentence_of = |kind, pattern, facts| {
         Sentence { facts, ..Sentence::of_pattern(kind, None, pattern) }.to_string()
     };
     let undone =
@@ -170,7 +170,7 @@ fn facts_beside_a_pattern_are_said() {
             "value 7 was read and only written by 2 operations that were refused, the first of them event 12",
         ),
     ] {
-        assert_eq!(said(kind, never(), facts), wanted);
+        assert_eq!(sentence_of(kind, never(), facts), wanted);
     }
     let swap = Facts { is_by_swap: true, undone: None };
     for (pattern, wanted) in [
@@ -184,7 +184,7 @@ fn facts_beside_a_pattern_are_said() {
             "value 7 was expected by an accepted :cas after another content had replaced it",
         ),
     ] {
-        assert_eq!(said(kind("register"), pattern, swap), wanted);
+        assert_eq!(sentence_of(kind("register"), pattern, swap), wanted);
     }
 }
 
@@ -209,10 +209,10 @@ fn lost_again(most: usize, values: &[(i64, usize, &[u32])]) -> Pattern {
 
 #[test]
 fn the_first_event_is_named() {
-    let said = |least, most| FirstEvent { least, most }.to_string();
-    assert_eq!(said(31, 31), "event 31 is the first that leaves no order");
+    let sentence_of = |least, most| FirstEvent { least, most }.to_string();
+    assert_eq!(sentence_of(31, 31), "event 31 is the first that leaves no order");
     let range = "the first event that leaves no order is one from event 20 to event 31";
-    assert_eq!(said(20, 31), range);
+    assert_eq!(sentence_of(20, 31), range);
 }
 
 #[test]
@@ -339,17 +339,17 @@ fn sets_locks_and_counters_have_their_words() {
 
 #[test]
 fn new_functions_of_cells_have_their_words() {
-    let said = |pattern| Sentence::of_pattern(kind("map"), Some(1), pattern).to_string();
+    let sentence_of = |pattern| Sentence::of_pattern(kind("map"), Some(1), pattern).to_string();
     assert_eq!(
-        said(Pattern::Absent(Absent::DoneOverValue { name: "put-if-absent", number: 9 })),
+        sentence_of(Pattern::Absent(Absent::DoneOverValue { name: "put-if-absent", number: 9 })),
         "key 1: a value was definitely there when the :put-if-absent of event 9 found none"
     );
     assert_eq!(
-        said(Pattern::Refused(Refused::WithoutValue { name: "put-if-absent", number: 9 })),
+        sentence_of(Pattern::Refused(Refused::WithoutValue { name: "put-if-absent", number: 9 })),
         "key 1: no value was there when the :put-if-absent of event 9 was refused"
     );
     assert_eq!(
-        said(Pattern::Refused(Refused::UnderItsValue { value: 7, number: 9 })),
+        sentence_of(Pattern::Refused(Refused::UnderItsValue { value: 7, number: 9 })),
         "key 1: value 7 was definitely there when the :replace of event 9, which expects it, was refused"
     );
 }

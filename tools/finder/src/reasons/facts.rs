@@ -121,7 +121,7 @@ impl Facts {
             return Facts::default();
         };
         let value = seen.value;
-        let found =
+        let looked =
             |o: &Operation| o.op.only_looks() && o.reply() == Some(Reply::Value(Some(value)));
         let swapped = |o: &Operation| {
             matches!(o.reply(), Some(Reply::Swapped(..))) && o.op.argument.expected() == Some(value)
@@ -129,7 +129,7 @@ impl Facts {
         Facts {
             is_by_swap: history.kind.is_lone_cell()
                 && part.ops.iter().any(swapped)
-                && !part.ops.iter().any(found),
+                && !part.ops.iter().any(looked),
             undone: match seen.is_unset {
                 true => Undone::of(history, key, value),
                 false => None,

@@ -117,13 +117,13 @@ pub fn narrowed(
     let mut narrowing = Narrowing::new(part, by, searched);
     let window = narrowing.window()?;
     let small = part_by(part, &window)?;
-    let found = propose_within(&small, None, STEPS_OF_A_PART, narrowing.left);
+    let proposal = propose_within(&small, None, STEPS_OF_A_PART, narrowing.left);
     let is_smaller = |reason: Reason| {
         let smaller = reason.part_shown(history, by)?;
         (smaller.ops.len() < part.ops.len()).then_some((reason, smaller))
     };
     // The cuts of a proposal mostly name the window too.
-    let proposed = found.and_then(|Proposal { reason, pattern, key }| {
+    let proposed = proposal.and_then(|Proposal { reason, pattern, key }| {
         let alone = Reason { cuts: [cuts, &reason.cuts].concat(), ..reason };
         let in_window = Reason { cuts: [cuts, &window, &reason.cuts].concat(), ..reason };
         let (reason, smaller) = is_smaller(alone)

@@ -133,8 +133,8 @@ impl<'a> Scene<'a> {
         let mut starts: Vec<&Step> = before.filter(|step| is_start(step)).collect();
         starts.sort_by_key(|step| std::cmp::Reverse(step.call.begin));
         let starts = starts.into_iter().take(MOST_STARTS);
-        let found = starts.filter_map(|step| self.candidate(pattern, Some(&step.call), calls));
-        let mut candidates: Vec<Candidate> = found.collect();
+        let candidates = starts.filter_map(|step| self.candidate(pattern, Some(&step.call), calls));
+        let mut candidates: Vec<Candidate> = candidates.collect();
         candidates.sort_by_key(|candidate| candidate.weight);
         candidates.truncate(2);
         if candidates.is_empty() {
@@ -145,7 +145,7 @@ impl<'a> Scene<'a> {
 
     /// A call finds less than another one that was over before it had left.
     fn fallen(&self) -> Vec<Candidate> {
-        let found = self.steps.iter().filter_map(|step| {
+        let candidates = self.steps.iter().filter_map(|step| {
             let count = self.before(step.call.begin).len();
             let was = *self.most[..count].last()?;
             let found = step.before;
@@ -154,7 +154,7 @@ impl<'a> Scene<'a> {
                 self.candidates(pattern, &[step.call], |start| start.after > found)
             })
         });
-        found.take(MOST).flatten().collect()
+        candidates.take(MOST).flatten().collect()
     }
 
     /// Two additions find the same number.
@@ -162,21 +162,23 @@ impl<'a> Scene<'a> {
         let mut adding: Vec<&Step> =
             self.steps.iter().filter(|step| step.before != step.after).collect();
         adding.sort_by_key(|step| step.before);
-        let found = adding.windows(2).filter(|pair| pair[0].before == pair[1].before).map(|pair| {
-            let calls = [pair[0].call, pair[1].call];
-            self.candidates(WrongNumber::FoundTwice(pair[0].before), &calls, |_| true)
-        });
-        found.take(MOST).flatten().collect()
+        let candidates =
+            adding.windows(2).filter(|pair| pair[0].before == pair[1].before).map(|pair| {
+                let calls = [pair[0].call, pair[1].call];
+                self.candidates(WrongNumber::FoundTwice(pair[0].before), &calls, |_| true)
+            });
+        candidates.take(MOST).flatten().collect()
     }
 
     /// A call finds a number that no other call left.
     fn not_reached(&self) -> Vec<Candidate> {
         let adding = self.steps.iter().filter(|step| step.before != step.after);
         let left: HashSet<i64> = adding.map(|step| step.after).chain([0]).collect();
-        let found = self.steps.iter().filter(|step| !left.contains(&step.before)).map(|step| {
-            self.candidates(WrongNumber::NotReached(step.before), &[step.call], |_| true)
-        });
-        found.take(MOST).flatten().collect()
+        let candidates =
+            self.steps.iter().filter(|step| !left.contains(&step.before)).map(|step| {
+                self.candidates(WrongNumber::NotReached(step.before), &[step.call], |_| true)
+            });
+        candidates.take(MOST).flatten().collect()
     }
 }
 

@@ -184,8 +184,8 @@ impl Proposer<'_> {
             if next.is_empty() {
                 return None;
             }
-            if let Some(found) = next.into_iter().find_map(|shrunk| self.confirm(shrunk)) {
-                return Some(found);
+            if let Some(confirmed) = next.into_iter().find_map(|shrunk| self.confirm(shrunk)) {
+                return Some(confirmed);
             }
         }
     }
@@ -206,8 +206,8 @@ impl Proposer<'_> {
             return own.map(|own| own.proposal);
         }
         let other = key.checked_add(1).and_then(|next| self.best_on(next, i64::MAX));
-        let smallest = own.into_iter().chain(other).min_by_key(|found| found.size);
-        smallest.map(|found| found.proposal)
+        let smallest = own.into_iter().chain(other).min_by_key(|confirmed| confirmed.size);
+        smallest.map(|confirmed| confirmed.proposal)
     }
 
     /// The smallest reason to which the patterns of the object lead, if they lead to one. Where it
@@ -223,7 +223,7 @@ impl Proposer<'_> {
             Family::Holdable(_) => self.rare_patterns(timeline),
             Family::Cells(_) | Family::Number(_) => Vec::new(),
         };
-        best.into_iter().chain(self.best_of(others)).min_by_key(|found| found.size)
+        best.into_iter().chain(self.best_of(others)).min_by_key(|confirmed| confirmed.size)
     }
 
     fn propose(&self, open_key: Option<i64>) -> Option<Proposal> {
@@ -231,14 +231,14 @@ impl Proposer<'_> {
             return Some(proposal);
         }
         let timeline = Timeline::of(&self.history.ops);
-        let mut found = None;
+        let mut best = None;
         if open_key.is_none() {
-            found = self.best_by_patterns(&timeline);
+            best = self.best_by_patterns(&timeline);
         }
-        let found = found
+        let best = best
             .or_else(|| self.best_of(self.rare_patterns(&timeline)))
             .or_else(|| self.best_of(wholes_of(self.history.kind, &timeline)));
-        found.map(|found| found.proposal)
+        best.map(|confirmed| confirmed.proposal)
     }
 }
 
@@ -267,6 +267,6 @@ pub fn propose_by_pairs(history: &ObjectHistory, steps: u64) -> Option<Proposal>
     let proposer = Proposer { history, steps: steps.min(STEPS_OF_A_PAIR), budget };
     let candidates = value_pairs_of(history.kind, &Timeline::of(&history.ops));
     let shrunk = candidates.into_iter().filter_map(|candidate| proposer.shrink(candidate));
-    let found = shrunk.into_iter().find_map(|shrunk| proposer.confirm(shrunk));
-    found.map(|found| found.proposal)
+    let confirmed = shrunk.into_iter().find_map(|shrunk| proposer.confirm(shrunk));
+    confirmed.map(|confirmed| confirmed.proposal)
 }

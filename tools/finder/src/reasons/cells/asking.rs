@@ -146,6 +146,6 @@ fn candidates_of(scene: &Scene, access: &Access) -> Option<Vec<Candidate>> {
 
 /// The calls that ask for a content that cannot be there.
 pub fn asking(scene: &Scene) -> Vec<Candidate> {
-    let found = scene.cell.accesses.iter().filter_map(|access| candidates_of(scene, access));
-    found.take(MOST).flatten().collect()
+    let candidates = scene.cell.accesses.iter().filter_map(|access| candidates_of(scene, access));
+    candidates.take(MOST).flatten().collect()
 }

@@ -173,6 +173,7 @@ pub fn refusals(scene: &Scene) -> Vec<Candidate> {
     }
     let shown = all_shown(scene.cell);
     let overs = all_overs(scene.cell);
-    let found = accesses.iter().filter_map(|access| candidate_of(scene, &shown, &overs, access));
-    found.take(MOST).collect()
+    let candidates =
+        accesses.iter().filter_map(|access| candidate_of(scene, &shown, &overs, access));
+    candidates.take(MOST).collect()
 }

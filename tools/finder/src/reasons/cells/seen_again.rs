@@ -141,6 +141,6 @@ pub fn seen_again(scene: &Scene) -> Vec<Candidate> {
     let deadlines = Deadlines::of(scene);
     let takers = takers_of(&deadlines, scene);
     let story = Story { scene, deadlines, takers };
-    let found = scene.cell.accesses.iter().filter_map(|access| story.wrong_with(access));
-    found.take(MOST).collect()
+    let candidates = scene.cell.accesses.iter().filter_map(|access| story.wrong_with(access));
+    candidates.take(MOST).collect()
 }

@@ -140,7 +140,7 @@ fn excess_pattern(scene: &Scene, content: usize, taken: usize, counted: Counted)
 /// The contents that are taken away more often, from the beginning on, than they are set.
 pub fn excesses(scene: &Scene) -> Vec<Candidate> {
     let takers = by_content(scene, taken_by);
-    let found = takers.iter().enumerate().filter_map(|(content, takers)| {
+    let candidates = takers.iter().enumerate().filter_map(|(content, takers)| {
         let counted = counted(scene, content)?;
         let taken = excess(scene, content, takers)?;
         if taken > MOST_NAMED || taken == 1 && content != NOTHING {
@@ -153,7 +153,7 @@ pub fn excesses(scene: &Scene) -> Vec<Candidate> {
         let pattern = excess_pattern(scene, content, taken, counted);
         Some(scene.candidate(pattern, plan, 2 * taken))
     });
-    found.take(MOST).collect()
+    candidates.take(MOST).collect()
 }
 
 /// The candidates of a content that is taken away in a window more often than it can have been
@@ -214,12 +214,12 @@ pub fn windows(
 ) -> Vec<Candidate> {
     let takers = by_content(scene, taken_by);
     let setters = by_content(scene, |access| access.sets);
-    let found =
+    let candidates =
         takers.iter().zip(&setters).enumerate().filter_map(|(content, (takers, setters))| {
             if takers.len() < 2 {
                 return None;
             }
             window(scene, content, takers, setters, &pattern)
         });
-    found.take(MOST).flatten().collect()
+    candidates.take(MOST).flatten().collect()
 }

@@ -137,9 +137,9 @@ pub fn crossing_zones(scene: &Scene) -> Vec<Candidate> {
     let zones = zones_of(scene);
     let stays = stays_of(scene, &zones);
     let longest = all_longest(&stays);
-    let found = stays.iter().filter_map(|stay| {
+    let candidates = stays.iter().filter_map(|stay| {
         let other = crossing(&longest, stay)?;
         candidate_of(scene, &zones, [other.content, stay.content])
     });
-    found.take(MOST).collect()
+    candidates.take(MOST).collect()
 }

@@ -122,7 +122,7 @@ pub fn queue_pairs(runs: &Runs) -> Vec<Candidate> {
     let mut ended = by_time(&pairs, |pair| if_returned(pair.put_end)).into_iter().peekable();
     let mut latest = Mark::NONE;
     let begun = by_time(&pairs, |pair| Some(pair.put_begin)).into_iter();
-    let found = begun.filter_map(|(begin, place)| {
+    let candidates = begun.filter_map(|(begin, place)| {
         while let Some((_, place)) = ended.next_if(|(end, _)| *end <= begin) {
             latest = latest.greater(Mark { at: pairs[place].leaves, place });
         }
@@ -130,7 +130,7 @@ pub fn queue_pairs(runs: &Runs) -> Vec<Candidate> {
         (second.gone <= latest.at && first.value != second.value)
             .then(|| queue_candidate(runs, first, second))
     });
-    found.take(MOST).collect()
+    candidates.take(MOST).collect()
 }
 
 /// Two values of a stack, of which the second is put on the first, and the first is taken before
@@ -142,7 +142,7 @@ pub fn stack_pairs(runs: &Runs) -> Vec<Candidate> {
     let mut ended = by_time(&pairs, |pair| if_returned(pair.put_end)).into_iter().peekable();
     let mut pushed = Marks::new(end); // by the begins of their puts
     let leaving = by_time(&pairs, |pair| if_returned(pair.gone).map(|_| pair.leaves)).into_iter();
-    let found = leaving.filter_map(|(leaves, place)| {
+    let candidates = leaving.filter_map(|(leaves, place)| {
         while let Some((_, place)) = ended.next_if(|(end, _)| *end <= leaves) {
             let pair = &pairs[place];
             pushed.raise(pair.put_begin as usize, Mark { at: pair.leaves, place });
@@ -153,5 +153,5 @@ pub fn stack_pairs(runs: &Runs) -> Vec<Candidate> {
         (latest.at >= first.gone && first.value != second.value)
             .then(|| stack_candidate(runs, first, second))
     });
-    found.take(MOST).collect()
+    candidates.take(MOST).collect()
 }

@@ -48,7 +48,7 @@ fn pattern_of(value: i64, puts: usize, taken: usize) -> OneValue {
 
 /// The values that are taken more often than they are put in. A count shows it.
 pub fn singles(runs: &Runs) -> Vec<Candidate> {
-    let found = runs.runs.iter().enumerate().filter_map(|(place, run)| {
+    let candidates = runs.runs.iter().enumerate().filter_map(|(place, run)| {
         let (before, removal) = excess(runs, run)?;
         let elsewhere = puts_elsewhere(runs, place);
         let pattern = pattern_of(run.value, elsewhere + run.put_count(), elsewhere + before + 1);
@@ -59,5 +59,5 @@ pub fn singles(runs: &Runs) -> Vec<Candidate> {
         plan.shown_by = ShownBy::Count { count, keeps_beginning: size <= FEW_CALLS };
         Some(Candidate::without_key(Pattern::OneValue(pattern), plan, size))
     });
-    found.take(MOST).collect()
+    candidates.take(MOST).collect()
 }
