@@ -1,53 +1,33 @@
 //! The statuses of include/fcbench.h, and the lines that belong to each.
 
+use verdict::{Asked, Verdict, can_begin};
+
 pub const YES: u32 = 0;
-pub const NO: u32 = 1;
 pub const MALFORMED: u32 = 2;
 pub const UNDECIDED: u32 = 3;
 /// The proved half did not answer.
 pub const BROKEN: u32 = 70;
 
-/// What the first line of an answer with this status may begin with.
-fn beginnings(status: u32) -> &'static [&'static [u8]] {
-    match status {
-        YES => &[b"yes: "],
-        NO => &[b"; object "],
-        MALFORMED => &[b"malformed history: "],
-        UNDECIDED => &[b"; object ", b"malformed evidence: ", b"out of memory\n"],
-        _ => &[],
-    }
+/// The status that belongs to the lines of an answer, by the table of docs/commands.md.
+fn status_of(lines: &[u8]) -> Option<u32> {
+    let lines = str::from_utf8(lines).ok().filter(|lines| lines.ends_with('\n'))?;
+    Verdict::read(lines)?.status(Asked::Verify).map(u32::from)
 }
 
-/// Whether a line says that an object is impossible.
-fn is_no(line: &[u8]) -> bool {
-    line.starts_with(b"; object ") && line.ends_with(b": impossible")
-}
-
-/// Whether a yes may have this line: the counts of the history, or of a kind.
-fn is_of_yes(line: &[u8]) -> bool {
-    line.is_empty()
-        || line.starts_with(b"yes: ") && line.ends_with(b" objects")
-        || !line.starts_with(b";") && line.ends_with(b" operations")
-}
-
-/// Whether these lines are those of an answer with this status, by the table of docs/commands.md.
-/// They are the first of `needed` bytes, and as many as there was room for.
+/// Whether these lines are those of an answer with this status. They are the first of `needed`
+/// bytes, and as many as there was room for.
 pub fn fits(status: u32, lines: &[u8], needed: usize) -> bool {
-    let begins = |with: &&[u8]| {
-        let shown = lines.len().min(with.len());
-        needed > with.len() - 1 && lines[..shown] == with[..shown]
-    };
-    let are_whole = lines.len() == needed;
-    let mut all = lines.split(|byte| *byte == b'\n');
-    let has_no = all.clone().any(is_no);
-    let says_so = has_no == (status == NO) && (status != YES || all.all(is_of_yes));
-    beginnings(status).iter().any(begins) && (!are_whole || lines.ends_with(b"\n") && says_so)
+    if lines.len() == needed {
+        return status_of(lines) == Some(status);
+    }
+    u8::try_from(status).is_ok_and(|status| can_begin(status, lines, needed))
 }
 
 #[cfg(test)]
 mod tests {
     use super::*;
 
+    const NO: u32 = 1;
     const YES_LINES: &[u8] = b"yes: 1 operations, 1 objects\nqueue: 1 objects, 1 operations\n";
     const NO_LINES: &[u8] = b"; object 0: open\n; object 3: impossible\n; {:object 3, :cuts []}\n";
 

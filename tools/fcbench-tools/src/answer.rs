@@ -4,9 +4,9 @@
 
 use crate::program::say;
 use crate::status::Status;
-use pages::{Asked, Verdict};
 use std::io::{self, Read};
 use std::process::{Child, ChildStdout, ExitStatus};
+use verdict::{Asked, Verdict};
 
 /// What the verifier said: its lines, what they say, and the status that belongs to them.
 #[derive(Debug)]
@@ -51,8 +51,11 @@ fn fitting(asked: Asked, status: Status, lines: Vec<u8>) -> Option<Answer> {
     (verdict.status(asked) == Some(status.0)).then_some(Answer { status, verdict, lines })
 }
 
-/// Reads what the verifier prints of what it is asked, and waits for its end. The error is the
-/// status if it has no answer.
+/// Reads what the verifier prints of what it is asked, and waits for its end.
+///
+/// # Errors
+///
+/// The status of this program, if the verifier has no answer.
 pub fn answer_of(program: &mut Child, asked: Asked) -> Result<Answer, Status> {
     let lines = program.stdout.take().map_or(Ok(Vec::new()), read_whole);
     let status = status_of(program.wait())?;

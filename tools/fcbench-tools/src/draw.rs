@@ -8,12 +8,11 @@ use crate::program::{path_for_both, proved, put_out, say, start, verifier};
 use crate::status::Status;
 use ::import::{Names, with_names};
 use finder::{Decision, History, Options, count_returned, decide, read_history};
-use pages::{
-    Asides, Asked, Drawn, Fault, Verdict, Which, Words, malformed_page, memory_page, orders_in,
-};
+use pages::{Asides, Drawn, Words, malformed_page, memory_page, orders_in};
 use std::io;
 use std::panic::{AssertUnwindSafe, catch_unwind};
 use std::process::{ChildStdin, Command};
+use verdict::{Asked, Fault, Verdict, Which};
 
 /// What the verifier answers to this, whose input a function gives meanwhile.
 fn answer_by(
@@ -31,8 +30,8 @@ fn answer_by(
 /// What is found of a history. If the finder fails that is nothing, or less.
 fn decisions_on(history: &History, steps: Option<u64>) -> Vec<Decision> {
     let options = Options { steps, ..Options::default() };
-    let found = catch_unwind(AssertUnwindSafe(|| decide(history, options)));
-    let decisions = found.unwrap_or_else(|_| {
+    let decided = catch_unwind(AssertUnwindSafe(|| decide(history, options)));
+    let decisions = decided.unwrap_or_else(|_| {
         say(format_args!("the finder failed, so there is no evidence"));
         Vec::new()
     });
@@ -73,7 +72,7 @@ impl<'a> Drawing<'a> {
         let names = command.names.as_deref().map(names_in).transpose()?.map(Names::for_a_page);
         let read = read_history(&history.bytes);
         if let (Some(object), Some(read)) = (command.options.object, &read)
-            && read.objects.iter().all(|it| it.object != object)
+            && read.objects.iter().all(|own| own.object != object)
         {
             say(format_args!("warning: --object {object}: the history has no such object"));
         }

@@ -2,19 +2,20 @@
 
 use crate::answer::Answer;
 use crate::command_line::Find;
-use crate::limit::{BETWEEN_LIMIT_CHECKS, Limit, Progress};
+use crate::limit::{BETWEEN_LIMIT_CHECKS, Limit, ProgressTeller};
+use crate::message::{Message, Remark};
 use crate::program::{note, output, output_failed, say};
 use crate::status::Status;
 use finder::{
     Decision, Evidence, History, LONGEST, Options, Places, Statistics, decide_each,
     read_history_from, warnings,
 };
-use pages::Verdict;
 use std::fs::File;
 use std::io::{self, BufWriter, Read, Write};
 use std::iter;
 use std::sync::mpsc::{RecvTimeoutError, channel};
 use std::thread::Builder;
+use verdict::Verdict;
 
 /// The result of reading a file, or why there is none. The file - is standard input.
 pub fn read_with<T>(path: &str, read: impl FnOnce(File) -> io::Result<T>) -> Result<T, Status> {
@@ -74,7 +75,7 @@ fn decisions_by(limit: Limit, history: History, command: &Find) -> Vec<Decision>
     if let Err(error) = Builder::new().spawn(work) {
         say(format_args!("no thread can be started: {error}"));
     }
-    let mut progress = Progress::new(limit, all, command.shows_progress);
+    let mut progress = ProgressTeller::new(limit, command.reader, all, command.shows_progress);
     let mut decisions = Vec::with_capacity(all);
     while !limit.is_over() {
         match decided.recv_timeout(BETWEEN_LIMIT_CHECKS) {
@@ -114,10 +115,10 @@ fn history_of(command: &Find) -> Result<History, Status> {
     }
 }
 
-/// How much the operations of a history overlap, and what is suspicious in it: a line for each.
-pub fn summary_of(history: &History) -> String {
-    let warnings = warnings(history).into_iter().map(|it| format!("; warning: {it}\n"));
-    iter::once(format!("; {}\n", Statistics::of(history))).chain(warnings).collect()
+/// How much the operations of a history overlap, and what is suspicious in it.
+pub fn remarks_on(history: &History) -> Vec<Remark> {
+    let overlap = Remark::Overlap(Statistics::of(history));
+    iter::once(overlap).chain(warnings(history).into_iter().map(Remark::Warning)).collect()
 }
 
 /// Writes evidence for a history to standard output.
@@ -128,7 +129,9 @@ pub fn find(command: &Find) -> Status {
         Err(status) => return status,
     };
     if command.summarizes {
-        summary_of(&history).lines().for_each(|line| note(format_args!("{line}")));
+        for remark in remarks_on(&history) {
+            note(format_args!("{}", Message::OfHistory(remark).line_for(command.reader)));
+        }
     }
     let all = history.objects.len();
     let decisions = decisions_by(limit, history, command);
@@ -140,14 +143,14 @@ pub fn find(command: &Find) -> Status {
 
 /// Reports for which objects the search for evidence failed, and returns whether any did.
 pub fn say_failures(decisions: &[Decision]) -> bool {
-    let failed = |it: &&Decision| matches!(it.evidence, Evidence::Open);
-    let failures = decisions.iter().filter(failed);
-    failures.map(|it| say(format_args!("the finder failed on object {}", it.object))).count() > 0
+    let has_failed = |decision: &&Decision| matches!(decision.evidence, Evidence::Open);
+    let objects = decisions.iter().filter(has_failed).map(|decision| decision.object);
+    objects.map(|object| say(format_args!("the finder failed on object {object}"))).count() > 0
 }
 
 /// Returns how a search ended that decided these of `all` objects.
 fn status_of(decisions: &[Decision], all: usize) -> Status {
-    let is_order = |it: &Decision| matches!(it.evidence, Evidence::Order(_));
+    let is_order = |decision: &Decision| matches!(decision.evidence, Evidence::Order(_));
     if say_failures(decisions) {
         Status::BROKEN
     } else if decisions.len() == all && decisions.iter().all(is_order) {
@@ -163,11 +166,11 @@ mod tests {
 
     #[test]
     fn a_search_that_failed_is_status_70() {
-        let found = |evidence| Decision { object: 1, evidence };
-        let order = || found(Evidence::Order(Vec::new()));
+        let decision = |evidence| Decision { object: 1, evidence };
+        let order = || decision(Evidence::Order(Vec::new()));
         assert_eq!(status_of(&[], 0), Status::YES);
         assert_eq!(status_of(&[order()], 1), Status::YES);
-        assert_eq!(status_of(&[order(), found(Evidence::Open)], 2), Status::BROKEN);
+        assert_eq!(status_of(&[order(), decision(Evidence::Open)], 2), Status::BROKEN);
     }
 
     #[test]

@@ -1,7 +1,8 @@
 //! The finder as a process of its own: how it is started, read, stopped at the limit, and ended.
 
 use crate::command_line::Find;
-use crate::limit::{BETWEEN_LIMIT_CHECKS, Limit, PROGRESS};
+use crate::limit::{BETWEEN_LIMIT_CHECKS, Limit};
+use crate::message::{Message, Remark};
 use crate::program::say;
 use crate::status::Status;
 use crate::system::{send_sigterm, tie};
@@ -21,8 +22,8 @@ const BETWEEN_EXIT_CHECKS: Duration = Duration::from_millis(1);
 /// How long a finder that was asked to end may write what it has.
 const LAST_WORDS: Duration = Duration::from_secs(5);
 
-/// The longest summary that is read.
-const LONGEST_SUMMARY: u64 = 1 << 20;
+/// How many bytes of its messages are read at most.
+const MOST_OF_MESSAGES: u64 = 1 << 20;
 
 /// The finder of evidence: the program that the environment variable FCBENCH_FINDER names,
 /// otherwise this one. What it finds is checked, so any program may be named. It is started with
@@ -37,9 +38,11 @@ pub fn finder(command: &Find) -> io::Result<Command> {
     if let Some(steps) = command.steps {
         finder.args(["--steps", &steps.to_string()]);
     }
-    // The verifier says what is wrong with a history. Nothing else is known about another finder.
+    // The verifier says what is wrong with a history. This program's own finder tells how far it
+    // is, and what it says about the history, in lines for `judge`. What another one prints on
+    // standard error is dropped.
     if is_own {
-        finder.arg("--summary");
+        finder.args(["--summary", "--for-judge"]);
         if io::stderr().is_terminal() {
             finder.arg("--progress");
         }
@@ -101,24 +104,25 @@ fn stop_at_limit(finder: &mut Child, has_reader: bool, limit: Limit, answer: &Re
     end(finder, stopped.is_some());
 }
 
-/// Prints how far the finder is, and returns what it says about the history.
-fn forward_messages(said: ChildStderr) -> String {
-    let mut summary = String::new();
-    for line in BufReader::new(said.take(LONGEST_SUMMARY)).lines().map_while(Result::ok) {
-        if line.contains(PROGRESS) {
-            say(format_args!("{}", line.trim_start_matches("; ")));
-        } else {
-            summary.extend([&line, "\n"]);
+/// Prints how far the finder is, and returns what it says about the history. Lines that are no
+/// messages are passed over.
+fn forward_messages(messages: ChildStderr) -> Vec<Remark> {
+    let lines = BufReader::new(messages.take(MOST_OF_MESSAGES)).lines().map_while(Result::ok);
+    let remark = |line: String| match Message::parse(&line)? {
+        Message::OfHistory(remark) => Some(remark),
+        Message::Progress(progress) => {
+            say(format_args!("{progress}"));
+            None
         }
-    }
-    summary
+    };
+    lines.filter_map(remark).collect()
 }
 
 /// A running finder, with the thread that stops it and the one that reads its standard error.
 pub struct Finder {
     answer: Sender<()>,
     keeper: JoinHandle<()>,
-    reader: Option<JoinHandle<String>>,
+    reader: Option<JoinHandle<Vec<Remark>>>,
 }
 
 impl Finder {
@@ -126,7 +130,7 @@ impl Finder {
     pub fn start(command: &mut Command, limit: Limit) -> io::Result<Finder> {
         let mut finder = command.spawn()?;
         let reading =
-            finder.stderr.take().map(|said| Builder::new().spawn(|| forward_messages(said)));
+            finder.stderr.take().map(|pipe| Builder::new().spawn(|| forward_messages(pipe)));
         let reader = reading.transpose()?;
         let has_reader = reader.is_some();
         let (answer, answered) = channel();
@@ -136,9 +140,9 @@ impl Finder {
     }
 
     /// Ends it, since the answer is there. Returns what it said about the history.
-    pub fn end(self) -> String {
+    pub fn end(self) -> Vec<Remark> {
         drop(self.answer);
         let _ = self.keeper.join();
-        self.reader.and_then(|it| it.join().ok()).unwrap_or_default()
+        self.reader.and_then(|reader| reader.join().ok()).unwrap_or_default()
     }
 }

@@ -4,21 +4,23 @@
 
 use crate::answer::{Answer, answer_of};
 use crate::command_line::{Find, Judge};
-use crate::find::{bytes_of, read_with, require_returned, summary_of};
+use crate::find::{bytes_of, read_with, remarks_on, require_returned};
 use crate::finder_process::{Finder, finder};
 use crate::import::names_in;
 use crate::limit::Limit;
+use crate::message::Remark;
 use crate::program::{output, output_failed, path_for_both, put_out, say, start, verifier};
 use crate::status::Status;
 use crate::system::ignore_sigterm;
 use crate::terminal::copy_shortened;
 use ::import::{Names, with_names};
-use finder::{OF_A_YES, SILENT_PUTS, count_returned, read_history, read_history_from};
-use pages::{Asked, Fault, Verdict, fault_lines};
+use finder::{count_returned, read_history, read_history_from};
+use pages::fault_lines;
 use std::fmt::Write as _;
 use std::fs::{self, File};
 use std::io::{self, IsTerminal, Read, Write};
 use std::process::{Command, Stdio};
+use verdict::{Asked, Fault, Verdict};
 
 /// How the lines of an answer are printed.
 struct Lines<'a> {
@@ -32,12 +34,12 @@ impl Lines<'_> {
     /// Writes an answer to standard output.
     fn write(&self, answer: &str) -> io::Result<()> {
         let named = self.names.map(|names| with_names(names, answer));
-        let lines = named.as_deref().unwrap_or(answer).as_bytes();
+        let lines = named.as_deref().unwrap_or(answer);
         let mut out = output()?;
         if self.is_shortened {
             copy_shortened(lines, &mut out)?;
         } else {
-            out.write_all(lines)?;
+            out.write_all(lines.as_bytes())?;
         }
         out.flush()
     }
@@ -47,7 +49,7 @@ impl Lines<'_> {
 #[derive(Debug)]
 struct Judgement {
     answer: Answer,
-    summary: String,
+    remarks: Vec<Remark>,
 }
 
 /// Runs the two programs, the finder's output being the verifier's input. SIGTERM stops the finder
@@ -69,28 +71,22 @@ fn run(
         say(format_args!("the finder cannot be started, so there is no evidence: {error}"));
     }
     let answer = answer_of(&mut verifier, Asked::Verify);
-    let summary = finder.map(Finder::end).unwrap_or_default();
-    Ok(Judgement { answer: answer?, summary })
+    let remarks = finder.map(Finder::end).unwrap_or_default();
+    Ok(Judgement { answer: answer?, remarks })
 }
 
-/// Whether a warning is printed. That no race can show matters only with a yes; puts without
-/// replies only without one, since a correct store may then get a no.
-fn warns(warning: &str, is_yes: bool) -> bool {
-    !warning.contains(if is_yes { SILENT_PUTS } else { OF_A_YES })
-}
-
-/// Prints the summary of a history, if it is asked for, and what is suspicious in it in any case.
-/// On a terminal it prints the summary too.
-fn summarize(summary: &str, is_yes: bool, is_printed: bool) -> Result<(), Status> {
-    let lines = || summary.lines().filter_map(|line| line.strip_prefix("; "));
+/// Prints the remarks on a history, if a summary is asked for, and the warnings that matter in any
+/// case. On a terminal it prints how much the operations overlap too.
+fn summarize(remarks: &[Remark], is_yes: bool, is_printed: bool) -> Result<(), Status> {
     if is_printed {
-        return put_out(&lines().map(|line| format!("; {line}\n")).collect::<String>());
+        return put_out(&remarks.iter().map(|remark| format!("; {remark}\n")).collect::<String>());
     }
-    let is_shown = io::stderr().is_terminal();
-    let is_printed_now = |line: &&str| {
-        if line.starts_with("warning: ") { warns(line, is_yes) } else { is_shown }
+    let is_on_terminal = io::stderr().is_terminal();
+    let is_shown = |remark: &&Remark| match remark {
+        Remark::Overlap(_) => is_on_terminal,
+        Remark::Warning(warning) => warning.kind.matters(is_yes),
     };
-    lines().filter(is_printed_now).for_each(|line| say(format_args!("{line}")));
+    remarks.iter().filter(is_shown).for_each(|remark| say(format_args!("{remark}")));
     Ok(())
 }
 
@@ -104,7 +100,7 @@ fn options_of_import(text: &[u8]) -> Option<&'static str> {
     let imported = |(is_independent, has_owners, words)| {
         let options =
             ::import::Options { is_independent, has_owners, ..::import::Options::default() };
-        let made = ::import::import(text, &options).ok().filter(|it| !it.has_new_processes)?;
+        let made = ::import::import(text, &options).ok().filter(|made| !made.has_new_processes)?;
         read_history(made.text.as_bytes()).map(|_| (words, made.lacks_owners))
     };
     let judged: Vec<_> = [
@@ -116,12 +112,16 @@ fn options_of_import(text: &[u8]) -> Option<&'static str> {
     .into_iter()
     .filter_map(imported)
     .collect();
-    judged.iter().find(|(_, lacks_owners)| !lacks_owners).or(judged.first()).map(|it| it.0)
+    judged
+        .iter()
+        .find(|(_, lacks_owners)| !lacks_owners)
+        .or(judged.first())
+        .map(|(words, _)| *words)
 }
 
 /// A path as a word of a shell.
 fn quoted(path: &str) -> String {
-    let is_plain = |it: char| it.is_alphanumeric() || "/._-+=:,@%".contains(it);
+    let is_plain = |letter: char| letter.is_alphanumeric() || "/._-+=:,@%".contains(letter);
     if path.chars().all(is_plain) {
         path.to_owned()
     } else {
@@ -132,7 +132,7 @@ fn quoted(path: &str) -> String {
 /// Reads the beginning of a file or folder, and reports the cause if that fails, which the verifier
 /// does not. Pipes and other files are not read: what is read here would be missing there.
 fn try_to_read(history: &str) -> Result<(), Status> {
-    let is_other = fs::metadata(history).is_ok_and(|it| !it.is_file() && !it.is_dir());
+    let is_other = fs::metadata(history).is_ok_and(|file| !file.is_file() && !file.is_dir());
     if is_other {
         return Ok(());
     }
@@ -141,8 +141,7 @@ fn try_to_read(history: &str) -> Result<(), Status> {
 
 /// Says what to do if a search was out of steps.
 fn advise(verdict: &Verdict) {
-    let is_out_of_steps = |it: &(u32, pages::Answer)| it.1 == pages::Answer::OutOfSteps;
-    if matches!(verdict, Verdict::Judged(answers) if answers.iter().any(is_out_of_steps)) {
+    if verdict.has(verdict::Answer::OutOfSteps) {
         say(format_args!(
             "out of steps: --steps N lets the search take longer; distinct values and fewer :info operations help too"
         ));
@@ -184,22 +183,29 @@ fn require_enough(command: &Judge, history: &str, answer: &Answer) -> Result<(),
 
 /// What is to be said of a history. With `--strict` a yes needs it from this program's own
 /// reading, since a finder may die, or be another one that says nothing.
-fn summary_for(command: &Judge, history: &str, judgement: &Judgement) -> Result<String, Status> {
+fn remarks_for(
+    command: &Judge,
+    history: &str,
+    judgement: &Judgement,
+) -> Result<Vec<Remark>, Status> {
     if !(command.is_strict && judgement.answer.status == Status::YES) {
-        return Ok(judgement.summary.clone());
+        return Ok(judgement.remarks.clone());
     }
     let workers = command.find.workers;
     let read = read_with(history, |file| read_history_from(file, workers))?;
-    read.as_ref().map(summary_of).ok_or_else(|| {
+    read.as_ref().map(remarks_on).ok_or_else(|| {
         say(format_args!("cannot look for what --strict asks for"));
         Status::BROKEN
     })
 }
 
 /// Whether, with `--strict`, a warning is the reason that a yes is not printed.
-fn is_withheld(command: &Judge, summary: &str, status: Status) -> bool {
-    let is_warning = |line: &str| line.starts_with("; warning: ") && warns(line, true);
-    command.is_strict && status == Status::YES && summary.lines().any(is_warning)
+fn is_withheld(command: &Judge, remarks: &[Remark], status: Status) -> bool {
+    let is_reason = |remark: &Remark| match remark {
+        Remark::Overlap(_) => false,
+        Remark::Warning(warning) => warning.kind.matters(true),
+    };
+    command.is_strict && status == Status::YES && remarks.iter().any(is_reason)
 }
 
 /// Judges, and returns the status of the verifier, or that of what went wrong.
@@ -211,16 +217,16 @@ fn try_judge(command: &Judge) -> Result<Status, Status> {
     let find = Find { history, ..command.find.clone() };
     let verifier = verifier(&find.history, find.steps, find.workers);
     let judgement = run(verifier, finder(&find), limit)?;
-    let summary = summary_for(command, &find.history, &judgement)?;
+    let remarks = remarks_for(command, &find.history, &judgement)?;
     let Answer { status, verdict, lines } = &judgement.answer;
     let are_enough = require_enough(command, &find.history, &judgement.answer);
-    let is_withheld = is_withheld(command, &summary, *status);
+    let is_withheld = is_withheld(command, &remarks, *status);
     let is_printed = are_enough.is_ok() && !is_withheld;
     if is_printed {
         let is_shortened = io::stdout().is_terminal() && !command.shows_all;
         Lines { names: names.as_ref(), is_shortened }.write(lines).map_err(output_failed)?;
     }
-    summarize(&summary, *status == Status::YES, find.summarizes && is_printed)?;
+    summarize(&remarks, *status == Status::YES, find.summarizes && is_printed)?;
     are_enough?;
     if is_withheld {
         say(format_args!("--strict: it is a yes, which is not printed, with a warning"));

@@ -1,5 +1,6 @@
-//! The time limit of the search for evidence, and its progress messages.
+//! The time limit of the search for evidence, and how far it is.
 
+use crate::message::{Message, Progress, Reader};
 use crate::program::note;
 use crate::system::{catch_sigterm, got_sigterm};
 use std::time::{Duration, Instant};
@@ -33,40 +34,39 @@ impl Limit {
     }
 }
 
-/// What is in each progress message of `find`.
-pub const PROGRESS: &str = "objects done: ";
-
-/// Prints how far `find` is, after 2, 4, 8 seconds, and so on.
-pub struct Progress {
+/// Tells how far `find` is, after 2, 4, 8 seconds, and so on.
+pub struct ProgressTeller {
     limit: Limit,
+    reader: Reader,
     all: usize,
-    /// When it is printed next, if it is printed.
+    /// When it is told next, if it is told.
     next: Option<Duration>,
 }
 
-impl Progress {
-    /// The progress of a search of `all` objects.
-    pub fn new(limit: Limit, all: usize, is_printed: bool) -> Progress {
-        Progress { limit, all, next: is_printed.then_some(Duration::from_secs(2)) }
+impl ProgressTeller {
+    /// Of a search of `all` objects.
+    pub fn new(limit: Limit, reader: Reader, all: usize, is_told: bool) -> ProgressTeller {
+        ProgressTeller { limit, reader, all, next: is_told.then_some(Duration::from_secs(2)) }
     }
 
-    fn tell(&self, before: &str, done: usize) {
+    fn tell(&self, done: usize, is_stopped: bool) {
         let (all, seconds) = (self.all, self.limit.elapsed().as_secs());
-        note(format_args!("; {before}{PROGRESS}{done} of {all}, after {seconds} s"));
+        let message = Message::Progress(Progress { done, all, seconds, is_stopped });
+        note(format_args!("{}", message.line_for(self.reader)));
     }
 
-    /// Prints how many objects are done, if it is time for that.
+    /// Tells how many objects are done, if it is time for that.
     pub fn tell_in_time(&mut self, done: usize) {
         if let Some(next) = self.next.filter(|next| self.limit.elapsed() >= *next) {
-            self.tell("", done);
+            self.tell(done, false);
             self.next = Some(next * 2);
         }
     }
 
-    /// Prints how many objects were done, if these are not all.
+    /// Tells how many objects were done, if these are not all.
     pub fn tell_at_the_end(&self, done: usize) {
         if done < self.all {
-            self.tell("stopped, ", done);
+            self.tell(done, true);
         }
     }
 }

@@ -16,6 +16,7 @@ mod finder_process;
 mod import;
 mod judge;
 mod limit;
+mod message;
 mod names_file;
 mod program;
 mod status;

@@ -1,18 +1,14 @@
 //! Shortens an answer for a terminal: shows the first operations of a long part, and the beginning
 //! of a long reason, and says how much is left out.
 
-use std::io::{self, BufRead, Write};
+use std::io::{self, Write};
+use verdict::Line;
 
 /// How many operations of an object are shown.
 const MOST_OPERATIONS: usize = 200;
 
 /// How many bytes of a line are shown.
 const LONGEST_LINE: usize = 2_000;
-
-/// Whether a line is that of an operation of a part.
-fn is_operation(line: &[u8]) -> bool {
-    line.starts_with(b"; event ") || line.starts_with(b"; events ")
-}
 
 /// Says how many operations were left out, if there were some.
 fn say_left_out(count: usize, out: &mut impl Write) -> io::Result<()> {
@@ -24,29 +20,28 @@ fn say_left_out(count: usize, out: &mut impl Write) -> io::Result<()> {
 }
 
 /// Copies a line, or its beginning if it is a reason that is too long.
-fn copy_line(line: &[u8], out: &mut impl Write) -> io::Result<()> {
-    if !line.starts_with(b"; {") || line.len() <= LONGEST_LINE {
-        return out.write_all(line);
+fn copy_line(line: &str, is_reason: bool, out: &mut impl Write) -> io::Result<()> {
+    if !is_reason || line.len() < LONGEST_LINE {
+        return writeln!(out, "{line}");
     }
     // A reason has characters of ASCII alone.
-    out.write_all(&line[..LONGEST_LINE])?;
-    writeln!(out, " ..\n; the reason has {} characters: --all shows them", line.len() - 1)
+    out.write_all(&line.as_bytes()[..LONGEST_LINE])?;
+    writeln!(out, " ..\n; the reason has {} characters: --all shows them", line.len())
 }
 
 /// Copies the lines of an answer, without the operations of an object that are too many.
-pub fn copy_shortened(lines: impl BufRead, mut out: impl Write) -> io::Result<()> {
+pub fn copy_shortened(lines: &str, mut out: impl Write) -> io::Result<()> {
     let mut count = 0;
-    for line in lines.split(b'\n') {
-        let mut line = line?;
-        line.push(b'\n');
-        if is_operation(&line) {
+    for line in lines.split_terminator('\n') {
+        let read = Line::read(line);
+        if matches!(read, Some(Line::Operation(_))) {
             count += 1;
         } else {
             say_left_out(count, &mut out)?;
             count = 0;
         }
         if count <= MOST_OPERATIONS {
-            copy_line(&line, &mut out)?;
+            copy_line(line, matches!(read, Some(Line::Reason(_))), &mut out)?;
         }
     }
     say_left_out(count, &mut out)?;
@@ -59,12 +54,13 @@ mod tests {
 
     fn shortened(text: &str) -> String {
         let mut out = Vec::new();
-        copy_shortened(text.as_bytes(), &mut out).expect("a vector takes all");
+        copy_shortened(text, &mut out).expect("a vector takes all");
         String::from_utf8(out).expect("a text")
     }
 
     fn part(count: usize) -> String {
-        (0..count).map(|number| format!("; event {number}: pending\n")).collect()
+        let line = |number| format!("; event {number}: process 0, :dequeue nil, pending\n");
+        (0..count).map(line).collect()
     }
 
     #[test]
@@ -87,11 +83,10 @@ mod tests {
 
     #[test]
     fn of_a_large_part_the_first_operations_are_shown() {
-        let text = format!("; a\n{}; b\n; events 1 and 2: x\n", part(203));
-        let wanted = format!(
-            "; a\n{}; 3 more operations: --all shows them\n; b\n; events 1 and 2: x\n",
-            part(200)
-        );
+        let last = "; events 1 and 2: process 0, :enqueue 1, :ok 1";
+        let text = format!("; a\n{}; b\n{last}\n", part(203));
+        let wanted =
+            format!("; a\n{}; 3 more operations: --all shows them\n; b\n{last}\n", part(200));
         assert_eq!(shortened(&text), wanted);
         let wanted = format!("{}; 1 more operation: --all shows it\n", part(200));
         assert_eq!(shortened(&part(201)), wanted);

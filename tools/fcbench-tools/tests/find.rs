@@ -56,6 +56,24 @@ fn a_wrong_command_line_is_status_64() {
     }
 }
 
+/// What `find` prints on standard error of an example with these options.
+fn messages(options: &[&str]) -> Vec<String> {
+    let output = run(&[&["find", &example("two_queues")], options].concat());
+    let text = String::from_utf8(output.stderr).expect("a text");
+    text.lines().map(str::to_owned).collect()
+}
+
+#[test]
+fn a_summary_is_in_words_and_for_judge_in_edn() {
+    let words = messages(&["--summary"]);
+    assert!(!words.is_empty() && words.iter().all(|line| line.starts_with("; ")), "{words:?}");
+    let lines = messages(&["--summary", "--for-judge"]);
+    let begin = "{:fcbench-find 1, ";
+    assert!(lines.iter().all(|line| line.starts_with(begin) && line.ends_with('}')), "{lines:?}");
+    assert_eq!(lines.len(), words.len());
+    assert!(messages(&["--for-judge"]).is_empty());
+}
+
 /// A file for one test, which is removed after it.
 struct TestFile(PathBuf);
 

@@ -51,8 +51,9 @@ pub use lexer::{Lexer, Token, TokenKind, ends_word};
 pub use places::{Places, PlacesFault};
 pub use reader::{LONGEST, count_returned, read_history, read_history_from};
 pub use reasons::{
-    Facts, FirstEvent, FirstOperation, FoundReason, Lost, LostValue, Pattern, Sentence, Shown,
-    Trial, Undone, WhyUndone,
+    Absent, CountExceeded, Crossing, Facts, FirstEvent, FirstOperation, FoundReason, Lost,
+    LostValue, NotHolder, OneValue, Pattern, Refused, Sentence, Shown, SurelyNotEmpty, Trial,
+    UnderSmaller, Undone, WhyUndone, WrongNumber, WrongPair,
 };
 pub use search::TryFirst;
-pub use statistics::{OF_A_YES, SILENT_PUTS, Statistics, warnings};
+pub use statistics::{Statistics, Warning, WarningKind, warnings};

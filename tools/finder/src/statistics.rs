@@ -31,12 +31,12 @@ fn end_of(operation: &Operation) -> u32 {
 impl Statistics {
     /// Those of operations that are in the order of their invocations. None of them failed.
     fn of_operations(all: &[&Operation]) -> Statistics {
-        let mut ends: Vec<u32> = all.iter().map(|it| end_of(it)).collect();
+        let mut ends: Vec<u32> = all.iter().map(|operation| end_of(operation)).collect();
         ends.sort_unstable();
         let (mut latest_end, mut over) = (0, 0);
         let mut statistics = Statistics {
             operations: all.len(),
-            pending: all.iter().filter(|it| it.is_pending()).count(),
+            pending: all.iter().filter(|operation| operation.is_pending()).count(),
             ..Statistics::default()
         };
         for (place, operation) in all.iter().enumerate() {
@@ -51,12 +51,12 @@ impl Statistics {
     }
 
     fn of_object(object: &ObjectHistory) -> Statistics {
-        let done = || object.ops.iter().filter(|it| !it.has_failed());
+        let done = || object.ops.iter().filter(|operation| !operation.has_failed());
         let mut keys = NumberTable::<i64, Vec<&Operation>>::default();
         for operation in done() {
             keys.entry(operation.op.key().unwrap_or(0)).or_default().push(operation);
         }
-        let all = keys.values().map(|it| Statistics::of_operations(it)).sum();
+        let all = keys.values().map(|on_key| Statistics::of_operations(on_key)).sum();
         Statistics { failed: object.ops.len() - done().count(), ..all }
     }
 
@@ -121,8 +121,8 @@ fn puts_tell_nothing(object: &ObjectHistory) -> bool {
 /// How many removals failed, and their function, if there are several and none returned.
 fn failed_removals(history: &History) -> Option<(usize, &'static str)> {
     let of = |f: &'static Function| {
-        let all = history.objects.iter().flat_map(|it| &it.ops);
-        all.filter(move |it| it.op.removes() && it.op.function == f)
+        let all = history.objects.iter().flat_map(|object| &object.ops);
+        all.filter(move |operation| operation.op.removes() && operation.op.function == f)
     };
     functions()
         .map(|f| (of(f).count(), of(f).all(Operation::has_failed), f.name))
@@ -145,12 +145,13 @@ fn first_value(object: &ObjectHistory) -> Option<i64> {
             }
         }
     }
-    let seen = |it: &Operation| match it.reply()? {
-        Reply::Value(value) if it.op.only_looks() => value,
+    let seen = |operation: &Operation| match operation.reply()? {
+        Reply::Value(value) if operation.op.only_looks() => value,
         Reply::Swapped(value, _) => Some(value),
         Reply::Value(_) | Reply::NotSwapped | Reply::Flag(_) => None,
     };
-    let all = object.ops.iter().filter_map(|it| Some((it.number, seen(it)?)));
+    let all = object.ops.iter();
+    let all = all.filter_map(|operation| Some((operation.number, seen(operation)?)));
     let mut strange = all.filter(|(_, value)| !put.contains(value));
     let (number, first) = strange.next()?;
     (number < first_set && strange.all(|(_, value)| value == first)).then_some(first)
@@ -159,23 +160,25 @@ fn first_value(object: &ObjectHistory) -> Option<i64> {
 /// The value with which some registers seem to begin, if it is the same for all of them, and the
 /// numbers of these registers.
 fn first_values(history: &History) -> Option<(i64, Vec<u32>)> {
-    let of = |it: &ObjectHistory| Some((first_value(it)?, it.object));
-    let all: Vec<(i64, u32)> = history.objects.iter().filter_map(of).collect();
+    let first = |object: &ObjectHistory| Some((first_value(object)?, object.object));
+    let all: Vec<(i64, u32)> = history.objects.iter().filter_map(first).collect();
     let (value, _) = *all.first()?;
-    let is_one = all.iter().all(|it| it.0 == value);
-    is_one.then(|| (value, all.into_iter().map(|it| it.1).collect()))
+    let is_one = all.iter().all(|(first, _)| *first == value);
+    is_one.then(|| (value, all.into_iter().map(|(_, object)| object).collect()))
 }
 
 /// The events of replies that are to be the argument, or its pair, and are not.
 fn strange_replies(history: &History) -> Vec<u32> {
-    let is_strange = |it: &Operation| match (it.op.function.reply, it.reply()) {
+    let is_strange = |operation: &Operation| match (operation.op.function.reply, operation.reply())
+    {
         (Shape::Done | Shape::Swapped, Some(reply)) => {
-            reply != Reply::NotSwapped && reply.value() != it.op.argument
+            reply != Reply::NotSwapped && reply.value() != operation.op.argument
         }
         _ => false,
     };
-    let all = history.objects.iter().flat_map(|it| &it.ops).filter(|it| is_strange(it));
-    let mut events: Vec<u32> = all.filter_map(Operation::returned).collect();
+    let all = history.objects.iter().flat_map(|object| &object.ops);
+    let strange = all.filter(|operation| is_strange(operation));
+    let mut events: Vec<u32> = strange.filter_map(Operation::returned).collect();
     events.sort_unstable();
     events
 }
@@ -189,63 +192,118 @@ fn named(word: &str, all: &[u32]) -> Option<String> {
     }
 }
 
-/// Words of warnings, by which `judge` knows them again: it prints those with the first only with a
-/// yes, and the one with the second only without one.
-pub const OF_A_YES: &str = " show in this history";
-pub const SILENT_PUTS: &str = "every :put replied nil";
+/// What a warning is about.
+#[derive(Clone, Copy, Debug, PartialEq, Eq)]
+pub enum WarningKind {
+    NoOperations,
+    FailedRemovals,
+    /// A race could not have led to a no, or hardly.
+    NoRace,
+    StrangeReplies,
+    /// Registers seem to begin with a value.
+    FirstValue,
+    /// The replies of puts were not recorded, so that a correct store may get a no.
+    SilentPuts,
+}
+
+impl WarningKind {
+    pub const ALL: [WarningKind; 6] = [
+        WarningKind::NoOperations,
+        WarningKind::FailedRemovals,
+        WarningKind::NoRace,
+        WarningKind::StrangeReplies,
+        WarningKind::FirstValue,
+        WarningKind::SilentPuts,
+    ];
+
+    /// Whether it matters with a yes, or else with another answer.
+    pub fn matters(self, is_yes: bool) -> bool {
+        match self {
+            WarningKind::NoRace => is_yes,
+            WarningKind::SilentPuts => !is_yes,
+            WarningKind::NoOperations | WarningKind::FailedRemovals => true,
+            WarningKind::StrangeReplies | WarningKind::FirstValue => true,
+        }
+    }
+}
+
+/// Something suspicious in a history: its kind, and words for it.
+#[derive(Clone, Debug, PartialEq, Eq)]
+pub struct Warning {
+    pub kind: WarningKind,
+    pub text: String,
+}
 
 /// Why a race could not have led to a no, or hardly.
 fn race_warning(history: &History, statistics: &Statistics) -> Option<String> {
     let Statistics { operations, overlapping, .. } = *statistics;
     if operations > 0 && !depends_on_order(history) {
-        Some(format!(
-            "no reply depends on the order of operations of different processes: a race cannot{OF_A_YES}"
-        ))
+        let what = "no reply depends on the order of operations of different processes";
+        Some(format!("{what}: a race cannot show in this history"))
     } else if !statistics.is_sequential() {
         None
     } else if overlapping == 0 {
-        Some(format!("no two operations overlap: a race cannot{OF_A_YES}"))
+        Some("no two operations overlap: a race cannot show in this history".to_owned())
     } else {
         Some(format!(
-            "only {overlapping} of {operations} operations overlap another one: a race can hardly{OF_A_YES}"
+            "only {overlapping} of {operations} operations overlap another one: a race can hardly show in this history"
         ))
     }
 }
 
-/// What is suspicious in a history, in words.
-pub fn warnings(history: &History) -> Vec<String> {
+/// The removals that failed, if none is judged.
+fn removal_warning(history: &History) -> Option<String> {
+    let (failed, f) = failed_removals(history)?;
+    Some(format!(
+        "all {failed} calls of :{f} failed, so none is judged. If they found nothing, record :ok with :value nil"
+    ))
+}
+
+/// The replies that are not the argument.
+fn reply_warning(history: &History) -> Option<String> {
+    let event = named("event", &strange_replies(history))?;
+    Some(format!(
+        "the reply of {event} is not its argument: the recorder is probably wrong, not the store"
+    ))
+}
+
+/// The registers that seem to begin with a value.
+fn first_warning(history: &History) -> Option<String> {
+    let (value, objects) = first_values(history)?;
+    let objects = named("object", &objects)?;
+    Some(format!(
+        "{objects}: value {value} was read first, and no operation writes it. If registers begin with {value}: fcbench import --initial {value}"
+    ))
+}
+
+/// The puts whose replies were not recorded.
+fn put_warning(history: &History) -> Option<String> {
+    let silent = history.objects.iter().filter(|object| puts_tell_nothing(object));
+    let objects = named("object", &silent.map(|object| object.object).collect::<Vec<u32>>())?;
+    Some(format!(
+        "{objects}: every :put replied nil, which means that the key had no value, even after an earlier put. If your store \
+         does not report the earlier value, record :assoc; for a put if absent, record :put-if-absent"
+    ))
+}
+
+/// The words of a warning of this kind, if there is reason for one.
+fn text_of(kind: WarningKind, history: &History, statistics: &Statistics) -> Option<String> {
+    match kind {
+        WarningKind::NoOperations => (statistics.operations == 0)
+            .then(|| "the history has no operations, so a yes means nothing".to_owned()),
+        WarningKind::FailedRemovals => removal_warning(history),
+        WarningKind::NoRace => race_warning(history, statistics),
+        WarningKind::StrangeReplies => reply_warning(history),
+        WarningKind::FirstValue => first_warning(history),
+        WarningKind::SilentPuts => put_warning(history),
+    }
+}
+
+/// What is suspicious in a history.
+pub fn warnings(history: &History) -> Vec<Warning> {
     let statistics = Statistics::of(history);
-    let mut all = Vec::new();
-    if statistics.operations == 0 {
-        all.push("the history has no operations, so a yes means nothing".to_owned());
-    }
-    if let Some((failed, f)) = failed_removals(history) {
-        all.push(format!(
-            "all {failed} calls of :{f} failed, so none is judged. If they found nothing, record :ok with :value nil"
-        ));
-    }
-    all.extend(race_warning(history, &statistics));
-    if let Some(event) = named("event", &strange_replies(history)) {
-        all.push(format!(
-            "the reply of {event} is not its argument: the recorder is probably wrong, not the store"
-        ));
-    }
-    if let Some((value, objects)) = first_values(history)
-        && let Some(objects) = named("object", &objects)
-    {
-        all.push(format!(
-            "{objects}: value {value} was read first, and no operation writes it. If registers begin with {value}: fcbench import --initial {value}"
-        ));
-    }
-    let silent = history.objects.iter().filter(|it| puts_tell_nothing(it));
-    let silent: Vec<u32> = silent.map(|it| it.object).collect();
-    if let Some(objects) = named("object", &silent) {
-        all.push(format!(
-            "{objects}: {SILENT_PUTS}, which means that the key had no value, even after an earlier put. If your store \
-             does not report the earlier value, record :assoc; for a put if absent, record :put-if-absent"
-        ));
-    }
-    all
+    let of_kind = |kind| Some(Warning { kind, text: text_of(kind, history, &statistics)? });
+    WarningKind::ALL.into_iter().filter_map(of_kind).collect()
 }
 
 #[cfg(test)]
@@ -259,7 +317,8 @@ mod tests {
     }
 
     fn warnings_of(text: &str) -> Vec<String> {
-        warnings(&read_history(text.as_bytes()).expect("a history"))
+        let history = read_history(text.as_bytes()).expect("a history");
+        warnings(&history).into_iter().map(|warning| warning.text).collect()
     }
 
     fn event(process: u32, kind: &str, call: &str, object: u32) -> String {
@@ -348,7 +407,9 @@ mod tests {
         let del =
             event(0, "invoke", ":f :del, :value 1", 0) + &event(0, "ok", ":f :del, :value 5", 0);
         let is_warned = |text: &str| {
-            warnings_of(text).iter().any(|it| it.starts_with("object 0: every :put replied nil"))
+            warnings_of(text)
+                .iter()
+                .any(|text| text.starts_with("object 0: every :put replied nil"))
         };
         assert!(is_warned(&(put(0, 5) + &put(1, 6))));
         assert!(!is_warned(&put(0, 5)));
@@ -367,7 +428,7 @@ mod tests {
     /// The one warning that has these words, or nothing.
     fn warned(text: &str, words: &str) -> String {
         let mut all = warnings_of(text);
-        all.retain(|it| it.contains(words));
+        all.retain(|warning| warning.contains(words));
         assert!(all.len() < 2, "{all:?}");
         all.concat()
     }
@@ -380,11 +441,14 @@ mod tests {
             |value: &str, object| answered(1, &format!(":f :write, :value {value}"), value, object);
         let cas =
             |pair: &str, reply: &str| answered(1, &format!(":f :cas, :value {pair}"), reply, 0);
-        let said = "object 0: value 0 was read first, and no operation writes it. If registers begin with 0: fcbench import --initial 0";
-        assert_eq!(begins(&read("0", 0)), said);
-        assert_eq!(begins(&(read("0", 0) + &write("1", 0) + &read("1", 0) + &read("0", 0))), said);
-        assert_eq!(begins(&cas("[0 1]", "[0 1]")), said);
-        assert_eq!(begins(&(cas("[5 6]", "false") + &read("0", 0))), said);
+        let wanted = "object 0: value 0 was read first, and no operation writes it. If registers begin with 0: fcbench import --initial 0";
+        assert_eq!(begins(&read("0", 0)), wanted);
+        assert_eq!(
+            begins(&(read("0", 0) + &write("1", 0) + &read("1", 0) + &read("0", 0))),
+            wanted
+        );
+        assert_eq!(begins(&cas("[0 1]", "[0 1]")), wanted);
+        assert_eq!(begins(&(cas("[5 6]", "false") + &read("0", 0))), wanted);
         let several = read("-1", 2) + &read("-1", 3) + &write("4", 5) + &read("-1", 7);
         assert!(begins(&several).starts_with("object 2 and 2 more: value -1 was read first"));
         for text in [
@@ -417,7 +481,8 @@ mod tests {
 
     #[test]
     fn nothing_is_judged() {
-        let warned = |text: &str, what| warnings_of(text).iter().any(|it| it.starts_with(what));
+        let warned =
+            |text: &str, what| warnings_of(text).iter().any(|warning| warning.starts_with(what));
         assert!(warned("{:process :nemesis}", "the history has no operations"));
         let failed = event(1, "invoke", ":f :dequeue, :value nil", 0)
             + &event(1, "fail", ":f :dequeue, :value nil", 0);
@@ -425,9 +490,9 @@ mod tests {
         let what = "all 2 calls of :dequeue failed";
         assert!(warned(&(put.clone() + &failed + &failed), what));
         assert!(!warned(&(put.clone() + &failed), what));
-        let found = event(1, "invoke", ":f :dequeue, :value nil", 0)
+        let returned = event(1, "invoke", ":f :dequeue, :value nil", 0)
             + &event(1, "ok", ":f :dequeue, :value 1", 0);
-        assert!(!warned(&(put + &failed + &found), what));
+        assert!(!warned(&(put + &failed + &returned), what));
     }
 
     #[test]
@@ -438,7 +503,7 @@ mod tests {
         };
         let text: String = (3..8).map(|object| put(object, 5) + &put(object, 6)).collect();
         let about_puts: Vec<_> =
-            warnings_of(&text).into_iter().filter(|it| it.contains(":put")).collect();
+            warnings_of(&text).into_iter().filter(|warning| warning.contains(":put")).collect();
         assert_eq!(about_puts.len(), 1);
         assert!(about_puts[0].starts_with("object 3 and 4 more: every :put replied nil"));
     }

@@ -1,6 +1,6 @@
 //! The lines of evidence, and what is decided of small histories.
 
-use finder::{Count, Counted, Cut, Decision, Evidence, FoundReason, Options, Pattern};
+use finder::{Count, Counted, Cut, Decision, Evidence, FoundReason, OneValue, Options, Pattern};
 use finder::{Sentence, Shown, Values, decide, part_by, read_history};
 use std::collections::BTreeSet;
 
@@ -155,7 +155,7 @@ fn each_count_has_its_form() {
 
 #[test]
 fn a_sentence_names_the_key() {
-    let pattern = Pattern::TakenTooOften { value: 8, taken: 3, set: 1 };
+    let pattern = Pattern::OneValue(OneValue::TakenTooOften { value: 8, taken: 3, set: 1 });
     let sentence = Sentence::of_pattern(finder::kind("map").expect("a kind"), Some(2), pattern);
     let text = "key 2: value 8 was replaced or removed 3 times and by then put once";
     assert_eq!(sentence.to_string(), text);

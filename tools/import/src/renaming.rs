@@ -5,26 +5,27 @@ use crate::form::Form;
 use crate::names::Names;
 use finder::setting;
 use std::collections::{BTreeMap, HashMap};
+use verdict::{Line, OperationLine, Which};
 
 /// The text, in which each integer is what this gives of it. The sign belongs to an integer that
 /// follows no letter or digit.
 fn with_numbers(text: &str, mut named: impl FnMut(i64) -> Option<String>) -> String {
-    let (mut said, mut rest) = (String::new(), text);
-    while let Some(place) = rest.find(|it: char| it.is_ascii_digit()) {
+    let (mut renamed, mut rest) = (String::new(), text);
+    while let Some(place) = rest.find(|letter: char| letter.is_ascii_digit()) {
         let has_sign = rest[..place].ends_with('-')
-            && !rest[..place - 1].ends_with(|it: char| it.is_ascii_alphanumeric());
+            && !rest[..place - 1].ends_with(|letter: char| letter.is_ascii_alphanumeric());
         let begin = place - usize::from(has_sign);
         let end = rest[place..]
-            .find(|it: char| !it.is_ascii_digit())
+            .find(|letter: char| !letter.is_ascii_digit())
             .map_or(rest.len(), |length| place + length);
-        said.push_str(&rest[..begin]);
+        renamed.push_str(&rest[..begin]);
         let number = &rest[begin..end];
-        said.push_str(
+        renamed.push_str(
             &number.parse().ok().and_then(&mut named).unwrap_or_else(|| number.to_owned()),
         );
         rest = &rest[end..];
     }
-    said + rest
+    renamed + rest
 }
 
 fn name(names: &BTreeMap<i64, Form>, number: i64) -> Option<String> {
@@ -39,15 +40,16 @@ fn split_list(text: &str) -> (&str, &str) {
         let separator = if end == 0 {
             Some("")
         } else {
-            [", ", " and "].into_iter().find(|it| rest.starts_with(it))
+            [", ", " and "].into_iter().find(|separator| rest.starts_with(separator))
         };
         let Some(separator) = separator else {
             return text.split_at(end);
         };
         let digits = &rest[separator.len()..];
         let sign = usize::from(digits.starts_with('-'));
-        let length =
-            digits[sign..].find(|it: char| !it.is_ascii_digit()).unwrap_or(digits.len() - sign);
+        let length = digits[sign..]
+            .find(|letter: char| !letter.is_ascii_digit())
+            .unwrap_or(digits.len() - sign);
         if length == 0 {
             return text.split_at(end);
         }
@@ -71,36 +73,41 @@ const WORDS: [&str; 10] =
 
 /// A sentence whose numbers have names, where a word before them says what they are.
 fn sentence(names: &Names, text: &str) -> String {
-    let mut said = String::new();
+    let mut renamed = String::new();
     let mut rest = text;
-    if let Some((number, after)) = rest.strip_prefix("object ").and_then(|it| it.split_once(':')) {
-        said.push_str(&format!("object {number}"));
+    if let Some((number, after)) =
+        rest.strip_prefix("object ").and_then(|text| text.split_once(':'))
+    {
+        renamed.push_str(&format!("object {number}"));
         if let Some(key) = number.parse().ok().and_then(|number| name(&names.objects, number)) {
-            said.push_str(&format!(", which is {key}"));
+            renamed.push_str(&format!(", which is {key}"));
         }
-        said.push(':');
+        renamed.push(':');
         rest = after;
     }
     while let Some(space) = rest.find(' ') {
         let (before, after) = rest.split_at(space + 1);
-        said.push_str(before);
+        renamed.push_str(before);
         rest = after;
-        let word =
-            before.trim_end().rsplit(|it: char| !it.is_ascii_alphabetic()).next().unwrap_or("");
+        let word = before
+            .trim_end()
+            .rsplit(|letter: char| !letter.is_ascii_alphabetic())
+            .next()
+            .unwrap_or("");
         if WORDS.contains(&word) {
             let (list, after) = split_list(rest);
-            said.push_str(&named_after(names, word, list));
+            renamed.push_str(&named_after(names, word, list));
             rest = after;
         }
     }
-    said + rest
+    renamed + rest
 }
 
 /// The numbers that stand for any other value in the part that a reason names, and the words for
 /// them.
 fn others_of(reason: &str) -> HashMap<i64, &'static str> {
     let cuts = Reader::new(reason).form().ok().flatten();
-    let Some(Form::Vector(cuts)) = cuts.as_ref().and_then(|it| it.get("cuts")) else {
+    let Some(Form::Vector(cuts)) = cuts.as_ref().and_then(|reason| reason.get("cuts")) else {
         return HashMap::new();
     };
     let other = |cut: &Form| {
@@ -122,41 +129,35 @@ fn counted(names: &Names, others: &HashMap<i64, &str>, text: &str) -> String {
     let set = setting().name;
     let written = call
         .strip_prefix(&format!(":{set} "))
-        .and_then(|it| it.split(',').next())
-        .and_then(|it| it.parse().ok());
+        .and_then(|call| call.split(',').next())
+        .and_then(|number| number.parse().ok());
     if let Some(words) = written.and_then(|number: i64| others.get(&number)) {
         return format!("a {set} of {words}{end}");
     }
-    let said = with_numbers(call, |number| match others.get(&number) {
+    let renamed = with_numbers(call, |number| match others.get(&number) {
         Some(_) => Some("other".to_owned()),
         None => name(&names.values, number),
     });
-    said + end
+    renamed + end
 }
 
-/// The line of an operation, as `events 4 and 9: process 2, :dequeue nil, :ok 7`, if it is one.
-fn operation(names: &Names, others: &HashMap<i64, &str>, text: &str) -> Option<String> {
-    let (word, rest) =
-        text.split_once(' ').filter(|(word, _)| ["event", "events"].contains(word))?;
-    let (numbers, rest) = rest.split_once(": process ")?;
-    let (process, call) = rest.split_once(", ")?;
-    let first: u32 = numbers.split(' ').next()?.parse().ok()?;
-    let (call, counts) = call
-        .split_once(", counted as ")
-        .map_or((call, None), |(call, counts)| (call, Some(counts)));
-    let mut words = with_numbers(call, |number| name(&names.values, number));
-    if let Some(counts) = counts {
-        words.push_str(&format!(", counted as {}", counted(names, others, counts)));
+/// The line of an operation.
+fn operation(names: &Names, others: &HashMap<i64, &str>, line: &OperationLine) -> String {
+    let mut words = with_numbers(line.call, |number| name(&names.values, number));
+    if let Some(text) = line.counted {
+        words.push_str(&format!(", counted as {}", counted(names, others, text)));
     }
-    if first < names.before {
-        return Some(format!("the initial value: {words}"));
+    if line.first < names.before {
+        return format!("the initial value: {words}");
     }
-    let process = process
+    let process = line
+        .process
         .parse()
         .ok()
         .and_then(|number| name(&names.processes, number))
-        .unwrap_or_else(|| process.to_owned());
-    Some(format!("{word} {}: process {process}, {words}", named_after(names, word, numbers)))
+        .unwrap_or_else(|| line.process.to_owned());
+    let numbers = named_after(names, line.word, line.numbers);
+    format!("{} {numbers}: process {process}, {words}", line.word)
 }
 
 impl Names {
@@ -187,18 +188,22 @@ pub fn with_names(names: &Names, answer: &str) -> String {
     let mut others = HashMap::new();
     let mut lines: Vec<String> = Vec::new();
     for line in answer.lines().rev() {
-        let Some(text) = line.strip_prefix("; ") else {
-            let is_of_history = line.starts_with("malformed history: ");
-            lines.push(if is_of_history { sentence(names, line) } else { line.to_owned() });
-            continue;
-        };
-        if text.starts_with('{') {
-            others = others_of(text);
-            lines.push(line.to_owned());
-            continue;
-        }
-        let said = operation(names, &others, text).unwrap_or_else(|| sentence(names, text));
-        lines.push(format!("; {said}"));
+        lines.push(match Line::read(line) {
+            Some(Line::Operation(of)) => format!("; {}", operation(names, &others, &of)),
+            Some(Line::Sentence(text)) => format!("; {}", sentence(names, text)),
+            Some(Line::Object { text, .. }) => format!("; {}", sentence(names, text)),
+            Some(Line::Malformed(fault)) if fault.which() == Which::History => {
+                sentence(names, line)
+            }
+            Some(Line::Reason(reason)) => {
+                others = others_of(reason);
+                line.to_owned()
+            }
+            Some(Line::Yes { .. } | Line::Kind | Line::No(_) | Line::Malformed(_)) => {
+                line.to_owned()
+            }
+            Some(Line::MalformedEvidence | Line::NoMemory) | None => line.to_owned(),
+        });
     }
     lines.reverse();
     lines.iter().map(|line| format!("{line}\n")).collect()

@@ -7,10 +7,10 @@ use crate::elements::{elements_in, value_in};
 use crate::figures::count_text;
 use crate::page::{ObjectRow, Page, PageKind, html_of};
 use crate::timeline::{ObjectDrawing, Span, Spans, spans};
-use crate::verdict::{self, OrderFault, Refusal};
 use crate::words::Words;
 use finder::{Cut, Decision, End, Evidence, History, ObjectHistory, Pattern, Sentence, part_by};
 use std::borrow::Cow;
+use verdict::{Answer, Refusal};
 
 /// The most operations that a page of several objects draws. With the longest numbers and values
 /// one takes some 2,200 bytes, so such a page has less than a megabyte.
@@ -186,66 +186,28 @@ fn open_sentence(object: u32, answer: &'static str) -> Spans {
     ]
 }
 
-impl Refusal {
-    fn code(&self) -> &'static str {
-        match self {
-            Refusal::NoCertificate { .. } => "C1",
-            Refusal::StrangeObject { .. } => "C2",
-            Refusal::BadOrder { fault, .. } => match fault {
-                OrderFault::UnknownOperation { .. } => "C3",
-                OrderFault::Repeated { .. } => "C4",
-                OrderFault::TooLate { .. } => "C5",
-                OrderFault::WrongReply { .. } => "C6",
-                OrderFault::Omitted { .. } => "C7",
-                OrderFault::NotPossible { .. } => "C9",
-            },
-        }
-    }
-
-    fn object(&self) -> u32 {
-        match *self {
-            Refusal::NoCertificate { object }
-            | Refusal::StrangeObject { object }
-            | Refusal::BadOrder { object, .. } => object,
-        }
-    }
-
-    /// The row of an object. Those before the refused one were accepted, and those after it were
-    /// not looked at.
-    fn row(&self, object: &ObjectHistory) -> ObjectRow {
-        let are_all_valid = matches!(self, Refusal::StrangeObject { .. });
-        if are_all_valid || object.object < self.object() {
-            row_of(object, "valid", false)
-        } else if object.object == self.object() {
-            row_of(object, self.code(), true)
-        } else {
-            row_of(object, "not looked at", false)
-        }
-    }
-
-    /// The drawing of an object of the history.
-    fn drawing(&self, subject: &Subject, orders: &[Order]) -> ObjectDrawing {
-        let number = subject.object.object;
-        match (self, order_of(orders, number)) {
-            (Refusal::BadOrder { object, fault }, Some(order)) if *object == number => {
-                draw_refused(subject, order, *fault)
-            }
-            (Refusal::NoCertificate { object }, _) if *object == number => {
-                draw_uncertified(subject)
-            }
-            _ => draw_valid(subject, None),
-        }
+/// The row of an object. Those before the refused one were accepted, and those after it were
+/// not looked at.
+fn refused_row(refusal: &Refusal, object: &ObjectHistory) -> ObjectRow {
+    let are_all_valid = matches!(refusal, Refusal::StrangeObject { .. });
+    if are_all_valid || object.object < refusal.object() {
+        row_of(object, "valid", false)
+    } else if object.object == refusal.object() {
+        row_of(object, refusal.code(), true)
+    } else {
+        row_of(object, "not looked at", false)
     }
 }
 
-impl verdict::Answer {
-    fn word(self) -> &'static str {
-        match self {
-            verdict::Answer::Impossible => "impossible",
-            verdict::Answer::OutOfSteps => "out of steps",
-            verdict::Answer::OutOfMemory => "out of memory",
-            verdict::Answer::Open => "open",
+/// The drawing of an object of the history.
+fn refused_drawing(refusal: &Refusal, subject: &Subject, orders: &[Order]) -> ObjectDrawing {
+    let number = subject.object.object;
+    match (refusal, order_of(orders, number)) {
+        (Refusal::BadOrder { object, fault }, Some(order)) if *object == number => {
+            draw_refused(subject, order, *fault)
         }
+        (Refusal::NoCertificate { object }, _) if *object == number => draw_uncertified(subject),
+        _ => draw_valid(subject, None),
     }
 }
 
@@ -359,7 +321,8 @@ impl<'a> Drawn<'a> {
     fn refused_page(&self, orders: &[Order], refusal: &Refusal) -> String {
         let shown = self.options.object.unwrap_or(refusal.object());
         let object = self.object(shown);
-        let drawing = object.map(|object| refusal.drawing(&self.subject(object, true), orders));
+        let drawing =
+            object.map(|object| refused_drawing(refusal, &self.subject(object, true), orders));
         let answer = match refusal {
             Refusal::NoCertificate { .. } => PageKind::NoOrder,
             _ => PageKind::No,
@@ -367,7 +330,7 @@ impl<'a> Drawn<'a> {
         self.page(Parts {
             answer,
             word: format!("no {}", refusal.code()),
-            rows: self.history.objects.iter().map(|object| refusal.row(object)).collect(),
+            rows: self.history.objects.iter().map(|object| refused_row(refusal, object)).collect(),
             drawings: drawing.into_iter().collect(),
             sentences: vec![match refusal {
                 Refusal::StrangeObject { object } => strange_sentence(*object),
@@ -381,15 +344,15 @@ impl<'a> Drawn<'a> {
     fn decided_drawing(
         &self,
         object: &'a ObjectHistory,
-        answer: Option<verdict::Answer>,
+        answer: Option<Answer>,
         decision: Option<&Decision>,
     ) -> ObjectDrawing {
         let subject = self.subject(object, true);
         match (answer, decision.map(|decision| &decision.evidence)) {
-            (Some(verdict::Answer::Impossible), Some(Evidence::Reason(reason))) => {
+            (Some(Answer::Impossible), Some(Evidence::Reason(reason))) => {
                 draw_impossible(&subject, &part_of(object, &reason.cuts, &reason.sentence))
             }
-            (Some(verdict::Answer::Impossible), _) => {
+            (Some(Answer::Impossible), _) => {
                 let sentence = Sentence::of_pattern(object.kind, None, Pattern::General);
                 draw_impossible(&subject, &part_of(object, &[], &sentence))
             }
@@ -401,16 +364,15 @@ impl<'a> Drawn<'a> {
         }
     }
 
-    fn open_page(&self, answers: &[(u32, verdict::Answer)], decisions: &[Decision]) -> String {
-        let is_impossible =
-            |(_, answer): &&(u32, verdict::Answer)| *answer == verdict::Answer::Impossible;
+    fn open_page(&self, answers: &[(u32, Answer)], decisions: &[Decision]) -> String {
+        let is_impossible = |(_, answer): &&(u32, Answer)| *answer == Answer::Impossible;
         let (faulty, worst) =
             *answers.iter().find(is_impossible).or(answers.first()).expect("some answer");
         let answer_of = |number| {
             answers.iter().find(|(object, _)| *object == number).map(|(_, answer)| *answer)
         };
         let row = |object: &ObjectHistory| {
-            let answer = answer_of(object.object).map_or("valid", verdict::Answer::word);
+            let answer = answer_of(object.object).map_or("valid", Answer::word);
             row_of(object, answer, object.object == faulty)
         };
         let shown = self.options.object.unwrap_or(faulty);
@@ -419,7 +381,7 @@ impl<'a> Drawn<'a> {
             .object(shown)
             .map(|object| self.decided_drawing(object, answer_of(shown), decision));
         let (answer, word, sentences) = match worst {
-            verdict::Answer::Impossible => (PageKind::Impossible, "impossible", Vec::new()),
+            Answer::Impossible => (PageKind::Impossible, "impossible", Vec::new()),
             _ if shown == faulty => (PageKind::Open, "open", Vec::new()),
             answer => (PageKind::Open, "open", vec![open_sentence(faulty, answer.word())]),
         };
@@ -434,11 +396,7 @@ impl<'a> Drawn<'a> {
 
     /// The page of a history that was judged, with what the finder found of each object. Of the
     /// objects that are in no answer the orders are valid.
-    pub fn judged_page(
-        &self,
-        decisions: &[Decision],
-        answers: &[(u32, verdict::Answer)],
-    ) -> String {
+    pub fn judged_page(&self, decisions: &[Decision], answers: &[(u32, Answer)]) -> String {
         if answers.is_empty() {
             let orders: Vec<Order> = decisions.iter().filter_map(found_order).collect();
             self.valid_page(&orders)

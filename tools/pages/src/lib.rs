@@ -11,14 +11,9 @@ mod figures;
 mod judged_page;
 mod page;
 mod timeline;
-mod verdict;
 mod words;
 
 pub use asides::Asides;
 pub use faults::{fault_lines, malformed_page, memory_page};
 pub use judged_page::{Drawn, Options, Order, orders_in};
-pub use verdict::{
-    Answer, Asked, Fault, FormFaultKind, MapFaultKind, OrderFault, Refusal, TextFaultKind, Verdict,
-    Which,
-};
 pub use words::Words;

@@ -1,8 +1,9 @@
 //! The pages of examples/pages are those that the program draws.
 
 use finder::{Options, decide, read_history};
-use pages::{Answer, Drawn, Verdict, malformed_page, orders_in};
+use pages::{Drawn, malformed_page, orders_in};
 use std::fs;
+use verdict::{Answer, Verdict};
 
 const EXAMPLES: &str = concat!(env!("CARGO_MANIFEST_DIR"), "/../../examples");
 

@@ -1,6 +1,7 @@
 //! The places of malformed texts.
 
-use pages::{Verdict, malformed_page, memory_page};
+use pages::{malformed_page, memory_page};
+use verdict::Verdict;
 
 /// The page of a text of which this is said.
 fn page(text: &str, lines: &str) -> String {

@@ -2,7 +2,8 @@
 //! they were done, or nothing.
 
 use finder::{Options, decide, read_history};
-use pages::{Answer, Drawn, Verdict, orders_in};
+use pages::{Drawn, orders_in};
+use verdict::{Answer, Verdict};
 
 /// The maps of calls of one process, one after another.
 fn text_of(calls: &[&str]) -> String {

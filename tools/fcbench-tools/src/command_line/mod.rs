@@ -3,6 +3,7 @@
 mod syntax;
 mod words;
 
+use crate::message::Reader;
 use std::num::NonZero;
 use std::thread;
 use syntax::{COMMANDS, Commands, OptionSpec, Syntax, Value};
@@ -26,6 +27,8 @@ pub struct Find {
     pub shows_progress: bool,
     /// Whether the history is summarized.
     pub summarizes: bool,
+    /// Who reads its messages.
+    pub reader: Reader,
 }
 
 /// What is drawn.
@@ -95,6 +98,7 @@ fn find_of(mut words: Words) -> Result<Find, Fault> {
         seconds: words.take_number("--seconds", 1, MOST_SECONDS)?,
         shows_progress: words.take_flag("--progress"),
         summarizes: words.take_flag("--summary"),
+        reader: if words.take_flag("--for-judge") { Reader::Judge } else { Reader::Person },
         history: words.files()?.0,
     })
 }
@@ -160,8 +164,8 @@ fn ask_for_help(command: &'static Syntax, words: &[String]) -> bool {
         if word == "--help" || word == "-h" {
             return true;
         }
-        let needs = |it: &OptionSpec| matches!(it.value, Value::Needed(_));
-        if command.option(word).is_some_and(needs) {
+        let needs_value = |option: &OptionSpec| matches!(option.value, Value::Needed(_));
+        if command.option(word).is_some_and(needs_value) {
             words.next();
         }
     }
@@ -191,7 +195,7 @@ impl Command {
         if name == "--help" || name == "-h" {
             return Ok(Command::Help(Commands.to_string()));
         }
-        let command = COMMANDS.into_iter().find(|it| it.name == name);
+        let command = COMMANDS.into_iter().find(|command| command.name == name);
         let command = command.ok_or_else(|| unknown(Fault::NoSuchCommand(name.clone())))?;
         command_of(command, words).map_err(|fault| Refused { fault, command: Some(command) })
     }
@@ -215,6 +219,7 @@ mod tests {
             seconds: None,
             shows_progress: false,
             summarizes: false,
+            reader: Reader::Person,
         };
         assert_eq!(parsed("find h.edn"), Some(Command::Find(find.clone())));
         let find = Find { workers: 4, steps: Some(0), ..find };
@@ -247,6 +252,11 @@ mod tests {
             Find { history: "-h.edn".into(), shows_progress: true, summarizes: true, ..find };
         let line = "find --summary --workers 4 --progress --seconds=60 --steps 0 -- -h.edn";
         assert_eq!(parsed(line), Some(Command::Find(find)));
+        let for_judge = |line| match parsed(line) {
+            Some(Command::Find(find)) => find.reader == Reader::Judge,
+            _ => false,
+        };
+        assert!(for_judge("find h.edn --for-judge"));
         assert!(matches!(parsed("find -"), Some(Command::Find(find)) if find.history == "-"));
         for line in ["find --places 5.places 5.edn", "find 5.edn --places=5.places"] {
             let places = match parsed(line) {
@@ -293,6 +303,8 @@ mod tests {
         assert!(is_help("--help", "judges histories of concurrent objects"));
         assert!(is_help("judge --help", "decides whether a history is linearizable"));
         assert!(is_help("find -h", "writes evidence"));
+        let help = parsed("find --help");
+        assert!(matches!(help, Some(Command::Help(text)) if !text.contains("--for-judge")));
         assert!(is_help("draw h.edn --help", "judges a history, or checks it"));
         assert!(is_help("import --other --help", "rewrites a history from a Jepsen store"));
     }

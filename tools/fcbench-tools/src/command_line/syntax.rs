@@ -12,21 +12,26 @@ pub enum Value {
     AfterEquals(&'static str),
 }
 
-/// An option, and what help says of it.
+/// An option, and what help says of it; nothing of one that only a program gives.
 #[derive(Debug)]
 pub struct OptionSpec {
     pub name: &'static str,
     pub value: Value,
-    about: &'static str,
+    about: Option<&'static str>,
 }
 
 impl OptionSpec {
     const fn flag(name: &'static str, about: &'static str) -> OptionSpec {
-        OptionSpec { name, value: Value::Nothing, about }
+        OptionSpec { name, value: Value::Nothing, about: Some(about) }
+    }
+
+    /// A flag that help does not have.
+    const fn hidden_flag(name: &'static str) -> OptionSpec {
+        OptionSpec { name, value: Value::Nothing, about: None }
     }
 
     const fn valued(name: &'static str, value: &'static str, about: &'static str) -> OptionSpec {
-        OptionSpec { name, value: Value::Needed(value), about }
+        OptionSpec { name, value: Value::Needed(value), about: Some(about) }
     }
 }
 
@@ -55,7 +60,7 @@ pub struct Syntax {
 impl Syntax {
     /// Its files, as help names them.
     pub fn files(&self) -> String {
-        let other = self.other_file.map(|it| format!(" [{it}]")).unwrap_or_default();
+        let other = self.other_file.map(|file| format!(" [{file}]")).unwrap_or_default();
         format!("<{}>{other}", self.file)
     }
 
@@ -65,7 +70,7 @@ impl Syntax {
 
     /// Its option of this name.
     pub fn option(&self, name: &str) -> Option<&'static OptionSpec> {
-        self.options.iter().find(|it| it.name == name).copied()
+        self.options.iter().find(|option| option.name == name).copied()
     }
 }
 
@@ -73,12 +78,13 @@ impl Syntax {
 impl Display for Syntax {
     fn fmt(&self, f: &mut Formatter<'_>) -> fmt::Result {
         let help = "-h, --help";
-        let names = self.options.iter().map(|it| it.to_string().len() + 4);
-        let width = names.fold(help.len(), usize::max);
+        let shown = self.options.iter();
+        let shown = shown.filter_map(|option| Some((option.to_string(), option.about?)));
+        let width = shown.clone().map(|(name, _)| name.len() + 4).fold(help.len(), usize::max);
         writeln!(f, "{}\n\n{}\n\nOptions:", self.about, self.usage())?;
-        for option in self.options {
-            let about = option.about.replace('\n', &format!("\n{:width$}    ", ""));
-            writeln!(f, "  {:width$}  {about}", format!("    {option}"))?;
+        for (name, about) in shown {
+            let about = about.replace('\n', &format!("\n{:width$}    ", ""));
+            writeln!(f, "  {:width$}  {about}", format!("    {name}"))?;
         }
         writeln!(f, "  {help:width$}  Print help")
     }
@@ -164,6 +170,8 @@ pub const FIND: Syntax = Syntax {
         ),
         &STEPS,
         &WORKERS,
+        // judge gives it: what is printed on standard error is then for it to read
+        &OptionSpec::hidden_flag("--for-judge"),
     ],
 };
 
@@ -205,9 +213,11 @@ pub const IMPORT: Syntax = Syntax {
         &OptionSpec {
             name: "--fail-is-reply",
             value: Value::AfterEquals("ERRORS"),
-            about: "a :fail with one of these as its :error is a reply of nil (of a :cas: false):\n\
-                    one error, such as :drained, or a set, such as '#{:drained \"no job\"}' (default: :empty and :not-found).\n\
-                    nil stands for no :error, except of :read and :get",
+            about: Some(
+                "a :fail with one of these as its :error is a reply of nil (of a :cas: false):\n\
+                 one error, such as :drained, or a set, such as '#{:drained \"no job\"}' (default: :empty and :not-found).\n\
+                 nil stands for no :error, except of :read and :get",
+            ),
         },
         &OptionSpec::flag(
             "--check-owners",

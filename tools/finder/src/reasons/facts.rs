@@ -1,9 +1,10 @@
 //! Facts of a history by which a sentence is worded: what found a value, and which operations would
 //! have put it in and did not.
 
-use super::Pattern;
+use super::cells::Absent;
+use super::{OneValue, Pattern};
 use crate::history::{ObjectHistory, Operation};
-use crate::kinds::{Function, Op, Reply};
+use crate::kinds::{Function, Kind, Op, Reply};
 
 /// Operations that would have put a value in, or set it, and did not: all failed, or all were
 /// refused.
@@ -59,6 +60,53 @@ impl Undone {
         let is_one = refused.clone().all(|o| o.op.function == function);
         Some(undone(refused.count(), WhyUndone::Refused(is_one.then_some(function))))
     }
+
+    /// Those that alone would have put the value in.
+    pub(super) fn text(self) -> String {
+        let Undone { first, count, why } = self;
+        match (count, why) {
+            (1, WhyUndone::Failed) => format!("event {first}, which failed"),
+            (1, WhyUndone::Refused(function)) => {
+                let of = function
+                    .map_or(String::new(), |function| format!("the :{} of ", function.name));
+                format!("{of}event {first}, which was refused")
+            }
+            (_, WhyUndone::Failed) => {
+                format!("{count} operations that failed, the first of them event {first}")
+            }
+            (_, WhyUndone::Refused(function)) => {
+                let those = function.map(|function| format!(":{}", function.name));
+                let those = those.unwrap_or_else(|| "operations".to_owned());
+                format!("{count} {those} that were refused, the first of them event {first}")
+            }
+        }
+    }
+}
+
+/// A value that was seen and cannot have been there.
+struct Seen {
+    value: i64,
+    /// Whether it was never set, or not by then.
+    is_unset: bool,
+}
+
+impl Seen {
+    /// The value of which a pattern says that it was seen, if it is a pattern of that sort.
+    fn by(pattern: &Pattern) -> Option<Seen> {
+        match *pattern {
+            Pattern::OneValue(OneValue::NeverSet(value) | OneValue::TooEarly(value)) => {
+                Some(Seen { value, is_unset: true })
+            }
+            Pattern::Absent(Absent::Stale(Some(value))) => Some(Seen { value, is_unset: false }),
+            Pattern::OneValue(OneValue::TakenTwice(_) | OneValue::TakenTooOften { .. }) => None,
+            Pattern::Absent(Absent::Stale(None)) => None,
+            Pattern::Absent(Absent::DoneOverValue { .. } | Absent::Repeated { .. }) => None,
+            Pattern::SurelyNotEmpty(_) | Pattern::UnderSmaller(_) | Pattern::WrongPair(_) => None,
+            Pattern::Lost(_) | Pattern::Crossing(_) | Pattern::Refused(_) => None,
+            Pattern::NotHolder(_) | Pattern::CountExceeded(_) | Pattern::WrongNumber(_) => None,
+            Pattern::General => None,
+        }
+    }
 }
 
 impl Facts {
@@ -69,13 +117,11 @@ impl Facts {
         key: Option<i64>,
         pattern: &Pattern,
     ) -> Facts {
-        let value = match pattern {
-            Pattern::NeverSet(value) | Pattern::TooEarly(value) | Pattern::Stale(Some(value)) => {
-                *value
-            }
-            _ => return Facts::default(),
+        let Some(seen) = Seen::by(pattern) else {
+            return Facts::default();
         };
-        let found =
+        let value = seen.value;
+        let looked =
             |o: &Operation| o.op.only_looks() && o.reply() == Some(Reply::Value(Some(value)));
         let swapped = |o: &Operation| {
             matches!(o.reply(), Some(Reply::Swapped(..))) && o.op.argument.expected() == Some(value)
@@ -83,11 +129,19 @@ impl Facts {
         Facts {
             is_by_swap: history.kind.is_lone_cell()
                 && part.ops.iter().any(swapped)
-                && !part.ops.iter().any(found),
-            undone: match pattern {
-                Pattern::Stale(_) => None,
-                _ => Undone::of(history, key, value),
+                && !part.ops.iter().any(looked),
+            undone: match seen.is_unset {
+                true => Undone::of(history, key, value),
+                false => None,
             },
+        }
+    }
+
+    /// The word for what was done with a value that was seen.
+    pub(super) fn seen(&self, kind: Kind) -> String {
+        match self.is_by_swap {
+            true => format!("expected by an accepted :{}", kind.swap_name()),
+            false => kind.words.seen.to_owned(),
         }
     }
 }

@@ -1,7 +1,8 @@
 //! What was lost, in a sentence: the values that were put in before a removal and were not taken by
 //! any call that returned, how many of them other removals can have taken, and what became of them.
 
-use super::Reason;
+use super::pattern::Says;
+use super::{Facts, Reason};
 use crate::cuts::{Ahead, Counted};
 use crate::history::ObjectHistory;
 use crate::kinds::{Gives, Kind};
@@ -102,8 +103,25 @@ impl Lost {
         }
     }
 
-    /// The sentence.
-    pub fn sentence(&self, kind: Kind) -> String {
+    /// The values, each with what became of it; those together that were never taken.
+    fn named(&self, kind: Kind) -> String {
+        let values = self.values.iter().take(MOST_NAMED);
+        let is_together =
+            |lost: &&LostValue| lost.later.is_empty() && lost.times == 1 && !lost.is_repeated;
+        let (never, others): (Vec<_>, Vec<_>) = values.partition(is_together);
+        let names: Vec<String> = never.iter().map(|lost| lost.value.to_string()).collect();
+        let word = if names.len() == 1 { "value" } else { "values" };
+        let never = never.first().map(|lost| (word, listed(&names), lost.fate(kind)));
+        let never = never.map(|(word, names, fate)| format!("{word} {names} ({fate})"));
+        let others = others.into_iter().map(|lost| format!("{lost} ({})", lost.fate(kind)));
+        let rest = self.values.len().saturating_sub(MOST_NAMED);
+        let rest = (rest > 0).then(|| format!("{rest} more"));
+        never.into_iter().chain(others).chain(rest).collect::<Vec<String>>().join(", ")
+    }
+}
+
+impl Says for Lost {
+    fn sentence(&self, kind: Kind, _: Facts) -> String {
         if let (None, 0, [lost @ LostValue { times: 1, .. }]) =
             (self.found, self.most, &self.values[..])
         {
@@ -121,22 +139,6 @@ impl Lost {
         let (count, place, seen) = (self.count(), self.place(kind), kind.words.seen);
         let values = self.named(kind);
         format!("{count} {were} {place}, and {most} have been {seen} by then: {values}")
-    }
-
-    /// The values, each with what became of it; those together that were never taken.
-    fn named(&self, kind: Kind) -> String {
-        let values = self.values.iter().take(MOST_NAMED);
-        let is_together =
-            |lost: &&LostValue| lost.later.is_empty() && lost.times == 1 && !lost.is_repeated;
-        let (never, others): (Vec<_>, Vec<_>) = values.partition(is_together);
-        let names: Vec<String> = never.iter().map(|lost| lost.value.to_string()).collect();
-        let word = if names.len() == 1 { "value" } else { "values" };
-        let never = never.first().map(|lost| (word, listed(&names), lost.fate(kind)));
-        let never = never.map(|(word, names, fate)| format!("{word} {names} ({fate})"));
-        let others = others.into_iter().map(|lost| format!("{lost} ({})", lost.fate(kind)));
-        let rest = self.values.len().saturating_sub(MOST_NAMED);
-        let rest = (rest > 0).then(|| format!("{rest} more"));
-        never.into_iter().chain(others).chain(rest).collect::<Vec<String>>().join(", ")
     }
 }
 

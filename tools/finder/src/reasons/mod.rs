@@ -9,28 +9,35 @@ mod facts;
 mod lost;
 mod narrow;
 mod numbers;
+mod one_value;
 mod pattern;
 mod plan;
 mod propose;
 mod reason;
+mod sentence;
 mod shrink;
 mod value_pairs;
 mod wholes;
 
+pub use cells::{Absent, CountExceeded, Crossing, NotHolder, Refused};
 pub(crate) use cells::{lock_patterns, rare_lock_patterns};
 pub(crate) use cells::{mutex_patterns, rare_mutex_patterns};
 pub(crate) use containers::{Interval, Runs, extracts, queue_pairs, stack_pairs};
+pub use containers::{SurelyNotEmpty, UnderSmaller, WrongPair};
 pub use facts::{Facts, Undone, WhyUndone};
 pub use lost::{Lost, LostValue};
-pub use pattern::{FirstEvent, FirstOperation, Pattern, Sentence};
+pub use numbers::WrongNumber;
+pub use one_value::OneValue;
+pub use pattern::Pattern;
 pub(crate) use plan::Candidate;
 pub use reason::{CheckedReason, FoundReason, Reason, Shown, Trial};
+pub use sentence::{FirstEvent, FirstOperation, Sentence};
 
 use crate::cuts::{Cut, Values};
 use crate::history::ObjectHistory;
 use crate::search::{Searched, TryFirst};
 use narrow::narrowed;
-use plan::{Element, Plan};
+use plan::{Chosen, Form, KeptValue, Plan, ShownBy};
 use propose::Proposal;
 use std::collections::BTreeSet;
 

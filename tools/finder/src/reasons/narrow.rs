@@ -66,7 +66,8 @@ impl<'a> Narrowing<'a> {
         let by = Trial { first: self.by.first, steps: self.by.steps.min(self.left) };
         let reason = Reason { cuts: window.to_vec(), count: None };
         let checked = reason.check(self.part, by);
-        self.left = self.left.saturating_sub(checked.searched.as_ref().map_or(0, |it| it.steps));
+        self.left =
+            self.left.saturating_sub(checked.searched.as_ref().map_or(0, |search| search.steps));
         checked.part.is_some()
     }
 
@@ -95,18 +96,6 @@ impl<'a> Narrowing<'a> {
     }
 }
 
-/// The pattern for a window: one that says how often something was done is not true of the whole.
-fn pattern_in_window(pattern: Pattern) -> Pattern {
-    match pattern {
-        Pattern::Stale(_) | Pattern::RefusedUnderItsValue { .. } => pattern,
-        Pattern::DoneOverValue { .. } | Pattern::RefusedWithoutValue { .. } => pattern,
-        Pattern::Repeated { .. } | Pattern::NotHolder { .. } => pattern,
-        Pattern::Fell { .. } | Pattern::FoundTwice(_) => pattern,
-        Pattern::CountExceeded(_) => pattern,
-        _ => Pattern::General,
-    }
-}
-
 /// A reason for a smaller part than that of these cuts, which a search or a count refuted, if one
 /// is found in a third of the steps that the search took.
 pub fn narrowed(
@@ -128,19 +117,19 @@ pub fn narrowed(
     let mut narrowing = Narrowing::new(part, by, searched);
     let window = narrowing.window()?;
     let small = part_by(part, &window)?;
-    let found = propose_within(&small, None, STEPS_OF_A_PART, narrowing.left);
+    let proposal = propose_within(&small, None, STEPS_OF_A_PART, narrowing.left);
     let is_smaller = |reason: Reason| {
         let smaller = reason.part_shown(history, by)?;
         (smaller.ops.len() < part.ops.len()).then_some((reason, smaller))
     };
     // The cuts of a proposal mostly name the window too.
-    let proposed = found.and_then(|Proposal { reason, pattern, key }| {
+    let proposed = proposal.and_then(|Proposal { reason, pattern, key }| {
         let alone = Reason { cuts: [cuts, &reason.cuts].concat(), ..reason };
         let in_window = Reason { cuts: [cuts, &window, &reason.cuts].concat(), ..reason };
         let (reason, smaller) = is_smaller(alone)
             .filter(|(_, smaller)| smaller.ops.len() <= small.ops.len())
             .or_else(|| is_smaller(in_window))?;
-        Some((Proposal { reason, pattern: pattern_in_window(pattern), key }, smaller))
+        Some((Proposal { reason, pattern: pattern.in_window(), key }, smaller))
     });
     proposed.or_else(|| {
         let (reason, smaller) = is_smaller(Reason { cuts: [cuts, &window].concat(), count: None })?;

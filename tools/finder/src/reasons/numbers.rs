@@ -1,7 +1,9 @@
 //! Patterns of a number in which no order is valid: two calls, of which the later one finds what
 //! can't be there any more, or not yet. A part has all additions of its time.
 
-use super::{Candidate, Element, Pattern, Plan};
+use super::pattern::Says;
+use super::{Candidate, Facts, Form, Pattern, Plan};
+use crate::kinds::Kind;
 use crate::timeline::{Call, Timeline};
 use std::collections::HashSet;
 
@@ -11,6 +13,38 @@ const MOST_STARTS: usize = 32;
 
 /// How many calls before one are looked at, of those at which its part may begin.
 const MOST_SEEN: usize = 256;
+
+/// What a number cannot have been.
+#[derive(Clone, Copy, Debug, PartialEq, Eq)]
+pub enum WrongNumber {
+    /// A number is found after a greater one was there, and nothing is subtracted.
+    Fell { found: i64, was: i64 },
+    /// Two additions find the same number, and nothing is subtracted.
+    FoundTwice(i64),
+    /// A number is found that no addition can have left by then.
+    NotReached(i64),
+}
+
+impl Says for WrongNumber {
+    fn sentence(&self, kind: Kind, _: Facts) -> String {
+        let (word, seen) = (kind.word, kind.words.seen);
+        match *self {
+            WrongNumber::Fell { found, was } => {
+                format!(
+                    "the {word} was {found} after it had been {was}, and nothing was subtracted"
+                )
+            }
+            WrongNumber::FoundTwice(number) => {
+                format!(
+                    "two additions {seen} the {word} to be {number}, and nothing was subtracted"
+                )
+            }
+            WrongNumber::NotReached(number) => {
+                format!("the {word} was {seen} to be {number}, which it cannot have been by then")
+            }
+        }
+    }
+}
 
 /// A call that returned, with the number that it found, and the one that it left.
 #[derive(Clone, Copy)]
@@ -43,7 +77,12 @@ impl<'a> Scene<'a> {
             Some(*most)
         });
         let mut amounts = timeline.calls.iter().filter_map(|call| call.op.adds());
-        Scene { most: most.collect(), is_rising: amounts.all(|it| it >= 0), timeline, steps }
+        Scene {
+            most: most.collect(),
+            is_rising: amounts.all(|amount| amount >= 0),
+            timeline,
+            steps,
+        }
     }
 
     /// The steps that were over before this moment.
@@ -64,26 +103,26 @@ impl<'a> Scene<'a> {
     /// with the first one.
     fn candidate(
         &self,
-        pattern: Pattern,
+        pattern: WrongNumber,
         first: Option<&Call>,
         calls: &[Call],
     ) -> Option<Candidate> {
         let last = calls.iter().max_by_key(|call| call.end)?;
-        let named = first.into_iter().chain(calls).map(|call| Element::Operation(call.number));
+        let operations = first.into_iter().chain(calls).map(|call| call.number).collect();
         let plan = Plan {
             from: first.map(|first| first.number),
             until: Some(last.until()),
-            all_values: true,
-            ..Plan::of(named.collect())
+            ..Plan::of(Form::Window { operations })
         };
-        Some(Candidate::without_key(pattern, plan, self.weight(first, last)))
+        let weight = self.weight(first, last);
+        Some(Candidate::without_key(Pattern::WrongNumber(pattern), plan, weight))
     }
 
     /// The candidates of calls that have no valid order after one of the last calls which were over
     /// before them and of which this is so; the smallest first.
     fn candidates(
         &self,
-        pattern: &Pattern,
+        pattern: WrongNumber,
         calls: &[Call],
         is_start: impl Fn(&Step) -> bool,
     ) -> Vec<Candidate> {
@@ -94,29 +133,28 @@ impl<'a> Scene<'a> {
         let mut starts: Vec<&Step> = before.filter(|step| is_start(step)).collect();
         starts.sort_by_key(|step| std::cmp::Reverse(step.call.begin));
         let starts = starts.into_iter().take(MOST_STARTS);
-        let found =
-            starts.filter_map(|step| self.candidate(pattern.clone(), Some(&step.call), calls));
-        let mut candidates: Vec<Candidate> = found.collect();
+        let candidates = starts.filter_map(|step| self.candidate(pattern, Some(&step.call), calls));
+        let mut candidates: Vec<Candidate> = candidates.collect();
         candidates.sort_by_key(|candidate| candidate.weight);
         candidates.truncate(2);
         if candidates.is_empty() {
-            candidates.extend(self.candidate(pattern.clone(), None, calls));
+            candidates.extend(self.candidate(pattern, None, calls));
         }
         candidates
     }
 
     /// A call finds less than another one that was over before it had left.
     fn fallen(&self) -> Vec<Candidate> {
-        let found = self.steps.iter().filter_map(|step| {
+        let candidates = self.steps.iter().filter_map(|step| {
             let count = self.before(step.call.begin).len();
             let was = *self.most[..count].last()?;
             let found = step.before;
             (was > found).then(|| {
-                let pattern = Pattern::Fell { found, was };
-                self.candidates(&pattern, &[step.call], |start| start.after > found)
+                let pattern = WrongNumber::Fell { found, was };
+                self.candidates(pattern, &[step.call], |start| start.after > found)
             })
         });
-        found.take(MOST).flatten().collect()
+        candidates.take(MOST).flatten().collect()
     }
 
     /// Two additions find the same number.
@@ -124,22 +162,23 @@ impl<'a> Scene<'a> {
         let mut adding: Vec<&Step> =
             self.steps.iter().filter(|step| step.before != step.after).collect();
         adding.sort_by_key(|step| step.before);
-        let found = adding.windows(2).filter(|pair| pair[0].before == pair[1].before).map(|pair| {
-            let calls = [pair[0].call, pair[1].call];
-            self.candidates(&Pattern::FoundTwice(pair[0].before), &calls, |_| true)
-        });
-        found.take(MOST).flatten().collect()
+        let candidates =
+            adding.windows(2).filter(|pair| pair[0].before == pair[1].before).map(|pair| {
+                let calls = [pair[0].call, pair[1].call];
+                self.candidates(WrongNumber::FoundTwice(pair[0].before), &calls, |_| true)
+            });
+        candidates.take(MOST).flatten().collect()
     }
 
     /// A call finds a number that no other call left.
     fn not_reached(&self) -> Vec<Candidate> {
         let adding = self.steps.iter().filter(|step| step.before != step.after);
         let left: HashSet<i64> = adding.map(|step| step.after).chain([0]).collect();
-        let found =
+        let candidates =
             self.steps.iter().filter(|step| !left.contains(&step.before)).map(|step| {
-                self.candidates(&Pattern::NotReached(step.before), &[step.call], |_| true)
+                self.candidates(WrongNumber::NotReached(step.before), &[step.call], |_| true)
             });
-        found.take(MOST).flatten().collect()
+        candidates.take(MOST).flatten().collect()
     }
 }
 

@@ -6,7 +6,7 @@ use super::numbers::number_patterns;
 use super::shrink::Judge;
 use super::value_pairs::value_pairs_of;
 use super::wholes::wholes_of;
-use super::{Candidate, Element, Pattern, Plan, Reason, Trial};
+use super::{Candidate, Form, Pattern, Plan, Reason, Trial};
 use crate::cuts::{Cut, part_by};
 use crate::history::ObjectHistory;
 use crate::kinds::Family;
@@ -93,12 +93,12 @@ impl Proposer<'_> {
     }
 
     /// The last calls that find nothing and return before this number, at which a part may begin.
-    fn starts(&self, until: u32) -> impl Iterator<Item = Element> {
+    fn starts(&self, until: u32) -> impl Iterator<Item = u32> {
         let starts = self.history.ops.iter().rev().filter(move |o| {
             o.returned().is_some_and(|at| at < until)
                 && o.reply().is_some_and(|reply| o.op.tells(reply))
         });
-        starts.map(|o| Element::Operation(o.number)).take(MOST_STARTS)
+        starts.map(|o| o.number).take(MOST_STARTS)
     }
 
     /// The cuts of the part in which a plan is made smaller. Where that of a queue, stack or heap
@@ -106,14 +106,17 @@ impl Proposer<'_> {
     fn base_cuts(&self, candidate: &Candidate) -> Vec<Cut> {
         let plan = &candidate.plan;
         let mut cuts = Vec::new();
-        if !self.history.kind.is_container() {
-            plan.push_cuts(self.history, &mut cuts);
-        } else if candidate.weight <= LIGHT {
-            plan.push_keeping(self.history, &mut cuts);
-        } else {
-            let starts = self.starts(plan.until.unwrap_or(u32::MAX));
-            let elements = starts.chain(plan.elements.iter().copied()).collect();
-            Plan::of(elements).push_keeping(self.history, &mut cuts);
+        match &plan.form {
+            Form::Container(chosen) if candidate.weight <= LIGHT => {
+                chosen.push_cuts(self.history, &mut cuts);
+            }
+            Form::Container(chosen) => {
+                let starts = self.starts(plan.until.unwrap_or(u32::MAX));
+                chosen.with(starts).push_cuts(self.history, &mut cuts);
+            }
+            Form::Window { .. } | Form::LoneCell(_) | Form::Keys(_) | Form::Entry { .. } => {
+                plan.push_cuts(self.history, &mut cuts);
+            }
         }
         cuts
     }
@@ -143,11 +146,11 @@ impl Proposer<'_> {
         let Base { part, mut cuts, from } = base;
         let own = plan.from;
         plan.from = own.or(from);
-        plan.elements.extend(plan.from.map(Element::Operation));
+        plan.from.into_iter().for_each(|number| plan.form.add(number));
         self.checked(plan.reason(self.history)).or_else(|| {
             plan.from = own;
             plan.push_cuts(&part, &mut cuts);
-            self.checked(Reason { cuts, count: plan.count })
+            self.checked(Reason { cuts, count: plan.count() })
         })
     }
 
@@ -181,8 +184,8 @@ impl Proposer<'_> {
             if next.is_empty() {
                 return None;
             }
-            if let Some(found) = next.into_iter().find_map(|shrunk| self.confirm(shrunk)) {
-                return Some(found);
+            if let Some(confirmed) = next.into_iter().find_map(|shrunk| self.confirm(shrunk)) {
+                return Some(confirmed);
             }
         }
     }
@@ -203,8 +206,8 @@ impl Proposer<'_> {
             return own.map(|own| own.proposal);
         }
         let other = key.checked_add(1).and_then(|next| self.best_on(next, i64::MAX));
-        let smallest = own.into_iter().chain(other).min_by_key(|found| found.size);
-        smallest.map(|found| found.proposal)
+        let smallest = own.into_iter().chain(other).min_by_key(|confirmed| confirmed.size);
+        smallest.map(|confirmed| confirmed.proposal)
     }
 
     /// The smallest reason to which the patterns of the object lead, if they lead to one. Where it
@@ -212,7 +215,7 @@ impl Proposer<'_> {
     /// patterns that are rare.
     fn best_by_patterns(&self, timeline: &Timeline) -> Option<Confirmed> {
         let best = self.best_of(self.patterns(timeline));
-        if best.as_ref().is_some_and(|it| it.size <= FEW) {
+        if best.as_ref().is_some_and(|best| best.size <= FEW) {
             return best;
         }
         let others = match &self.history.kind.family {
@@ -220,7 +223,7 @@ impl Proposer<'_> {
             Family::Holdable(_) => self.rare_patterns(timeline),
             Family::Cells(_) | Family::Number(_) => Vec::new(),
         };
-        best.into_iter().chain(self.best_of(others)).min_by_key(|found| found.size)
+        best.into_iter().chain(self.best_of(others)).min_by_key(|confirmed| confirmed.size)
     }
 
     fn propose(&self, open_key: Option<i64>) -> Option<Proposal> {
@@ -228,14 +231,14 @@ impl Proposer<'_> {
             return Some(proposal);
         }
         let timeline = Timeline::of(&self.history.ops);
-        let mut found = None;
+        let mut best = None;
         if open_key.is_none() {
-            found = self.best_by_patterns(&timeline);
+            best = self.best_by_patterns(&timeline);
         }
-        let found = found
+        let best = best
             .or_else(|| self.best_of(self.rare_patterns(&timeline)))
             .or_else(|| self.best_of(wholes_of(self.history.kind, &timeline)));
-        found.map(|found| found.proposal)
+        best.map(|confirmed| confirmed.proposal)
     }
 }
 
@@ -264,6 +267,6 @@ pub fn propose_by_pairs(history: &ObjectHistory, steps: u64) -> Option<Proposal>
     let proposer = Proposer { history, steps: steps.min(STEPS_OF_A_PAIR), budget };
     let candidates = value_pairs_of(history.kind, &Timeline::of(&history.ops));
     let shrunk = candidates.into_iter().filter_map(|candidate| proposer.shrink(candidate));
-    let found = shrunk.into_iter().find_map(|shrunk| proposer.confirm(shrunk));
-    found.map(|found| found.proposal)
+    let confirmed = shrunk.into_iter().find_map(|shrunk| proposer.confirm(shrunk));
+    confirmed.map(|confirmed| confirmed.proposal)
 }

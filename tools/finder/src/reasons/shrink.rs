@@ -1,7 +1,7 @@
 //! Plans made smaller, each step confirmed by the check of reasons: by halves, as delta debugging
 //! does (Zeller and Hildebrandt, IEEE Transactions on Software Engineering 28, 2002).
 
-use super::{Element, Plan, Trial};
+use super::{Plan, Trial};
 use crate::history::ObjectHistory;
 use crate::search::TryFirst;
 use std::cell::Cell;
@@ -12,7 +12,7 @@ const MOST_STEPS: u32 = 400;
 /// The most rounds of steps.
 const MOST_ROUNDS: usize = 4;
 
-/// The most times that elements are left out of a plan, some at a time, in one round.
+/// The most times that values and operations are left out of a plan, some at a time, in one round.
 const MOST_PASSES: usize = 64;
 
 /// A history in which plans are tried, and how much may still be tried.
@@ -90,42 +90,41 @@ impl<'a> Judge<'a> {
 
     /// Begins the plan with this operation, if it holds.
     fn begin_at(&mut self, plan: &mut Plan, number: u32) -> bool {
-        let before = plan.from.replace(number);
-        plan.elements.push(Element::Operation(number));
+        let before = (plan.from.replace(number), plan.form.clone());
+        plan.form.add(number);
         let holds = self.holds(plan);
         if !holds {
-            plan.from = before;
-            plan.elements.pop();
+            (plan.from, plan.form) = before;
         }
         holds
     }
 
-    /// Leaves out this many elements at a time, wherever the plan holds without them. Whether some
-    /// are left out.
+    /// Leaves out this many values and operations at a time, wherever the plan holds without them.
+    /// Whether some are left out.
     fn leave_out(&mut self, plan: &mut Plan, step: usize) -> bool {
-        let before = plan.elements.len();
+        let before = plan.form.size();
         let mut at = 0;
-        while at < plan.elements.len() {
-            let end = (at + step).min(plan.elements.len());
-            let all = plan.elements.clone();
-            plan.elements.drain(at..end);
+        while at < plan.form.size() {
+            let end = (at + step).min(plan.form.size());
+            let less = plan.form.without(&(at..end));
+            let all = std::mem::replace(&mut plan.form, less);
             if !self.holds(plan) {
-                plan.elements = all;
+                plan.form = all;
                 at = end;
             }
         }
-        plan.elements.len() < before
+        plan.form.size() < before
     }
 
-    /// Leaves out elements by halves, and in the end one by one, until none can go.
+    /// Leaves out values and operations by halves, and in the end one by one, until none can go.
     fn keep_few(&mut self, plan: &mut Plan) {
-        let mut step = plan.elements.len().div_ceil(2).max(1);
+        let mut step = plan.form.size().div_ceil(2).max(1);
         for _ in 0..MOST_PASSES {
             let less = self.leave_out(plan, step);
             if step == 1 && !less {
                 return;
             }
-            if !less || step > plan.elements.len() {
+            if !less || step > plan.form.size() {
                 step = (step / 2).max(1);
             }
         }
@@ -137,13 +136,13 @@ impl<'a> Judge<'a> {
             return false;
         }
         for _ in 0..MOST_ROUNDS {
-            let before = (plan.from, plan.until, plan.elements.len());
-            if !plan.keeps_beginning {
+            let before = (plan.from, plan.until, plan.form.size());
+            if !plan.keeps_beginning() {
                 self.begin_late(plan);
             }
             self.end_early(plan);
             self.keep_few(plan);
-            if (plan.from, plan.until, plan.elements.len()) == before {
+            if (plan.from, plan.until, plan.form.size()) == before {
                 break;
             }
         }

@@ -1,7 +1,7 @@
 //! Pairs of values of a queue, stack or heap in which values repeat. If no pattern leads to a
 //! reason all that was done with two values is kept, and is made smaller if it has no valid order.
 
-use super::{Candidate, Element, Pattern, Plan};
+use super::{Candidate, Chosen, Form, KeptValue, Pattern, Plan};
 use crate::kinds::Kind;
 use crate::timeline::Timeline;
 use std::collections::BTreeSet;
@@ -33,8 +33,9 @@ pub fn value_pairs_of(kind: Kind, timeline: &Timeline) -> Vec<Candidate> {
         .flat_map(|apart| (0..count).map(move |place| (place, (place + apart) % count)))
         .take(MOST_PAIRS)
         .map(|(one, other)| {
-            let elements = vec![Element::Value(values[one]), Element::Value(values[other])];
-            Candidate::without_key(Pattern::General, Plan::of(elements), 2)
+            let pair = [one, other].map(|place| KeptValue::whole(values[place]));
+            let chosen = Chosen { values: pair.to_vec(), operations: Vec::new() };
+            Candidate::without_key(Pattern::General, Plan::of(Form::Container(chosen)), 2)
         })
         .collect()
 }

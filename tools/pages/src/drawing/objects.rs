@@ -14,11 +14,11 @@ use crate::timeline::{
     ContentBox, DrawnOperation, DrawnStretch, Extent, Figure, Mark, ObjectDrawing, Row, Span,
     Spans, State, operation_at, operations_of, spans,
 };
-use crate::verdict::OrderFault;
 use crate::words::Words;
 use finder::{FirstEvent, History, ObjectHistory, Operation, Sentence};
 use std::borrow::Cow;
 use std::collections::{BTreeMap, BTreeSet};
+use verdict::OrderFault;
 
 /// An object with at most as many events is drawn whole.
 const WHOLE: usize = 160;

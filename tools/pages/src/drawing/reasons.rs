@@ -4,7 +4,10 @@
 
 use crate::contents::{puts, takes, value_put};
 use crate::timeline::{DrawnOperation, Role, Span, Spans, State, Tried, spans};
-use finder::{Counted, Gives, Kind, Lost, Need, Pattern, Reply, Sentence};
+use finder::{
+    Absent, CountExceeded, Counted, Gives, Kind, Lost, Need, OneValue, Pattern, Reply, Sentence,
+    WrongPair,
+};
 
 /// The operations of an object, and those of a part of which no order is valid. If the part
 /// begins, if not at the beginning, and the pattern that led to it.
@@ -130,33 +133,38 @@ fn left_words(operation: &DrawnOperation, left: Option<i64>) -> Spans {
 
 /// The two operations of a part that put something in, with what they put, if there are just two.
 fn two_putters(part: &[DrawnOperation]) -> Option<[(DrawnOperation, i64); 2]> {
-    let putters = part.iter().filter_map(|it| Some((*it, value_put(it)?)));
+    let putters = part.iter().filter_map(|operation| Some((*operation, value_put(operation)?)));
     putters.collect::<Vec<_>>().try_into().ok()
 }
 
 /// The value that the removal took that returned last, and when.
 fn last_taking(operations: &[DrawnOperation]) -> Option<(i64, u32)> {
-    let takings = operations.iter().filter_map(|it| Some((value_taken(it)?, it.returned()?)));
+    let takings = operations
+        .iter()
+        .filter_map(|operation| Some((value_taken(operation)?, operation.returned()?)));
     takings.max_by_key(|(_, at)| *at)
 }
 
 impl Reason<'_> {
     /// The operations that put the value in, and were invoked before this number.
     fn putters(&self, value: i64, before: u32) -> Vec<DrawnOperation> {
-        let puts = |it: &&DrawnOperation| it.number() < before && value_put(it) == Some(value);
+        let puts = |operation: &&DrawnOperation| {
+            operation.number() < before && value_put(operation) == Some(value)
+        };
         self.operations.iter().filter(puts).copied().collect()
     }
 
     /// The operations that took the value out, and returned by this number.
     fn takers(&self, value: i64, until: u32) -> Vec<DrawnOperation> {
-        let takes =
-            |it: &&DrawnOperation| takes(it, value) && it.returned().is_some_and(|at| at <= until);
+        let takes = |operation: &&DrawnOperation| {
+            takes(operation, value) && operation.returned().is_some_and(|at| at <= until)
+        };
         self.operations.iter().filter(takes).copied().collect()
     }
 
     /// Whether an operation that was invoked before this number took the value out, or may have.
     fn may_be_taken(&self, value: i64, before: u32) -> bool {
-        self.operations.iter().any(|it| may_take(it, value, before))
+        self.operations.iter().any(|operation| may_take(operation, value, before))
     }
 
     /// A value is returned that nothing had put in.
@@ -255,7 +263,7 @@ impl Reason<'_> {
 
     /// More values were ahead of what a removal found than can have been taken out before it.
     fn lost(&self, lost: &Lost) -> Option<Spans> {
-        let removal = self.part.iter().find(|it| it.number() == lost.number)?;
+        let removal = self.part.iter().find(|operation| operation.number() == lost.number)?;
         let mut sentence = match lost.found {
             None => spans![*removal, " found nothing. But "],
             Some(value) => spans![*removal, " took ", value, " out. But "],
@@ -282,7 +290,7 @@ impl Reason<'_> {
     fn wrong_turn(&self) -> Option<Spans> {
         let [(first, v), (second, w)] = two_putters(self.part)?;
         let at = returned_before(&first, &second)?;
-        let taker_of = |value| self.part.iter().find(|it| takes(it, value));
+        let taker_of = |value| self.part.iter().find(|operation| takes(operation, value));
         let taker = taker_of(w)?;
         let end = taker.returned()?;
         let is_alone = self.putters(w, end).len() == 1;
@@ -324,10 +332,10 @@ impl Reason<'_> {
     fn is_set_between(&self, value: Option<i64>, pair: [&DrawnOperation; 2], to: u32) -> bool {
         let [earlier, later] = pair;
         let key = later.op().key();
-        self.operations.iter().any(|it| {
-            it.number() != later.number()
-                && sets_anew(it, key, value)
-                && ran_between(it, earlier.number(), to)
+        self.operations.iter().any(|operation| {
+            operation.number() != later.number()
+                && sets_anew(operation, key, value)
+                && ran_between(operation, earlier.number(), to)
         })
     }
 
@@ -368,11 +376,12 @@ impl Reason<'_> {
 
     /// A mutex or lock is released twice, and not acquired in between.
     fn twice_released(&self) -> Option<Spans> {
-        let releases = self.part.iter().filter(|it| it.op().holds() == Some(false));
+        let releases = self.part.iter().filter(|operation| operation.op().holds() == Some(false));
         let [first, second] = releases.collect::<Vec<_>>().try_into().ok()?;
         let (from, to) = (first.number(), first.returned()?.max(second.returned()?));
-        let is_acquired =
-            |it: &DrawnOperation| it.op().holds() == Some(true) && ran_between(it, from, to);
+        let is_acquired = |operation: &DrawnOperation| {
+            operation.op().holds() == Some(true) && ran_between(operation, from, to)
+        };
         if self.operations.iter().any(is_acquired) {
             return None;
         }
@@ -401,18 +410,30 @@ impl Reason<'_> {
             Pattern::Lost(lost) => self.not_empty().or_else(|| self.lost(lost)),
             // If an operation failed that would have put the value in, the finder's sentence says
             // so.
-            Pattern::NeverSet(_) | Pattern::TooEarly(_) if self.sentence.facts.undone.is_some() => {
+            Pattern::OneValue(OneValue::NeverSet(_) | OneValue::TooEarly(_))
+                if self.sentence.facts.undone.is_some() =>
+            {
                 None
             }
-            Pattern::NeverSet(_) | Pattern::TooEarly(_) => self.never_put(),
-            Pattern::SurelyNotEmpty { .. } => self.not_empty(),
-            Pattern::Stale(_) => self.out_of_date(),
-            Pattern::CountExceeded(Counted::Held) => self.twice_released(),
-            Pattern::WrongOrder { .. } | Pattern::LeftBehind { .. } => self.wrong_turn(),
-            Pattern::TakenTwice(_)
-            | Pattern::TakenTooOften { .. }
-            | Pattern::CountExceeded(Counted::Value(_)) => self.too_often(),
-            _ => None,
+            Pattern::OneValue(OneValue::NeverSet(_) | OneValue::TooEarly(_)) => self.never_put(),
+            Pattern::SurelyNotEmpty(_) => self.not_empty(),
+            Pattern::Absent(Absent::Stale(_)) => self.out_of_date(),
+            Pattern::WrongPair(WrongPair::Order { .. } | WrongPair::LeftBehind { .. }) => {
+                self.wrong_turn()
+            }
+            Pattern::OneValue(OneValue::TakenTwice(_) | OneValue::TakenTooOften { .. }) => {
+                self.too_often()
+            }
+            Pattern::CountExceeded(CountExceeded(counted)) => match counted {
+                Counted::Held => self.twice_released(),
+                Counted::Value(_) => self.too_often(),
+                Counted::Entry { .. } | Counted::NoEntry(_) => None,
+                Counted::Free | Counted::Ahead(_) => None,
+            },
+            Pattern::Absent(Absent::DoneOverValue { .. } | Absent::Repeated { .. }) => None,
+            Pattern::WrongPair(WrongPair::LeftAbove { .. }) | Pattern::UnderSmaller(_) => None,
+            Pattern::Crossing(_) | Pattern::Refused(_) | Pattern::NotHolder(_) => None,
+            Pattern::WrongNumber(_) | Pattern::General => None,
         }
     }
 
@@ -450,7 +471,9 @@ impl Reason<'_> {
     /// The general sentence: no order of these operations fits.
     fn general(&self, tried: &Tried) -> Spans {
         let last = tried.last.filter(|_| tried.is_complete);
-        let is_other = |it: &&DrawnOperation| last.is_none_or(|last| last.number() != it.number());
+        let is_other = |operation: &&DrawnOperation| {
+            last.is_none_or(|last| last.number() != operation.number())
+        };
         let others: Vec<DrawnOperation> = self.part.iter().filter(is_other).copied().collect();
         let mut sentence = match self.from {
             Some(from) => spans!["Whatever the ", self.kind, " contained before event ", from],

@@ -3,10 +3,10 @@
 
 use crate::contents::{Content, puts, walk_along, wanted};
 use crate::timeline::{DrawnOperation, Mark, Span, Spans, operation_at, spans};
-use crate::verdict::OrderFault;
 use crate::words::Words;
 use finder::{History, Kind, ObjectHistory, Reply};
 use std::collections::{BTreeMap, BTreeSet};
+use verdict::OrderFault;
 
 /// Whether the operations that a sentence names are shown alone too.
 #[derive(Clone, Copy)]

@@ -4,7 +4,7 @@ use super::Explained;
 use super::excerpts::excerpt;
 use crate::elements::{ByteRange, elements_in, value_in};
 use crate::timeline::spans;
-use crate::verdict::FormFaultKind;
+use verdict::FormFaultKind;
 
 /// What is wrong with a form.
 fn wrong_form(kind: FormFaultKind) -> &'static str {

@@ -3,9 +3,9 @@
 
 use super::number_in;
 use crate::elements::{ByteRange, Opened, elements_in, innermost_open, line_of, value_in, word_at};
-use crate::verdict::{Fault, MapFaultKind, TextFaultKind, Which};
 use finder::{Function, function, function_names};
 use import::visible;
+use verdict::{Fault, MapFaultKind, TextFaultKind, Which};
 
 /// The longest piece of a text that is shown.
 const LONGEST: usize = 200;
@@ -239,7 +239,7 @@ pub fn fault_lines(text: &[u8], fault: Fault) -> Option<String> {
 #[cfg(test)]
 mod tests {
     use super::*;
-    use crate::verdict::Verdict;
+    use verdict::Verdict;
 
     fn lines(text: &str, answer: &str) -> String {
         let Some(Verdict::Malformed(fault)) = Verdict::read(answer) else {

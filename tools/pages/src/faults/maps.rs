@@ -6,8 +6,8 @@ use crate::drawing::{Faulty, FaultyDrawing, draw_up_to};
 use crate::elements::{ByteRange, elements_in, value_in};
 use crate::figures::FaultyMap;
 use crate::timeline::{DrawnOperation, Span, Spans, spans};
-use crate::verdict::MapFaultKind;
 use finder::{FUNCTION_COUNT, History, read_history};
+use verdict::MapFaultKind;
 
 /// What is wrong with a map, in general: before its number, and after it.
 fn general(kind: MapFaultKind) -> Spans {

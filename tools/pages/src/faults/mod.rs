@@ -9,12 +9,12 @@ mod texts;
 use crate::drawing::FaultyDrawing;
 use crate::page::{Excerpt, Page, PageKind, Place, html_of};
 use crate::timeline::{Spans, spans};
-use crate::verdict::Fault;
 use crate::words::Words;
 use forms::explain_form;
 pub use lines::fault_lines;
 use maps::explain_map;
 use texts::{FaultyBytes, explain_text};
+use verdict::Fault;
 
 /// The explanation of a malformed text: sentences, the excerpts of the text that they name, what
 /// the text has at the fault, and the history before it.

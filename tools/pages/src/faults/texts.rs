@@ -4,8 +4,8 @@ use super::Explained;
 use super::excerpts::excerpt;
 use crate::elements::{ByteRange, Opened, innermost_open, line_of, word_at};
 use crate::timeline::{Span, spans};
-use crate::verdict::TextFaultKind;
 use import::visible;
+use verdict::TextFaultKind;
 
 /// The characters of the longest token that a sentence has.
 const TOKEN: usize = 40;

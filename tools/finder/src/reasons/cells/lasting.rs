@@ -52,12 +52,12 @@ fn candidate_of(scene: &Scene, one: &Lasting, other: &Lasting) -> Candidate {
 /// The values of which two last at one moment.
 pub fn lasting(scene: &Scene) -> Vec<Candidate> {
     let mut longest = Greatest::new();
-    let found = lasting_of(scene).into_iter().filter_map(|lasting| {
+    let candidates = lasting_of(scene).into_iter().filter_map(|lasting| {
         // another value that lasts until after this one begins to last
         let other = longest.other(lasting.content);
         let other = other.filter(|other: &Lasting| other.call.begin > lasting.from);
         longest.note(lasting);
         Some(candidate_of(scene, &lasting, &other?))
     });
-    found.take(MOST).collect()
+    candidates.take(MOST).collect()
 }

@@ -1,9 +1,10 @@
 //! Mutexes: in a window of time one is acquired, or released, more often than it can have been
 //! free, or held.
 
+use super::takers::CountExceeded;
 use super::windows::{shortest_window, starts_in, takers_in};
 use crate::cuts::{Count, Counted};
-use crate::reasons::{Candidate, Pattern, Plan};
+use crate::reasons::{Candidate, Form, Pattern, Plan, ShownBy};
 use crate::timeline::{Call, Timeline};
 
 /// The candidates of a window in which the takers take the content away too often.
@@ -15,12 +16,13 @@ fn window(takers: &[Call], setters: &[Call], counted: Counted) -> Vec<Candidate>
     let inside = takers_in(takers, window);
     let candidates = starts_in(&inside, window).into_iter().map(|start| {
         let plan = Plan {
-            until: inside.iter().map(Call::until).max(),
+            form: Form::Window { operations: Vec::new() },
             from: start.part,
-            count: Some(Count { counted, from: start.count }),
-            ..Plan::default()
+            until: inside.iter().map(Call::until).max(),
+            shown_by: ShownBy::count(Count { counted, from: start.count }),
         };
-        Candidate::without_key(Pattern::CountExceeded(counted), plan, 2 * inside.len())
+        let pattern = Pattern::CountExceeded(CountExceeded(counted));
+        Candidate::without_key(pattern, plan, 2 * inside.len())
     });
     candidates.collect()
 }
@@ -37,7 +39,8 @@ fn with_acquire(candidate: Candidate, acquires: &[Call], releases: &[Call]) -> O
     let first = releases.iter().find(|call| call.number == from)?;
     let before = acquires.iter().filter(|call| call.end < first.begin);
     let acquire = before.max_by_key(|call| call.begin)?;
-    let plan = Plan { from: Some(acquire.number), keeps_beginning: true, ..candidate.plan };
+    let shown_by = candidate.plan.shown_by.keeping_beginning();
+    let plan = Plan { from: Some(acquire.number), shown_by, ..candidate.plan };
     Some(Candidate { plan, weight: candidate.weight + 1, ..candidate })
 }
 
@@ -47,7 +50,7 @@ pub fn mutex_patterns(timeline: &Timeline) -> Vec<Candidate> {
     let (acquires, releases) = split(timeline);
     let mut candidates = window(&acquires, &releases, Counted::Free);
     let held = window(&releases, &acquires, Counted::Held).into_iter();
-    candidates.extend(held.filter_map(|it| with_acquire(it, &acquires, &releases)));
+    candidates.extend(held.filter_map(|window| with_acquire(window, &acquires, &releases)));
     candidates
 }
 

@@ -4,8 +4,34 @@
 use super::MOST;
 use super::scene::Scene;
 use crate::accesses::{Access, Cell, NOTHING, Need};
-use crate::reasons::{Candidate, Element, Pattern, Plan};
+use crate::kinds::Kind;
+use crate::reasons::pattern::Says;
+use crate::reasons::{Candidate, Chosen, Facts, Form, Pattern, Plan};
 use crate::timeline::{Call, PENDING};
+
+/// A call that is refused, and cannot have been.
+#[derive(Clone, Copy, Debug, PartialEq, Eq)]
+pub enum Refused {
+    /// A swap is refused while the value that it expects definitely is there.
+    UnderItsValue { value: i64, number: u32 },
+    /// An operation that sets a value if there is none is refused, and definitely no value was
+    /// there.
+    WithoutValue { name: &'static str, number: u32 },
+}
+
+impl Says for Refused {
+    fn sentence(&self, kind: Kind, _: Facts) -> String {
+        match *self {
+            Refused::UnderItsValue { value, number } => {
+                let swap = format!("the :{} of event {number}, which expects it", kind.swap_name());
+                format!("value {value} was definitely there when {swap}, was refused")
+            }
+            Refused::WithoutValue { name, number } => {
+                format!("no value was there when the :{name} of event {number} was refused")
+            }
+        }
+    }
+}
 
 /// A call that shows a content, and the one that begins last among those that show the same and
 /// return no later.
@@ -121,19 +147,22 @@ fn candidate_of(
     };
     let around = shown_around(scene, shown, overs, content, &access.call)?;
     let calls = around.iter().take(1).chain([&access.call]).chain(around.iter().skip(1));
-    let elements = calls.clone().map(|call| Element::Operation(call.number));
+    let operations = calls.clone().map(|call| call.number).collect();
+    let form = match scene.cell.key {
+        None => Form::Window { operations },
+        Some(key) => Form::Keys(Chosen { values: vec![key], operations }),
+    };
     let plan = Plan {
-        all_values: scene.cell.key.is_none(),
         from: around.first().map(|first| first.number),
         until: calls.clone().map(Call::until).max(),
-        ..Plan::of(scene.cell.key.map(Element::Value).into_iter().chain(elements).collect())
+        ..Plan::of(form)
     };
     let number = access.call.number;
     let pattern = match scene.value(content) {
-        Some(value) => Pattern::RefusedUnderItsValue { value, number },
-        None => Pattern::RefusedWithoutValue { name: access.call.op.name(), number },
+        Some(value) => Refused::UnderItsValue { value, number },
+        None => Refused::WithoutValue { name: access.call.op.name(), number },
     };
-    Some(scene.candidate(pattern, plan, 2))
+    Some(scene.candidate(Pattern::Refused(pattern), plan, 2))
 }
 
 /// The calls that are refused while the content that they expect definitely is there.
@@ -144,6 +173,7 @@ pub fn refusals(scene: &Scene) -> Vec<Candidate> {
     }
     let shown = all_shown(scene.cell);
     let overs = all_overs(scene.cell);
-    let found = accesses.iter().filter_map(|access| candidate_of(scene, &shown, &overs, access));
-    found.take(MOST).collect()
+    let candidates =
+        accesses.iter().filter_map(|access| candidate_of(scene, &shown, &overs, access));
+    candidates.take(MOST).collect()
 }

@@ -2,7 +2,7 @@
 
 use super::sights::{Setters, Sights};
 use crate::accesses::{Access, Cell, NOTHING, Need};
-use crate::reasons::{Candidate, Element, Pattern, Plan};
+use crate::reasons::{Candidate, Chosen, Form, Pattern, Plan};
 use crate::timeline::Call;
 
 /// The value that a call needs, if it has returned.
@@ -47,15 +47,14 @@ impl<'a> Scene<'a> {
     /// register does not tell no value from a value that is not kept: where a key is to be without
     /// a value it is kept whole, and so is a cell without values.
     pub fn plan(&self, contents: &[usize], calls: &[Call]) -> Plan {
-        let whole = self.cell.key.filter(|_| !self.has_values || contents.contains(&NOTHING));
-        let values: Vec<i64> = match whole {
-            Some(key) => vec![key],
-            None => contents.iter().filter_map(|content| self.value(*content)).collect(),
-        };
-        let values = values.into_iter().map(Element::Value);
-        let calls = calls.iter().map(|call| Element::Operation(call.number));
-        let key = if whole.is_some() { None } else { self.cell.key };
-        Plan { key, ..Plan::of(values.chain(calls).collect()) }
+        let operations = calls.iter().map(|call| call.number).collect();
+        let values = || contents.iter().filter_map(|content| self.value(*content)).collect();
+        let is_whole = !self.has_values || contents.contains(&NOTHING);
+        Plan::of(match self.cell.key {
+            None => Form::LoneCell(Chosen { values: values(), operations }),
+            Some(key) if is_whole => Form::Keys(Chosen { values: vec![key], operations }),
+            Some(key) => Form::Entry { key, chosen: Chosen { values: values(), operations } },
+        })
     }
 
     /// The candidate of a pattern.

@@ -2,6 +2,7 @@
 //! have been set.
 
 use super::MOST;
+use super::asking::Absent;
 use super::deadlines::Deadlines;
 use super::scene::{Scene, needed};
 use super::sights::Sight;
@@ -86,8 +87,8 @@ impl Story<'_> {
         let mut plan = self.scene.plan(contents, &calls);
         plan.from = first.map(|first| first.number);
         plan.until = Some(access.call.until());
-        let pattern = Pattern::Stale(self.scene.value(contents[0]));
-        self.scene.candidate(pattern, plan, 2 * calls.len())
+        let pattern = Absent::Stale(self.scene.value(contents[0]));
+        self.scene.candidate(Pattern::Absent(pattern), plan, 2 * calls.len())
     }
 
     /// What is wrong with a call that needs a value which these calls have taken away before it
@@ -140,6 +141,6 @@ pub fn seen_again(scene: &Scene) -> Vec<Candidate> {
     let deadlines = Deadlines::of(scene);
     let takers = takers_of(&deadlines, scene);
     let story = Story { scene, deadlines, takers };
-    let found = scene.cell.accesses.iter().filter_map(|access| story.wrong_with(access));
-    found.take(MOST).collect()
+    let candidates = scene.cell.accesses.iter().filter_map(|access| story.wrong_with(access));
+    candidates.take(MOST).collect()
 }

@@ -1,12 +1,65 @@
 //! Contents of a cell that are taken away more often than they are set.
 
+use super::asking::Absent;
 use super::scene::Scene;
 use super::windows::{shortest_window, starts_in, takers_in};
 use super::{MOST, MOST_NAMED};
 use crate::accesses::{Access, NOTHING, Need};
 use crate::cuts::{Count, Counted};
-use crate::reasons::{Candidate, Pattern};
+use crate::kinds::{Kind, Words};
+use crate::reasons::pattern::{General, Says, SaysOfElement};
+use crate::reasons::{Candidate, Facts, OneValue, Pattern, ShownBy};
 use crate::timeline::Call;
+
+/// A content is taken away in a time more often than it can have been there.
+#[derive(Clone, Copy, Debug, PartialEq, Eq)]
+pub struct CountExceeded(pub Counted);
+
+impl Says for CountExceeded {
+    fn sentence(&self, kind: Kind, facts: Facts) -> String {
+        let Words { put, taken, .. } = kind.words;
+        match self.0 {
+            Counted::Value(owner) if kind.has_owner() => {
+                format!("owner {owner} {taken} more often than it had {put}")
+            }
+            Counted::Value(value) | Counted::Entry { value, .. } => {
+                format!("value {value} was {taken} more often than it can have been there")
+            }
+            Counted::NoEntry(_) => {
+                "nil was seen more often than the key can have been without a value".to_owned()
+            }
+            Counted::Held => {
+                format!("the lock was {taken} more often than it can have been held")
+            }
+            Counted::Free => format!("the lock was {put} more often than it can have been free"),
+            // of this says more what was lost
+            Counted::Ahead(_) => General.sentence(kind, facts),
+        }
+    }
+}
+
+impl SaysOfElement for CountExceeded {
+    fn sentence_of_element(&self, element: i64, kind: Kind, facts: Facts) -> String {
+        let Words { put, taken, .. } = kind.words;
+        let word = kind.word;
+        match self.0 {
+            Counted::Entry { .. } => {
+                format!(
+                    "value {element} was {taken} more often than it can have been in the {word}"
+                )
+            }
+            Counted::NoEntry(_) => {
+                format!(
+                    "value {element} was {put} more often than it can have been out of the {word}"
+                )
+            }
+            // no set has these
+            Counted::Value(_) | Counted::Held | Counted::Free | Counted::Ahead(_) => {
+                General.sentence_of_element(element, kind, facts)
+            }
+        }
+    }
+}
 
 /// What of a cell is counted. `None`: a register that contains nothing, which no call counts.
 fn counted(scene: &Scene, content: usize) -> Option<Counted> {
@@ -17,14 +70,18 @@ fn counted(scene: &Scene, content: usize) -> Option<Counted> {
     }
 }
 
-/// The count, from this number on, in the part of a cell's plan, where a key of a map is a
-/// register. `None`: a search must show it, since nothing is counted at a cell without values.
-fn count_in_part(scene: &Scene, counted: Counted, from: u32) -> Option<Count> {
+/// What shows that too much of this is counted from a number on, in the part of a cell's plan,
+/// where a key of a map is a register. A search must show it of a cell without values, at which
+/// nothing is counted.
+fn shown_in_part(scene: &Scene, counted: Counted, from: u32) -> ShownBy {
     let counted = match counted {
         Counted::Entry { value, .. } => Counted::Value(value),
         _ => counted,
     };
-    scene.has_values.then_some(Count { counted, from })
+    match scene.has_values {
+        true => ShownBy::count(Count { counted, from }),
+        false => ShownBy::Search,
+    }
 }
 
 /// The content that a call takes away, by its reply.
@@ -71,19 +128,19 @@ fn is_set_again(scene: &Scene, content: usize) -> bool {
 /// What these calls, one more than have set the content, are said to do.
 fn excess_pattern(scene: &Scene, content: usize, taken: usize, counted: Counted) -> Pattern {
     match scene.value(content) {
-        Some(_) if is_set_again(scene, content) => Pattern::CountExceeded(counted),
+        Some(_) if is_set_again(scene, content) => Pattern::CountExceeded(CountExceeded(counted)),
         Some(value) if taken == 2 && scene.setters.count(content) == 1 => {
-            Pattern::TakenTwice(value)
+            Pattern::OneValue(OneValue::TakenTwice(value))
         }
-        Some(value) => Pattern::TakenTooOften { value, taken, set: taken - 1 },
-        None => Pattern::CountExceeded(counted),
+        Some(value) => Pattern::OneValue(OneValue::TakenTooOften { value, taken, set: taken - 1 }),
+        None => Pattern::CountExceeded(CountExceeded(counted)),
     }
 }
 
 /// The contents that are taken away more often, from the beginning on, than they are set.
 pub fn excesses(scene: &Scene) -> Vec<Candidate> {
     let takers = by_content(scene, taken_by);
-    let found = takers.iter().enumerate().filter_map(|(content, takers)| {
+    let candidates = takers.iter().enumerate().filter_map(|(content, takers)| {
         let counted = counted(scene, content)?;
         let taken = excess(scene, content, takers)?;
         if taken > MOST_NAMED || taken == 1 && content != NOTHING {
@@ -92,11 +149,11 @@ pub fn excesses(scene: &Scene) -> Vec<Candidate> {
         let takers = &takers[..taken];
         let mut plan = scene.plan(&[content], takers);
         plan.until = takers.last().map(Call::until);
-        plan.count = count_in_part(scene, counted, 0);
+        plan.shown_by = shown_in_part(scene, counted, 0);
         let pattern = excess_pattern(scene, content, taken, counted);
         Some(scene.candidate(pattern, plan, 2 * taken))
     });
-    found.take(MOST).collect()
+    candidates.take(MOST).collect()
 }
 
 /// The candidates of a content that is taken away in a window more often than it can have been
@@ -106,22 +163,26 @@ fn window(
     content: usize,
     takers: &[Call],
     setters: &[Call],
+    pattern: impl Fn(Option<Counted>, &Call) -> Pattern,
 ) -> Option<Vec<Candidate>> {
     let window = shortest_window(takers, setters, content == NOTHING)?;
     let inside = takers_in(takers, window);
     let counted = counted(scene, content);
-    let pattern = window_pattern(counted, inside.last()?);
+    let pattern = pattern(counted, inside.last()?);
     // What sets a register that contains nothing is kept with what it sets.
     let new = inside.iter().filter(|_| counted.is_none()).filter_map(|call| scene.set_by(call));
     let contents: Vec<usize> = [content].into_iter().chain(new).collect();
     let candidates = starts_in(&inside, window).into_iter().map(|start| {
         let mut plan = scene.plan(&contents, &inside);
         plan.until = inside.last().map(Call::until);
-        plan.from = start.part;
-        plan.count = counted.and_then(|it| count_in_part(scene, it, start.count));
-        if plan.count.is_none() {
-            plan.from = sight_before(scene, &inside);
-        }
+        plan.shown_by = match counted {
+            None => ShownBy::Search,
+            Some(counted) => shown_in_part(scene, counted, start.count),
+        };
+        plan.from = match plan.shown_by {
+            ShownBy::Search => sight_before(scene, &inside),
+            ShownBy::Count { .. } => start.part,
+        };
         scene.candidate(pattern.clone(), plan, 2 * inside.len())
     });
     Some(candidates.collect())
@@ -129,9 +190,12 @@ fn window(
 
 /// The pattern for calls, of which this is the last, that take away too often what is counted; a
 /// register that contains nothing is not.
-fn window_pattern(counted: Option<Counted>, last: &Call) -> Pattern {
+pub fn window_pattern(counted: Option<Counted>, last: &Call) -> Pattern {
     let (name, number) = (last.op.name(), last.number);
-    counted.map_or(Pattern::DoneOverValue { name, number }, Pattern::CountExceeded)
+    match counted {
+        Some(counted) => Pattern::CountExceeded(CountExceeded(counted)),
+        None => Pattern::Absent(Absent::DoneOverValue { name, number }),
+    }
 }
 
 /// The last call that shows a content and returns before all of these calls begin, so that a part
@@ -143,16 +207,19 @@ fn sight_before(scene: &Scene, calls: &[Call]) -> Option<u32> {
 }
 
 /// The contents that are set more than once and in a window taken away more often than they can
-/// have been there.
-pub fn windows(scene: &Scene) -> Vec<Candidate> {
+/// have been there; the pattern of each follows from what is counted and the last call.
+pub fn windows(
+    scene: &Scene,
+    pattern: impl Fn(Option<Counted>, &Call) -> Pattern,
+) -> Vec<Candidate> {
     let takers = by_content(scene, taken_by);
     let setters = by_content(scene, |access| access.sets);
-    let found =
+    let candidates =
         takers.iter().zip(&setters).enumerate().filter_map(|(content, (takers, setters))| {
             if takers.len() < 2 {
                 return None;
             }
-            window(scene, content, takers, setters)
+            window(scene, content, takers, setters, &pattern)
         });
-    found.take(MOST).flatten().collect()
+    candidates.take(MOST).flatten().collect()
 }

@@ -6,8 +6,27 @@ use super::MOST;
 use super::greatest::{Greatest, Item};
 use super::scene::Scene;
 use crate::accesses::{Access, NOTHING, Need};
-use crate::reasons::{Candidate, Pattern};
+use crate::kinds::{Kind, Words};
+use crate::reasons::pattern::Says;
+use crate::reasons::{Candidate, Facts, Pattern};
 use crate::timeline::Call;
+
+/// Each of two values, which are set once, is seen before the other one is.
+#[derive(Clone, Copy, Debug, PartialEq, Eq)]
+pub struct Crossing {
+    pub one: i64,
+    pub other: i64,
+}
+
+impl Says for Crossing {
+    fn sentence(&self, kind: Kind, _: Facts) -> String {
+        let Words { put, seen, .. } = kind.words;
+        let Crossing { one, other } = self;
+        format!(
+            "each of the values {one} and {other} was {seen} before the other, and each was {put} once"
+        )
+    }
+}
 
 /// Of the calls that need a content or set it the one that ends first, and the one that begins
 /// last, with their places.
@@ -105,7 +124,7 @@ fn until_of(call: &Call) -> u32 {
 /// The candidate of two contents that are each before the other.
 fn candidate_of(scene: &Scene, zones: &[Zone], contents: [usize; 2]) -> Option<Candidate> {
     let [one, other] = contents.map(|content| scene.value(content));
-    let pattern = Pattern::EachBeforeTheOther(one?, other?);
+    let pattern = Pattern::Crossing(Crossing { one: one?, other: other? });
     let ends = contents.into_iter().flat_map(|content| [zones[content].first, zones[content].last]);
     let calls: Vec<Call> = ends.flatten().map(|(_, place)| scene.call(place)).collect();
     let mut plan = scene.plan(&contents, &calls);
@@ -118,9 +137,9 @@ pub fn crossing_zones(scene: &Scene) -> Vec<Candidate> {
     let zones = zones_of(scene);
     let stays = stays_of(scene, &zones);
     let longest = all_longest(&stays);
-    let found = stays.iter().filter_map(|stay| {
+    let candidates = stays.iter().filter_map(|stay| {
         let other = crossing(&longest, stay)?;
         candidate_of(scene, &zones, [other.content, stay.content])
     });
-    found.take(MOST).collect()
+    candidates.take(MOST).collect()
 }

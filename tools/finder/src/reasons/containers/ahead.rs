@@ -15,7 +15,7 @@
 use super::runs::{Run, Runs};
 use crate::cuts::{Count, Counted};
 use crate::kinds::Gives;
-use crate::reasons::{Candidate, Element, Pattern, Plan};
+use crate::reasons::{Candidate, Chosen, Form, KeptValue, Pattern, Plan, ShownBy};
 use crate::timeline::Call;
 use crate::trees::{ABSENT, Least};
 
@@ -107,7 +107,9 @@ impl Pairs {
 
     /// Admits the pairs whose puts returned before this number.
     fn admit(&mut self, before: u32) {
-        while let Some((_, place)) = self.by_return.get(self.admitted).filter(|it| it.0 < before) {
+        while let Some((_, place)) =
+            self.by_return.get(self.admitted).filter(|(returned, _)| *returned < before)
+        {
             self.tree.set(*place, -self.leaves[*place]);
             self.admitted += 1;
         }
@@ -193,7 +195,7 @@ impl<'a> Asking<'a> {
     /// How many removals of a run, other than this one, can be before it.
     fn others(&self, run: &Run, call: &Call) -> usize {
         let removals = self.runs.removals(run);
-        removals.partition_point(|it| it.number <= call.returned).saturating_sub(1)
+        removals.partition_point(|removal| removal.number <= call.returned).saturating_sub(1)
     }
 
     /// How many pending removals can be before a call that returned.
@@ -271,7 +273,7 @@ fn answered<'a>(mut questions: Vec<Question<'a>>, pairs: &mut Pairs) -> Vec<Ques
 
 /// What was done with a value until a removal returned.
 struct Share {
-    element: Element,
+    value: KeptValue,
     /// How many of the puts that count are not taken.
     surplus: usize,
     /// How many more puts than removals the whole history has.
@@ -281,13 +283,10 @@ struct Share {
     number: u32,
 }
 
-/// The element that keeps a value from the run at this place on.
-fn element_of(own: &[Run], place: usize) -> Element {
+/// The value of these runs, kept from the run at this place on.
+fn kept_from(own: &[Run], place: usize) -> KeptValue {
     let run = &own[place];
-    match run.since {
-        Some(since) if place > 0 => Element::Since(run.value, since),
-        _ => Element::Value(run.value),
-    }
+    KeptValue { value: run.value, since: run.since.filter(|_| place > 0) }
 }
 
 impl Asking<'_> {
@@ -303,14 +302,15 @@ impl Asking<'_> {
         let counts = |put: &Call| put.returned < question.before && put.number >= question.from;
         let place = own.iter().rposition(|run| self.runs.puts(run).iter().any(counts))?;
         let rest = &own[place..];
-        let puts = rest.iter().flat_map(|run| self.runs.puts(run)).filter(|it| counts(it)).count();
+        let puts =
+            rest.iter().flat_map(|run| self.runs.puts(run)).filter(|put| counts(put)).count();
         let removals = rest.iter().flat_map(|run| self.runs.removals(run));
         let taken = removals.filter(|call| question.can_follow(call.number)).count();
         let size = |run: &Run| (run.put_count(), run.size() - run.put_count());
         let (all_puts, all_taken) =
             own.iter().map(size).fold((0, 0), |a, b| (a.0 + b.0, a.1 + b.1));
         Some(Share {
-            element: element_of(own, place),
+            value: kept_from(own, place),
             surplus: puts.checked_sub(taken).filter(|surplus| *surplus > 0)?,
             left: all_puts.checked_sub(all_taken)?,
             calls: self.calls(rest, question),
@@ -328,7 +328,7 @@ impl Asking<'_> {
         let (puts, size) =
             own.iter().fold((0, 0), |sum, run| (sum.0 + run.put_count(), sum.1 + run.size()));
         Some(Share {
-            element: element_of(own, at),
+            value: kept_from(own, at),
             surplus: 0,
             left: (2 * puts).saturating_sub(size),
             calls: self.calls(&own[at..], question),
@@ -385,7 +385,7 @@ impl Asking<'_> {
 /// The values that a candidate keeps.
 #[derive(Clone, Default)]
 struct Kept {
-    elements: Vec<Element>,
+    values: Vec<KeptValue>,
     /// How many of the puts that count are not taken.
     surplus: usize,
     /// How many more puts than removals the whole history has.
@@ -395,7 +395,7 @@ struct Kept {
 
 impl Kept {
     fn with(mut self, share: &Share) -> Kept {
-        self.elements.push(share.element);
+        self.values.push(share.value);
         self.surplus += share.surplus;
         self.left += share.left;
         self.calls += share.calls;
@@ -422,13 +422,13 @@ impl Kept {
 /// The candidate that keeps these values.
 fn candidate_of(question: &Question, kept: Kept) -> Candidate {
     let (number, weight) = (question.call.number, kept.calls + kept.pending(question));
-    let mut elements = kept.elements;
-    if question.run.is_none() {
-        elements.push(Element::Operation(number));
-    }
+    let operations = question.run.is_none().then_some(number).into_iter().collect();
     let count = Count { counted: Counted::Ahead(number), from: question.from };
-    let plan =
-        Plan { until: Some(question.call.until()), count: Some(count), ..Plan::of(elements) };
+    let plan = Plan {
+        until: Some(question.call.until()),
+        shown_by: ShownBy::count(count),
+        ..Plan::of(Form::Container(Chosen { values: kept.values, operations }))
+    };
     Candidate::without_key(Pattern::General, plan, weight)
 }
 

@@ -1,7 +1,7 @@
 //! Chains: the plans that keep the values of some runs.
 
 use super::runs::{Run, Runs};
-use crate::reasons::{Element, Plan};
+use crate::reasons::{Chosen, Form, KeptValue, Plan};
 use crate::timeline::Call;
 
 /// A value with at most this many calls is kept whole.
@@ -30,10 +30,9 @@ pub fn values_of(runs: &Runs, chain: &[usize]) -> Vec<i64> {
 /// The plan that keeps the values of these runs and these optional operations, until a number. What
 /// was done with a value before the first of its runs is left out.
 pub fn plan_of_runs(runs: &Runs, chain: &[usize], optional: &[Call], until: u32) -> Plan {
-    let values = kept_of(runs, chain).into_iter().map(|(value, since)| match since {
-        None => Element::Value(value),
-        Some(since) => Element::Since(value, since),
-    });
-    let optional = optional.iter().map(|call| Element::Operation(call.number));
-    Plan { until: Some(until), ..Plan::of(values.chain(optional).collect()) }
+    let values = kept_of(runs, chain).into_iter();
+    let values = values.map(|(value, since)| KeptValue { value, since }).collect();
+    let operations = optional.iter().map(|call| call.number).collect();
+    let form = Form::Container(Chosen { values, operations });
+    Plan { until: Some(until), ..Plan::of(form) }
 }

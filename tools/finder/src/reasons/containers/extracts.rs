@@ -4,9 +4,31 @@
 use super::chains::{plan_of_runs, values_of};
 use super::intervals::Interval;
 use super::runs::Runs;
-use crate::reasons::{Candidate, Pattern};
+use crate::kinds::Kind;
+use crate::reasons::pattern::Says;
+use crate::reasons::{Candidate, Facts, Pattern};
 use crate::timeline::Call;
 use crate::trees::{Mark, Marks};
+
+/// A value is extracted from a heap while a smaller one definitely is in it.
+#[derive(Clone, Copy, Debug, PartialEq, Eq)]
+pub enum UnderSmaller {
+    /// It is this one all the time.
+    One { taken: i64, smaller: i64 },
+    /// At each moment it is some.
+    Several { taken: i64 },
+}
+
+impl Says for UnderSmaller {
+    fn sentence(&self, kind: Kind, _: Facts) -> String {
+        let (word, seen) = (kind.word, kind.words.seen);
+        let (taken, smaller) = match *self {
+            UnderSmaller::One { taken, smaller } => (taken, format!("the smaller value {smaller}")),
+            UnderSmaller::Several { taken } => (taken, "some smaller value".to_owned()),
+        };
+        format!("value {taken} was {seen} while {smaller} was definitely in the {word}")
+    }
+}
 
 /// The most candidates.
 const MOST: usize = 4;
@@ -75,10 +97,10 @@ fn find_covered<'a>(runs: &'a Runs, intervals: &[Interval]) -> Vec<Covered<'a>> 
 pub fn extracts(runs: &Runs, intervals: &[Interval]) -> Vec<Candidate> {
     let covered = find_covered(runs, intervals).into_iter().take(MOST);
     let candidates = covered.map(|Covered { weight, value: taken, call, chain }| {
-        let pattern = match values_of(runs, &chain)[..] {
-            [smaller, _] => Pattern::UnderSmaller { taken, smaller },
-            _ => Pattern::UnderSmallerOnes(taken),
-        };
+        let pattern = Pattern::UnderSmaller(match values_of(runs, &chain)[..] {
+            [smaller, _] => UnderSmaller::One { taken, smaller },
+            _ => UnderSmaller::Several { taken },
+        });
         let plan = plan_of_runs(runs, &chain, &[], call.until());
         Candidate::without_key(pattern, plan, weight)
     });

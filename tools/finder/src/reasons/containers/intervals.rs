@@ -3,9 +3,25 @@
 
 use super::chains::plan_of_runs;
 use super::runs::{Run, Runs};
-use crate::reasons::{Candidate, Pattern};
+use crate::kinds::Kind;
+use crate::reasons::pattern::Says;
+use crate::reasons::{Candidate, Facts, Pattern};
 use crate::timeline::Call;
 use crate::trees::Mark;
+
+/// The operation of this number finds nothing, and at each moment of it some value definitely is in
+/// the object.
+#[derive(Clone, Copy, Debug, PartialEq, Eq)]
+pub struct SurelyNotEmpty {
+    pub number: u32,
+}
+
+impl Says for SurelyNotEmpty {
+    fn sentence(&self, kind: Kind, _: Facts) -> String {
+        let (word, number) = (kind.word, self.number);
+        format!("the {word} was definitely not empty when event {number} found nothing")
+    }
+}
 
 /// The most candidates of one pattern.
 const MOST: usize = 4;
@@ -162,7 +178,7 @@ pub fn empties(runs: &Runs, intervals: &[Interval]) -> Vec<Candidate> {
         let call = runs.empties[place];
         let chain = chain_over(&reach, &call, &mut links)?;
         let plan = plan_of_runs(runs, &chain, &[call], call.until());
-        let pattern = Pattern::SurelyNotEmpty { number: call.number };
+        let pattern = Pattern::SurelyNotEmpty(SurelyNotEmpty { number: call.number });
         Some(Candidate::without_key(pattern, plan, weight + 1))
     });
     candidates.collect()

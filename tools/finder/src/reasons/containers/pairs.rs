@@ -2,9 +2,46 @@
 
 use super::chains::plan_of_runs;
 use super::runs::Runs;
-use crate::reasons::{Candidate, Pattern};
+use crate::kinds::{Gives, Kind, Words};
+use crate::reasons::pattern::Says;
+use crate::reasons::{Candidate, Facts, Pattern};
 use crate::timeline::PENDING;
 use crate::trees::{Mark, Marks};
+
+/// The first value is put in before the second one, and they leave in the wrong order.
+#[derive(Clone, Copy, Debug, PartialEq, Eq)]
+pub enum WrongPair {
+    /// A queue gives the second before the first, a stack the first before the second, which was
+    /// pushed on it.
+    Order { first: i64, second: i64 },
+    /// A queue gives the second, and the first is not taken by any call that is invoked by then.
+    LeftBehind { first: i64, second: i64 },
+    /// A stack gives the first, and the second is not taken by any call that is invoked by then.
+    LeftAbove { first: i64, second: i64 },
+}
+
+impl Says for WrongPair {
+    fn sentence(&self, kind: Kind, _: Facts) -> String {
+        let Words { put, seen, .. } = kind.words;
+        let word = kind.word;
+        match *self {
+            WrongPair::Order { first, second } if kind.gives() == Some(Gives::Last) => {
+                format!("value {first} was {seen} before value {second}, which was {put} on it")
+            }
+            WrongPair::Order { first, second } => {
+                format!("value {first} was {put} before value {second} and {seen} after it")
+            }
+            WrongPair::LeftBehind { first, second } => {
+                let first = format!("value {first}, which was {put} before it");
+                format!("value {second} was {seen} while {first}, was still in the {word}")
+            }
+            WrongPair::LeftAbove { first, second } => {
+                let second = format!("value {second}, which was {put} on it");
+                format!("value {first} was {seen} while {second}, was still in the {word}")
+            }
+        }
+    }
+}
 
 /// The most candidates of one pattern.
 const MOST: usize = 8;
@@ -61,10 +98,10 @@ fn queue_candidate(runs: &Runs, one: &Pair, other: &Pair) -> Candidate {
     let plan = plan_of_runs(runs, &[one.place, other.place], &[], other.until);
     let (first, second) = (one.value, other.value);
     let pattern = match if_returned(one.gone) {
-        None => Pattern::LeftBehind { first, second },
-        Some(_) => Pattern::WrongOrder { first, second },
+        None => WrongPair::LeftBehind { first, second },
+        Some(_) => WrongPair::Order { first, second },
     };
-    Candidate::without_key(pattern, plan, 4)
+    Candidate::without_key(Pattern::WrongPair(pattern), plan, 4)
 }
 
 /// The candidate of two values, of which the first is taken too early from a stack.
@@ -72,10 +109,10 @@ fn stack_candidate(runs: &Runs, one: &Pair, other: &Pair) -> Candidate {
     let plan = plan_of_runs(runs, &[one.place, other.place], &[], one.until);
     let (first, second) = (one.value, other.value);
     let pattern = match if_returned(other.gone) {
-        None => Pattern::LeftAbove { first, second },
-        Some(_) => Pattern::WrongOrder { first, second },
+        None => WrongPair::LeftAbove { first, second },
+        Some(_) => WrongPair::Order { first, second },
     };
-    Candidate::without_key(pattern, plan, 4)
+    Candidate::without_key(Pattern::WrongPair(pattern), plan, 4)
 }
 
 /// Two values of a queue, of which the second is put in after the first and taken before it: of
@@ -85,7 +122,7 @@ pub fn queue_pairs(runs: &Runs) -> Vec<Candidate> {
     let mut ended = by_time(&pairs, |pair| if_returned(pair.put_end)).into_iter().peekable();
     let mut latest = Mark::NONE;
     let begun = by_time(&pairs, |pair| Some(pair.put_begin)).into_iter();
-    let found = begun.filter_map(|(begin, place)| {
+    let candidates = begun.filter_map(|(begin, place)| {
         while let Some((_, place)) = ended.next_if(|(end, _)| *end <= begin) {
             latest = latest.greater(Mark { at: pairs[place].leaves, place });
         }
@@ -93,7 +130,7 @@ pub fn queue_pairs(runs: &Runs) -> Vec<Candidate> {
         (second.gone <= latest.at && first.value != second.value)
             .then(|| queue_candidate(runs, first, second))
     });
-    found.take(MOST).collect()
+    candidates.take(MOST).collect()
 }
 
 /// Two values of a stack, of which the second is put on the first, and the first is taken before
@@ -105,7 +142,7 @@ pub fn stack_pairs(runs: &Runs) -> Vec<Candidate> {
     let mut ended = by_time(&pairs, |pair| if_returned(pair.put_end)).into_iter().peekable();
     let mut pushed = Marks::new(end); // by the begins of their puts
     let leaving = by_time(&pairs, |pair| if_returned(pair.gone).map(|_| pair.leaves)).into_iter();
-    let found = leaving.filter_map(|(leaves, place)| {
+    let candidates = leaving.filter_map(|(leaves, place)| {
         while let Some((_, place)) = ended.next_if(|(end, _)| *end <= leaves) {
             let pair = &pairs[place];
             pushed.raise(pair.put_begin as usize, Mark { at: pair.leaves, place });
@@ -116,5 +153,5 @@ pub fn stack_pairs(runs: &Runs) -> Vec<Candidate> {
         (latest.at >= first.gone && first.value != second.value)
             .then(|| stack_candidate(runs, first, second))
     });
-    found.take(MOST).collect()
+    candidates.take(MOST).collect()
 }

@@ -4,7 +4,7 @@
 use super::chains::{FEW_CALLS, plan_of_runs};
 use super::runs::{Run, Runs};
 use crate::cuts::{Count, Counted};
-use crate::reasons::{Candidate, Pattern};
+use crate::reasons::{Candidate, OneValue, Pattern, ShownBy};
 use crate::timeline::Call;
 
 /// The most candidates of this kind.
@@ -37,27 +37,27 @@ fn chain_with_puts(runs: &Runs, place: usize) -> Vec<usize> {
 
 /// What is wrong with a value that is put in `puts` times in all, when `taken` removals of it have
 /// returned, one more than puts have begun.
-fn pattern_of(value: i64, puts: usize, taken: usize) -> Pattern {
+fn pattern_of(value: i64, puts: usize, taken: usize) -> OneValue {
     match (puts, taken) {
-        (0, _) => Pattern::NeverSet(value),
-        (_, 1) => Pattern::TooEarly(value),
-        (1, 2) => Pattern::TakenTwice(value),
-        _ => Pattern::TakenTooOften { value, taken, set: taken - 1 },
+        (0, _) => OneValue::NeverSet(value),
+        (_, 1) => OneValue::TooEarly(value),
+        (1, 2) => OneValue::TakenTwice(value),
+        _ => OneValue::TakenTooOften { value, taken, set: taken - 1 },
     }
 }
 
 /// The values that are taken more often than they are put in. A count shows it.
 pub fn singles(runs: &Runs) -> Vec<Candidate> {
-    let found = runs.runs.iter().enumerate().filter_map(|(place, run)| {
+    let candidates = runs.runs.iter().enumerate().filter_map(|(place, run)| {
         let (before, removal) = excess(runs, run)?;
         let elsewhere = puts_elsewhere(runs, place);
         let pattern = pattern_of(run.value, elsewhere + run.put_count(), elsewhere + before + 1);
         let chain = chain_with_puts(runs, place);
         let size: usize = runs.weight_of(&chain);
         let mut plan = plan_of_runs(runs, &chain, &[], removal.until());
-        plan.keeps_beginning = size <= FEW_CALLS;
-        plan.count = Some(Count { counted: Counted::Value(run.value), from: 0 });
-        Some(Candidate::without_key(pattern, plan, size))
+        let count = Count { counted: Counted::Value(run.value), from: 0 };
+        plan.shown_by = ShownBy::Count { count, keeps_beginning: size <= FEW_CALLS };
+        Some(Candidate::without_key(Pattern::OneValue(pattern), plan, size))
     });
-    found.take(MOST).collect()
+    candidates.take(MOST).collect()
 }

@@ -1,6 +1,8 @@
-//! What the proved program said of the texts, read from its lines.
+//! What the verifier said of the texts.
 
+use crate::Line;
 use finder::Reply;
+use std::str::Lines;
 
 /// What is wrong with a text that spells no forms.
 #[derive(Clone, Copy, Debug, PartialEq, Eq)]
@@ -67,7 +69,7 @@ pub enum Which {
 }
 
 impl Which {
-    pub(crate) fn word(self) -> &'static str {
+    pub fn word(self) -> &'static str {
         match self {
             Which::History => "history",
             Which::Certificates => "certificates",
@@ -134,6 +136,17 @@ pub enum Answer {
     Open,
 }
 
+impl Answer {
+    pub fn word(self) -> &'static str {
+        match self {
+            Answer::Impossible => "impossible",
+            Answer::OutOfSteps => "out of steps",
+            Answer::OutOfMemory => "out of memory",
+            Answer::Open => "open",
+        }
+    }
+}
+
 /// What the proved program said.
 #[derive(Clone, Debug, PartialEq, Eq)]
 pub enum Verdict {
@@ -161,7 +174,7 @@ pub enum Asked {
 
 impl TextFaultKind {
     /// The number after the letter E.
-    pub(crate) fn number(self) -> u8 {
+    pub fn number(self) -> u8 {
         self as u8 + 1
     }
 
@@ -185,7 +198,7 @@ impl TextFaultKind {
 
 impl MapFaultKind {
     /// The number after the letter H.
-    pub(crate) fn number(self) -> u8 {
+    pub fn number(self) -> u8 {
         self as u8 + 1
     }
 
@@ -208,7 +221,7 @@ impl MapFaultKind {
 
 impl FormFaultKind {
     /// The number after the letter K.
-    pub(crate) fn number(self) -> u8 {
+    pub fn number(self) -> u8 {
         self as u8 + 1
     }
 
@@ -220,7 +233,7 @@ impl FormFaultKind {
 
 impl Fault {
     /// `E4 at byte 19`, `H8 at map 2` or `K1 at form 0`.
-    fn read(which: Which, words: &str) -> Option<Fault> {
+    pub(crate) fn read(which: Which, words: &str) -> Option<Fault> {
         let (code, place) = words.split_once(" at ")?;
         let (letter, number) = code.split_at_checked(1)?;
         let number = number.parse().ok()?;
@@ -237,7 +250,7 @@ impl Fault {
     }
 
     /// As `E4`.
-    pub(crate) fn code(self) -> String {
+    pub fn code(self) -> String {
         match self {
             Fault::Text { kind, .. } => format!("E{}", kind.number()),
             Fault::Map { kind, .. } => format!("H{}", kind.number()),
@@ -272,16 +285,16 @@ fn reply(words: &str) -> Option<Reply> {
 impl OrderFault {
     /// As `C5` and `4 returned before 2 was invoked`.
     fn read(code: &str, words: &str) -> Option<OrderFault> {
-        let (op, said) = words.split_once(' ')?;
+        let (op, rest) = words.split_once(' ')?;
         let op: i64 = op.parse().ok()?;
         Some(match code {
             "C3" => OrderFault::UnknownOperation { op },
             "C4" => OrderFault::Repeated { op },
             "C5" => {
-                let by = said.strip_prefix("returned before ")?.strip_suffix(" was invoked")?;
+                let by = rest.strip_prefix("returned before ")?.strip_suffix(" was invoked")?;
                 OrderFault::TooLate { op, by: by.parse().ok()? }
             }
-            "C6" => OrderFault::WrongReply { op, gives: reply(said.strip_prefix("gives ")?)? },
+            "C6" => OrderFault::WrongReply { op, gives: reply(rest.strip_prefix("gives ")?)? },
             "C7" => OrderFault::Omitted { op: op.try_into().ok()? },
             "C9" => OrderFault::NotPossible { op },
             _ => return None,
@@ -290,11 +303,36 @@ impl OrderFault {
 }
 
 impl Refusal {
+    /// As `C5`.
+    pub fn code(&self) -> &'static str {
+        match self {
+            Refusal::NoCertificate { .. } => "C1",
+            Refusal::StrangeObject { .. } => "C2",
+            Refusal::BadOrder { fault, .. } => match fault {
+                OrderFault::UnknownOperation { .. } => "C3",
+                OrderFault::Repeated { .. } => "C4",
+                OrderFault::TooLate { .. } => "C5",
+                OrderFault::WrongReply { .. } => "C6",
+                OrderFault::Omitted { .. } => "C7",
+                OrderFault::NotPossible { .. } => "C9",
+            },
+        }
+    }
+
+    /// The object that it names.
+    pub fn object(&self) -> u32 {
+        match *self {
+            Refusal::NoCertificate { object }
+            | Refusal::StrangeObject { object }
+            | Refusal::BadOrder { object, .. } => object,
+        }
+    }
+
     /// What follows `no: `.
-    fn read(words: &str) -> Option<Refusal> {
+    pub(crate) fn read(words: &str) -> Option<Refusal> {
         let (code, rest) = words.split_once(" object ")?;
-        if let Some((object, said)) = rest.split_once(": ") {
-            let fault = OrderFault::read(code, said)?;
+        if let Some((object, fault)) = rest.split_once(": ") {
+            let fault = OrderFault::read(code, fault)?;
             return Some(Refusal::BadOrder { object: object.parse().ok()?, fault });
         }
         let object = rest.split(' ').next()?.parse().ok()?;
@@ -306,68 +344,45 @@ impl Refusal {
     }
 }
 
-/// As `; object 3: out of steps after 10`.
-fn answer_in(line: &str) -> Option<(u32, Answer)> {
-    let (object, said) = line.strip_prefix("; object ")?.split_once(": ")?;
-    let answer = match said {
-        "impossible" => Answer::Impossible,
-        "out of memory" => Answer::OutOfMemory,
-        "open" => Answer::Open,
-        _ => {
-            let _steps: u64 = said.strip_prefix("out of steps after ")?.parse().ok()?;
-            Answer::OutOfSteps
-        }
-    };
-    Some((object.parse().ok()?, answer))
-}
-
-/// The first of two counts with these nouns, as `3 operations, 1 objects`, if these words are such.
-fn first_count(words: &str, first: &str, second: &str) -> Option<u64> {
-    let count = |words: &str, noun: &str| words.strip_suffix(noun)?.strip_suffix(' ')?.parse().ok();
-    let (one, other) = words.split_once(", ")?;
-    let _other: u64 = count(other, second)?;
-    count(one, first)
-}
-
 /// What the lines of a yes say: the counts of the history, and then those of each kind. `None`:
 /// they are none.
-fn yes_in(lines: &str) -> Option<Verdict> {
-    let mut lines = lines.lines();
-    let operations = first_count(lines.next()?.strip_prefix("yes: ")?, "operations", "objects")?;
-    let is_of_kind = |line: &str| {
-        let counts = line.split_once(": ").map_or("", |it| it.1);
-        first_count(counts, "objects", "operations").is_some()
+fn yes_in(operations: u64, mut rest: Lines<'_>) -> Option<Verdict> {
+    let are_of_kinds = rest.all(|line| Line::read(line) == Some(Line::Kind));
+    are_of_kinds.then_some(Verdict::Yes { operations })
+}
+
+/// What these lines say of objects.
+fn answers_in(lines: &str) -> Vec<(u32, Answer)> {
+    let answer = |line| match Line::read(line)? {
+        Line::Object { object, answer, .. } => Some((object, answer)),
+        _ => None,
     };
-    lines.all(is_of_kind).then_some(Verdict::Yes { operations })
+    lines.lines().filter_map(answer).collect()
 }
 
 impl Verdict {
     /// Reads the lines of a judgement or a check. `None`: they are none.
     pub fn read(lines: &str) -> Option<Verdict> {
-        let first = lines.lines().next()?;
-        let is_one_line = lines.lines().count() == 1;
-        let (code, words) = first.split_once(": ").unwrap_or((first, ""));
-        let verdict = match code {
-            "yes" => return yes_in(lines),
-            "no" => Refusal::read(words).map(Verdict::No),
-            "out of memory" => Some(Verdict::NoMemory),
-            "malformed history" => Fault::read(Which::History, words).map(Verdict::Malformed),
-            "malformed certificates" => {
-                Fault::read(Which::Certificates, words).map(Verdict::Malformed)
-            }
-            "malformed evidence" => Some(Verdict::MalformedEvidence),
-            _ => {
-                answer_in(first)?;
-                return Some(Verdict::Judged(lines.lines().filter_map(answer_in).collect()));
-            }
+        let mut rest = lines.lines();
+        let verdict = match Line::read(rest.next()?)? {
+            Line::Yes { operations } => return yes_in(operations, rest),
+            Line::Object { .. } => return Some(Verdict::Judged(answers_in(lines))),
+            Line::No(refusal) => Verdict::No(refusal),
+            Line::Malformed(fault) => Verdict::Malformed(fault),
+            Line::MalformedEvidence => Verdict::MalformedEvidence,
+            Line::NoMemory => Verdict::NoMemory,
+            Line::Kind | Line::Operation(_) | Line::Reason(_) | Line::Sentence(_) => return None,
         };
-        verdict.filter(|_| is_one_line)
+        rest.next().is_none().then_some(verdict)
     }
 
-    /// Whether some object has no valid order.
-    fn has_impossible(&self) -> bool {
-        let is_impossible = |it: &(u32, Answer)| it.1 == Answer::Impossible;
-        matches!(self, Verdict::Judged(answers) if answers.iter().any(is_impossible))
+    /// Whether this is the answer for some object.
+    pub fn has(&self, answer: Answer) -> bool {
+        match self {
+            Verdict::Judged(answers) => answers.iter().any(|(_, own)| *own == answer),
+            Verdict::Yes { .. } | Verdict::No(_) | Verdict::Malformed(_) => false,
+            Verdict::MalformedEvidence | Verdict::NoMemory => false,
+        }
     }
 
     /// The exit status with which this command says it, as the table of docs/commands.md has it.
@@ -375,7 +390,9 @@ impl Verdict {
     pub fn status(&self, asked: Asked) -> Option<u8> {
         match (self, asked) {
             (Verdict::Yes { .. }, _) => Some(0),
-            (Verdict::Judged(_), Asked::Verify) => Some(if self.has_impossible() { 1 } else { 3 }),
+            (Verdict::Judged(_), Asked::Verify) => {
+                Some(if self.has(Answer::Impossible) { 1 } else { 3 })
+            }
             (Verdict::No(_), Asked::Check) => Some(1),
             (Verdict::Malformed(fault), _) => {
                 let is_read = asked == Asked::Check || fault.which() == Which::History;
@@ -386,6 +403,26 @@ impl Verdict {
             | (Verdict::No(_), Asked::Verify) => None,
         }
     }
+}
+
+/// How the lines of an answer of `verify` with this status begin.
+fn beginnings(status: u8) -> &'static [&'static str] {
+    match status {
+        0 => &["yes: "],
+        1 => &["; object "],
+        2 => &["malformed history: "],
+        3 => &["; object ", "malformed evidence: ", "out of memory\n"],
+        _ => &[],
+    }
+}
+
+/// Whether an answer of `verify` with this status, which has so many bytes, can begin with these.
+pub fn can_begin(status: u8, bytes: &[u8], length: usize) -> bool {
+    let begins = |with: &&str| {
+        let shown = bytes.len().min(with.len());
+        length >= with.len() && bytes[..shown] == with.as_bytes()[..shown]
+    };
+    beginnings(status).iter().any(begins)
 }
 
 #[cfg(test)]
@@ -444,6 +481,21 @@ mod tests {
         ] {
             assert_eq!(Verdict::read(lines), None, "{lines}");
         }
+    }
+
+    #[test]
+    fn a_beginning_fits_some_statuses() {
+        let fitting = |bytes: &[u8], length| -> Vec<u8> {
+            (0..=70).filter(|status| can_begin(*status, bytes, length)).collect()
+        };
+        assert_eq!(fitting(b"", 60), [0, 1, 2, 3]);
+        assert_eq!(fitting(b"; obj", 60), [1, 3]);
+        assert_eq!(fitting(b"malformed ", 60), [2, 3]);
+        assert_eq!(fitting(b"malformed history: H8", 60), [2]);
+        assert_eq!(fitting(b"out of memory\n", 14), [3]);
+        assert_eq!(fitting(b"yes: 1 op", 60), [0]);
+        assert_eq!(fitting(b"yes", 4), []);
+        assert_eq!(fitting(b"", 0), []);
     }
 
     #[test]
