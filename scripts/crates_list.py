@@ -7,7 +7,7 @@ LIST = f"{TOP}/crates.txt"
 # The crate of each program, and of the proved half of the library.
 CRATES = {"verifier": "verifier", "bench": "fcbench", "library": "embedding"}
 # The file that says which version it is, and which logic proves it.
-VERSION = "crates/file_commands/src/host.rt"
+VERSION = "crates/history_commands/src/version.rt"
 
 
 def line_of_each_crate(top=TOP):

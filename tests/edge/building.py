@@ -11,7 +11,7 @@ import sys
 import time
 
 from .running import EXAMPLES, OF_TOOLS, ROOT, SECONDS
-from .stub_checkout import LOGIC, Checkout
+from .stub_checkout import CRATES, LOGIC, Checkout
 from .words import COMMANDS
 
 sys.path.insert(0, f"{ROOT}/scripts")
@@ -35,6 +35,7 @@ def proved_checkout(program, name):
     built = f"{program.folder}/built"
     if not os.path.exists(built):
         first = Checkout(built)
+        first.run("crates/build")
         first.run("callers/build")
         first.run("tools/build")
         first.calls()
@@ -70,17 +71,17 @@ def put_elsewhere_built(made, path):
 # What is done to a checkout in which all is built; what is called then; and the code of which the answer is.
 CHANGES_OF_PROVED = (
     ("nothing", lambda made: None, [], "1"),
-    ("a source", lambda made: made.write("crates/fcbench/src/mark", "2"), ["ci"], "2"),
-    ("a source with an old time", lambda made: put_old(made, "crates/fcbench/src/mark", "2"), ["ci"], "2"),
-    ("the time of a source", lambda made: made.write("crates/fcbench/src/mark", "1"), [], "1"),
+    ("a source", lambda made: made.write("crates/verifier/src/mark", "2"), ["ci"], "2"),
+    ("a source with an old time", lambda made: put_old(made, "crates/verifier/src/mark", "2"), ["ci"], "2"),
+    ("the time of a source", lambda made: made.write("crates/verifier/src/mark", "1"), [], "1"),
     ("a source of a crate below", lambda made: put_old(made, "crates/low/src/lib.rt", "lower\n"), ["ci"], "1"),
     ("a new file", lambda made: put_old(made, "crates/low/proofs/New.antt", ""), ["ci"], "1"),
-    ("crates.txt", lambda made: put_old(made, "crates.txt", "low: seq\nfcbench: low\nembedding staticlib: low\n"), ["ci"], "1"),
-    ("a comment in crates.txt", lambda made: made.write("crates.txt", "# Low\nlow:\nfcbench: low\nembedding staticlib: low\n"), [], "1"),
-    ("the program, to a script", lambda made: put_foreign(made, "crates/fcbench/out/fcbench"), ["ci"], "1"),
-    ("the program, to one with a record", lambda made: put_elsewhere_built(made, "crates/fcbench/out/fcbench"), ["ci"], "1"),
-    ("the record, which is gone", lambda made: os.remove(f"{made.top}/crates/fcbench/out/fcbench.sha256"), ["ci"], "1"),
-    ("the program, which is gone", lambda made: os.remove(f"{made.top}/crates/fcbench/out/fcbench"), ["ci"], "1"),
+    ("crates.txt", lambda made: put_old(made, "crates.txt", CRATES.replace("low: history_commands", "low: history_commands seq")), ["ci"], "1"),
+    ("a comment in crates.txt", lambda made: made.write("crates.txt", f"# Low\n{CRATES}"), [], "1"),
+    ("the program, to a script", lambda made: put_foreign(made, "crates/verifier/out/verifier"), ["ci"], "1"),
+    ("the program, to one with a record", lambda made: put_elsewhere_built(made, "crates/verifier/out/verifier"), ["ci"], "1"),
+    ("the record, which is gone", lambda made: os.remove(f"{made.top}/crates/verifier/out/verifier.sha256"), ["ci"], "1"),
+    ("the program, which is gone", lambda made: os.remove(f"{made.top}/crates/verifier/out/verifier"), ["ci"], "1"),
 )
 
 
@@ -89,11 +90,25 @@ def proved_by_content(program, report):
     for number, (changed, change, calls, code) in enumerate(CHANGES_OF_PROVED):
         made = proved_checkout(program, f"proved_{number}")
         change(made)
-        is_proved = made.run("crates/build", "--is-proved").returncode == 0
+        is_proved = made.run("crates/build", "--is-proved", "verifier").returncode == 0
         report.equal(f"building: is proved, after a change of {changed}", not calls, is_proved)
         report.equal(f"building: what is called, after a change of {changed}", calls, [call for call in builds_of(made) if call == "ci"])
         report.equal(f"building: the answer, after a change of {changed}", answers(code), made.answer("check", "h", "c"))
         report.equal(f"building: once more, after a change of {changed}", [], made.calls())
+
+
+def each_program_alone(program, report):
+    """A command builds the proved program that has it, and not the other one; each is current by its own sources."""
+    made = checkout(program, "alone")
+    report.equal("building: a check builds the verifier", answers("1"), made.answer("check", "h", "c"))
+    there = [os.path.exists(f"{made.top}/crates/{path}") for path in ("verifier/out/verifier", "fcbench/out", "embedding/out")]
+    report.equal("building: a check builds no bench and no library", [True, False, False], there)
+    ran = made.answer("run", "--calls", "1")
+    report.equal("building: run builds the bench, and is done by it", (0, "bench  1: run --calls 1\n"), ran)
+    made.calls()
+    made.write("crates/fcbench/src/mark", "2")
+    report.equal("building: a change of the bench proves no verifier", (answers("1"), []), (made.answer("check", "h", "c"), made.calls()))
+    report.equal("building: it proves the bench", (0, "bench  2: simulate s\n"), made.answer("simulate", "s"))
 
 
 def builds_of(made):
@@ -105,32 +120,32 @@ def builds_of(made):
 def unproved_by_content(program, report):
     """The unproved program is current in the same way."""
     made = checkout(program, "unproved")
-    out = "crates/fcbench/out/unproved"
+    out = "crates/verifier/out/unproved"
     for changed, change, calls in (
         ("that it is missing", lambda: None, ["try"]),
         ("nothing", lambda: None, []),
-        ("a source with an old time", lambda: put_old(made, "crates/fcbench/src/mark", "2"), ["try"]),
+        ("a source with an old time", lambda: put_old(made, "crates/verifier/src/mark", "2"), ["try"]),
         ("the program, to a script", lambda: put_foreign(made, out), ["try"]),
         ("the program, to one with a record", lambda: put_elsewhere_built(made, out), ["try"]),
     ):
         change()
-        ran = made.run("crates/build", "--unproved")
+        ran = made.run("crates/build", "--unproved", "verifier")
         report.equal(f"building: the unproved program, after a change of {changed}", (0, calls), (ran.returncode, made.calls()), ran)
 
 
 def no_old_program(program, report):
     """If the verifier cannot be proved, ./fcbench ends with 70 and a message, and starts no old program."""
-    old = lambda made: made.write("crates/fcbench/src/mark", "2")  # noqa: E731
+    old = lambda made: made.write("crates/verifier/src/mark", "2")  # noqa: E731
     for number, (what, prepare, says) in enumerate(
         (
             ("rt ci fails", lambda made: made.of_kit("ci.first", "exit 1"), "not proved: "),
             ("rt ci leaves no program", lambda made: made.of_kit("ci.first", "exit 0"), "not built: "),
             ("the kit is of another logic", lambda made: made.of_kit("logic", LOGIC[::-1]), "the kit is of another logic than "),
             ("HANDLES is missing", lambda made: os.remove(f"{made.top}/HANDLES"), "not built: "),
-            ("the code names no logic", lambda made: made.write("crates/fcbench/src/main.rt", "//"), "says in another way which logic "),
+            ("the code names no logic", lambda made: made.write("crates/history_commands/src/version.rt", "//"), "says in another way which logic "),
             (
                 "a source is changed meanwhile",
-                lambda made: made.of_kit("ci.first", f"echo 3 >{made.top}/crates/fcbench/src/mark"),
+                lambda made: made.of_kit("ci.first", f"echo 3 >{made.top}/crates/verifier/src/mark"),
                 "the code was changed meanwhile",
             ),
         )
@@ -141,7 +156,7 @@ def no_old_program(program, report):
         ran = made.run("fcbench", "split", "h", "into")
         is_well = (ran.returncode, ran.stdout) == (70, "") and says in ran.stderr
         report.holds(f"building: {what}: 70, and no old program", is_well, ran)
-        report.holds(f"building: {what}: it is not proved", made.run("crates/build", "--is-proved").returncode != 0)
+        report.holds(f"building: {what}: it is not proved", made.run("crates/build", "--is-proved", "verifier").returncode != 0)
     made.of_kit("ci.first", "")
     report.equal("building: after a change meanwhile it is proved again", (0, "verifier  3: split h into\n"), made.answer("split", "h", "into"))
 
@@ -150,13 +165,13 @@ def changed_while_tools_are_built(program, report):
     """If the code of the verifier is changed while the tools are built, ./fcbench starts no program of the old code."""
     made = proved_checkout(program, "meanwhile")
     made.write("tools/finder/src/mark", "2")
-    made.of_kit("cargo.first", f"echo 2 >{made.top}/crates/fcbench/src/mark")
+    made.of_kit("cargo.first", f"echo 2 >{made.top}/crates/verifier/src/mark")
     ran = made.run("fcbench", "split", "h", "into")
     report.equal("building: a change while the tools are built", (0, "verifier  2: split h into\n"), (ran.returncode, ran.stdout), ran)
     calls = [call for call in made.calls() if call in ("cargo", "ci")]
     report.equal("building: it is proved after that, and the tools are built once", ["cargo", "ci"], calls)
     made = checkout(program, "meanwhile_at_first")
-    made.of_kit("cargo.first", f"echo 2 >{made.top}/crates/fcbench/src/mark")
+    made.of_kit("cargo.first", f"echo 2 >{made.top}/crates/verifier/src/mark")
     ran = made.run("fcbench", "split", "h", "into")
     is_well = (ran.returncode, ran.stdout) == (70, "") and "the code was changed meanwhile" in ran.stderr
     report.holds("building: a change while the tools are built after the first proof", is_well, ran)
@@ -166,7 +181,7 @@ def another_logic_unproved(program, report):
     """A kit of another logic builds nothing, without proofs too."""
     made = checkout(program, "logic")
     made.of_kit("logic", LOGIC[::-1])
-    ran = made.run("crates/build", "--unproved")
+    ran = made.run("crates/build", "--unproved", "verifier")
     report.holds("building: the kit is of another logic", ran.returncode == 70 and f"another logic than {LOGIC}" in ran.stderr, ran)
     report.equal("building: a kit of another logic is not called", [], made.calls())
 
@@ -175,7 +190,7 @@ def find_that_fails(program, report):
     """A `find` that fails hides no change."""
     made = proved_checkout(program, "find")
     made.program(f"{made.kit}/bin/find", "#!/bin/sh\nexit 1\n")
-    made.write("crates/fcbench/src/mark", "2")
+    made.write("crates/verifier/src/mark", "2")
     made.write("tools/finder/src/mark", "2")
     report.equal("building: a find that fails hides no change of the verifier", answers("2"), made.answer("check", "h", "c"))
     report.equal("building: a find that fails hides no change of the tools", (0, "tools 2: find h\n"), made.answer("find", "h"))
@@ -231,9 +246,9 @@ def library_by_content(program, report):
 def older_build_of_rattle(program, report):
     """The program as Rattle's own compiler builds it is there only if the last proof made one."""
     made = checkout(program, "by_rattle")
-    out = "crates/fcbench/out/fcbench.by-rattle"
-    for code, first, is_there in (("1", f"(cd crates/fcbench && program verifier {out[len('crates/fcbench/'):]})", True), ("2", "", False)):
-        made.write("crates/fcbench/src/mark", code)
+    out = "crates/verifier/out/verifier.by-rattle"
+    for code, first, is_there in (("1", f"(cd crates/verifier && program verifier {out[len('crates/verifier/'):]})", True), ("2", "", False)):
+        made.write("crates/verifier/src/mark", code)
         made.of_kit("ci.first", first)
         ran = made.run("crates/build")
         there = [os.path.exists(f"{made.top}/{path}") for path in (out, f"{out}.sha256")]
@@ -245,7 +260,7 @@ def installed_whole(program, report):
     made, prefix = proved_checkout(program, "whole"), f"{program.folder}/prefix"
     report.equal("building: ./install", 0, made.run("install", prefix).returncode)
     older = {path: content(f"{prefix}/{path}") for path in files_in(prefix, ".")}
-    made.write("crates/fcbench/src/mark", "2")
+    made.write("crates/verifier/src/mark", "2")
     shutil.rmtree(f"{prefix}/share")
     with open(f"{prefix}/share", "w"):
         pass
@@ -258,7 +273,7 @@ def installed_whole(program, report):
     report.equal("building: ./install once more", 0, made.run("install", prefix).returncode)
     newer = {path: content(f"{prefix}/{path}") for path in files_in(prefix, ".")}
     report.equal("building: what ./install puts", sorted(older), sorted(newer))
-    report.equal("building: the verifier that ./install puts", content(f"{made.top}/crates/fcbench/out/fcbench"), newer["./libexec/fcbench/fcbench"])
+    report.equal("building: the verifier that ./install puts", content(f"{made.top}/crates/verifier/out/verifier"), newer["./libexec/fcbench/fcbench-verifier"])
 
 
 def content(path):
@@ -274,7 +289,7 @@ def installed_into_checkout(program, report):
     for prefix in (".", made.top, f"{made.top}/crates/..", f"{program.folder}/other_name"):
         ran = made.run("install", prefix)
         report.holds(f"building: ./install {prefix} is refused", ran.returncode == 64 and "PREFIX is this checkout" in ran.stderr, ran)
-    for name in ("fcbench", "fcbench-tools"):
+    for name in ("fcbench-verifier", "fcbench-tools"):
         put_foreign(made, f"libexec/fcbench/{name}")
     report.equal("building: libexec in the checkout, the verifier", answers("1"), made.answer("check", "h", "c"))
     report.equal("building: libexec in the checkout, the tools", (0, "verifier  1: verify h\n"), made.answer("judge", "h"))
@@ -294,7 +309,7 @@ def words_of_help(program, report):
         (("help", "judge"), 0, "tools 1: judge --help\n"),
         (("find", "h.edn"), 0, "tools 1: find h.edn\n"),
     ):
-        for out in ("crates/fcbench/out", "crates/embedding/out"):
+        for out in ("crates/verifier/out", "crates/embedding/out"):
             shutil.rmtree(f"{made.top}/{out}", ignore_errors=True)
         report.equal(f"building: ./fcbench {' '.join(words)}", (status, says), made.answer(*words))
     history = program.write("without_verifier.edn", "")
@@ -336,7 +351,7 @@ def is_begun(pipe, process):
 
 def side_by_side(program, report):
     """Of two builds at the same moment one waits for the other, and builds nothing then. A build waits for a lock that is held."""
-    for script, path, call in (("crates/build", "crates/fcbench/out/fcbench", "ci"), ("tools/build", "tools/out/fcbench-tools", "cargo")):
+    for script, path, call in (("crates/build", "crates/verifier/out/verifier", "ci"), ("tools/build", "tools/out/fcbench-tools", "cargo")):
         made = checkout(program, f"beside_{call}")
         go_on = f"{made.kit}/go_on"
         os.mkfifo(go_on)
@@ -383,7 +398,7 @@ def ended_by_a_signal(program, report):
                 os.close(os.open(never, os.O_RDWR))
                 ran.wait()
             report.equal(f"building: {name.name} during {call}", (True, 128 + name, []), (is_well, ran.returncode, os.listdir(made.temporary)))
-            is_proved = made.run("crates/build", "--is-proved").returncode == 0
+            is_proved = made.run("crates/build", "--is-proved", "verifier").returncode == 0
             report.holds(f"building: {name.name} during {call} leaves nothing that is proved", not is_proved)
 
 
@@ -395,12 +410,12 @@ def odd_surroundings(program, report):
     for words in (("checkout/fcbench", "check", "h", "c"), ("checkout/install", "prefix")):
         ran = subprocess.run(["bash", *words], stdin=subprocess.DEVNULL, **how)
         report.equal(f"building: {words[0]} with CDPATH", 0, ran.returncode, ran)
-    shutil.rmtree(f"{made.top}/crates/fcbench/out")
+    shutil.rmtree(f"{made.top}/crates/verifier/out")
     ran = subprocess.run(["bash", "-c", "exec checkout/fcbench check h c <&-"], **how)
     report.equal("building: ./fcbench without standard input", answers("1"), (ran.returncode, ran.stdout))
-    shutil.rmtree(f"{made.top}/crates/fcbench/out")
+    shutil.rmtree(f"{made.top}/crates/verifier/out")
     os.mkdir(f"{program.folder}/tmp[1]")
-    for words in (("crates/build", "--unproved"), ("crates/build",), ("tools/build",), ("callers/build",)):
+    for words in (("crates/build", "--unproved", "verifier"), ("crates/build",), ("tools/build",), ("callers/build",)):
         ran = made.run(*words, TMPDIR=f"{program.folder}/tmp[1]")
         report.equal(f"building: {' '.join(words)} with an odd TMPDIR", 0, ran.returncode, ran)
     report.equal("building: what is left in an odd TMPDIR", [], os.listdir(f"{program.folder}/tmp[1]"))
@@ -456,7 +471,7 @@ def without_the_kit(program, report):
         report.equal(f"building: ./fcbench {' '.join(words)} names each command, and needs no kit", (64, "", []), came)
     ran = run("find", f"{program.folder}/{program.write('of_find.edn', '')}")
     report.equal("building: ./fcbench find needs no kit", (0, ""), (ran.returncode, ran.stderr))
-    keep(program.path, f"{top}/crates/fcbench/out/fcbench", sources_of("fcbench", top))
+    keep(program.path, f"{top}/crates/verifier/out/verifier", sources_of("verifier", top))
     ran = run("--version")
     report.holds("building: ./fcbench that is built needs no kit", ran.returncode == 0 and ran.stdout and not ran.stderr, ran)
     return None
@@ -471,7 +486,7 @@ def nothing_to_prove(program, report):
     with open(f"{folder}/rt", "w") as file:
         file.write(f'#!/bin/sh\n[ "$1" = version ] && echo "stub logic {LOGIC}"\n')
     os.chmod(f"{folder}/rt", 0o755)
-    keep(program.path, f"{top}/crates/fcbench/out/unproved", sources_of("fcbench", top))
+    keep(program.path, f"{top}/crates/verifier/out/unproved", sources_of("verifier", top))
     history = f"{program.folder}/{program.write('judged.edn', '')}"
     run = script_of(top, f"{folder}:{BARE}")
     for words, status in ((("judge",), 64), (("judge", "--json", history), 64), (("judge", "/not/there.edn"), 4), (("judge", history), 70)):
@@ -491,7 +506,7 @@ def nothing_to_prove(program, report):
 
 
 PARTS = (
-    proved_by_content, unproved_by_content, no_old_program, changed_while_tools_are_built, another_logic_unproved, find_that_fails,
+    proved_by_content, each_program_alone, unproved_by_content, no_old_program, changed_while_tools_are_built, another_logic_unproved, find_that_fails,
     tools_by_content, library_by_content, older_build_of_rattle, installed_whole, installed_into_checkout, words_of_help, quick_after_the_proof,
     side_by_side, ended_by_a_signal, odd_surroundings, without_the_kit, nothing_to_prove,
 )

@@ -13,8 +13,10 @@ from dataclasses import dataclass, field
 SECONDS = 600
 ROOT = os.path.dirname(os.path.dirname(os.path.dirname(os.path.realpath(__file__))))
 EXAMPLES = f"{ROOT}/examples"
-# The commands of the tools, as ./fcbench sorts them too. Every other command line is for the proved program.
-OF_TOOLS = ("judge", "find", "draw", "import")
+# Of each command the program that does it. The tools refuse other words, but --version is one of the verifier.
+with open(f"{ROOT}/tools/fcbench-tools/commands.txt") as file:
+    PROGRAM_OF = {line.split("\t")[0]: line.split("\t")[1] for line in file}
+OF_TOOLS, OF_VERIFIER, OF_BENCH = (tuple(name for name, own in PROGRAM_OF.items() if own == one) for one in ("tools", "verifier", "bench"))
 # Those of them that count the operations that returned.
 COUNTING = ("judge", "draw")
 
@@ -45,20 +47,23 @@ def without_warnings(words, ran):
 
 @dataclass(frozen=True)
 class Program:
-    """The proved program under test, and the tools beside it, in a folder of their own that everybody may read."""
+    """The proved verifier under test, and the tools and the bench beside it, in a folder of their own that everybody may read."""
 
     path: str
     folder: str
     faults: str
     tools: str = None
+    bench: str = None
     label: str = ""
 
     def line(self, words):
         """The command line of these words: the program whose command they are, and the words. Any number of operations of a history may have
         returned, if the words say nothing else, since many histories of tests are empty or pending."""
         command, *rest = words or ("",)
-        if not (self.tools and command in OF_TOOLS):
+        if not self.tools or command in ("--version", "-V", *OF_VERIFIER):
             return [self.path, *words]
+        if command in OF_BENCH:
+            return [self.bench, *words]
         says_least = any(str(word).startswith("--at-least") for word in rest)
         least = [] if command not in COUNTING or says_least else ["--at-least", "0"]
         return [self.tools, command, *least, *rest]
@@ -152,14 +157,16 @@ def alone(path, folder):
 
 
 @contextlib.contextmanager
-def in_own_folder(proved, tools, folder):
-    """The proved program and the tools beside each other in a new folder of this folder, as long as one part of the tests runs, so that no
-    part finds a file of another one. The label is the name of the proved program. A part that needs no program gets the folder alone."""
+def in_own_folder(build, tools, folder):
+    """The verifier and the bench of a build and the tools beside each other in a new folder of this folder, as long as one part of the tests runs, so
+    that no part finds a file of another one. The label is the name of the verifier. A part that needs no program gets the folder alone."""
     with tempfile.TemporaryDirectory(prefix="part-", dir=folder) as own:
         # Some runs are those of another user.
         os.chmod(own, 0o777)
-        if proved:
-            yield Program(copied(proved, own, "fcbench"), own, faults_in(folder), copied(tools, own, "fcbench-tools"), os.path.basename(proved))
+        if build:
+            verifier, bench = build
+            others = copied(tools, own, "fcbench-tools"), bench and copied(bench, own, "fcbench-bench")
+            yield Program(copied(verifier, own, "fcbench-verifier"), own, faults_in(folder), *others, os.path.basename(verifier))
         else:
             yield Program(None, own, None, label="no program:")
 

@@ -6,9 +6,14 @@ import subprocess
 
 from . import worked_rows
 from .worked_rows import CERTIFICATES, HISTORY
-from .running import OF_TOOLS, ROOT
+from .running import OF_BENCH, OF_TOOLS, OF_VERIFIER, ROOT
 
-COMMANDS = ("check", "search", "refute", "verify", "split", "merge", "run", "simulate")
+# The commands of the proved programs.
+COMMANDS = OF_VERIFIER + OF_BENCH
+# What each command does, as the table of all commands says it.
+COMMANDS_TABLE = "tools/fcbench-tools/commands.txt"
+with open(f"{ROOT}/{COMMANDS_TABLE}") as file:
+    ABOUT = {line.split("\t")[0]: line.rstrip("\n").split("\t")[2] for line in file}
 # The script that sends each command to the program whose command it is.
 DISPATCH = f"{ROOT}/tools/fcbench.sh"
 
@@ -301,12 +306,16 @@ def files_in_pages(program, report):
 
 def help_texts(program, report):
     """Help goes to standard output, names each command, and ends with 0."""
-    for words in (("--help",), ("-h",), ("help",)):
+    for words in (("--help",), ("-h",)):
         ran = program.run(*words)
         is_well = ran.status == 0 and ran.err == b"" and ran.out.endswith(b"\n")
         report.holds(f"{words[0]} is help", is_well, ran)
-        lacks = [command for command in COMMANDS if f"\n  {command} ".encode() not in ran.out]
+        lacks = [command for command in (*COMMANDS, *OF_TOOLS) if f"\n  {command} ".encode() not in ran.out]
         report.equal(f"{words[0]} names each command", [], lacks, ran.out)
+    for own, path in ((OF_VERIFIER, program.path), (("check", "search", *OF_BENCH), program.bench)):
+        ran = subprocess.run([path, "--help"], capture_output=True, text=True)
+        named = re.findall(r"^  ([a-z]+)  ", ran.stdout, re.M)
+        report.equal(f"{os.path.basename(path)} --help names its commands", (0, {*own, "help"}), (ran.returncode, set(named)), ran.stdout)
     options = {"check": ("--workers",), "search": ("--steps", "--first"), "refute": ("--steps",)}
     options["run"] = ("--kind", "--objects", "--clients", "--calls", "--seed")
     options.update(
@@ -324,6 +333,7 @@ def help_texts(program, report):
         lacks = [option for option in options.get(command, ()) if option.encode() not in ran.out]
         is_well = (ran.status, ran.err, lacks) == (0, b"", [])
         report.holds(f"{command} --help names its options", is_well, ran)
+        report.equal(f"{command} --help says what {COMMANDS_TABLE} says", ABOUT[command], ran.out.decode().partition("\n")[0])
 
 
 def version(program, report):
@@ -411,7 +421,7 @@ def dispatched(program, report):
     """The script that is installed as fcbench sends each command line to the program whose command it is."""
     program.write(HISTORY, worked_rows.OVERLAPPING)
     program.write(CERTIFICATES, worked_rows.order(1, 0, 4))
-    env = {**os.environ, "FCBENCH": program.path, "FCBENCH_TOOLS": program.tools}
+    env = {**os.environ, "FCBENCH": program.path, "FCBENCH_BENCH": program.bench, "FCBENCH_TOOLS": program.tools}
     script = lambda *words: subprocess.run([DISPATCH, *words], cwd=program.folder, env=env, capture_output=True)  # noqa: E731
     lines = [("judge", HISTORY), ("find", HISTORY), ("draw", HISTORY), ("search", HISTORY), ("verify", HISTORY, CERTIFICATES)]
     lines += [("check", HISTORY, CERTIFICATES), ("judge",), ("check",), ("--version",)]
@@ -424,15 +434,15 @@ def dispatched(program, report):
         lacks = [command for command in (*COMMANDS, *OF_TOOLS) if f"\n  {command} ".encode() not in ran.stdout]
         report.equal(f"fcbench.sh {words[0]} names each command", (0, []), (ran.returncode, lacks), ran.stdout)
     ran = script()
-    lacks = [command for command in (*COMMANDS, *OF_TOOLS) if f"\n  {command} ".encode() not in ran.stderr]
-    is_refused = (ran.returncode, ran.stdout, lacks) == (64, b"", []) and ran.stderr.startswith(b"error: a command is missing\n")
-    report.holds("fcbench.sh without a word names each command", is_refused, ran)
+    is_refused = (ran.returncode, ran.stdout) == (64, b"") and ran.stderr.startswith(b"error: a command is missing\n")
+    report.holds("fcbench.sh without a word", is_refused, ran)
     shown = script("--help").stdout
     report.holds("fcbench.sh --help begins with judge", 0 < shown.find(b"\n  judge ") < shown.find(b"\n  check "), shown)
-    ran = script("jugde")
-    is_told = ran.stderr.startswith(b"fcbench: the commands of the tools are judge, find, draw and import\nerror: ")
-    report.holds("fcbench.sh jugde names the commands of the tools", (ran.returncode, ran.stdout) == (64, b"") and is_told, ran)
-    for command in OF_TOOLS:
+    for word, near in (("jugde", "judge"), ("chek", "check"), ("simulte", "simulate")):
+        ran = script(word)
+        is_told = ran.stderr.startswith(f"error: no such command: '{word}'; the nearest is {near}\n".encode())
+        report.holds(f"fcbench.sh {word} names the nearest command", (ran.returncode, ran.stdout) == (64, b"") and is_told, ran)
+    for command in (*COMMANDS, *OF_TOOLS):
         report.equal(f"fcbench.sh help {command}", program.run(command, "--help").out, script("help", command).stdout)
 
 

@@ -3,7 +3,7 @@
 
 use crate::line_fault::status_of_fault;
 use command_line::LineFault;
-use history_commands::Status;
+use history_commands::{Status, VERSION};
 use std::fs::File;
 use std::io;
 use std::rt::{Env, Files};
@@ -11,9 +11,6 @@ use std::sync::Wait;
 use std::sync::atomic::{AtomicBool, Ordering};
 use std::thread::{Threads, join, sleep};
 use std::time::{Clock, Duration};
-
-/// The version of the programs, and the logic that proves them.
-pub const VERSION: &str = "fcbench 7.0.0, proved by Rattle logic dac8208d650f15bf";
 
 /// How many times `watch` checks whether the command is done.
 const LOOKS: u32 = 200;

@@ -17,8 +17,8 @@ pub use folders::{
 };
 pub use history_commands::Status;
 pub use host::{
-    Host, VERSION, print_version, report_no_memory, report_no_words, report_refusal,
-    report_unreadable, report_unwritten, watched, words_of,
+    Host, print_version, report_no_memory, report_no_words, report_refusal, report_unreadable,
+    report_unwritten, watched, words_of,
 };
 pub use on_files::{check_files, perform_on_files, search_file};
 pub use reading::{In, NamedFile, ReadFault, WhichSource, read_text};

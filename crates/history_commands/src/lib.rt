@@ -16,6 +16,7 @@ mod shard_answer;
 mod shard_counts;
 mod status;
 mod verification;
+mod version;
 
 pub use comments::comments_text;
 pub use finding::Finding;
@@ -27,3 +28,4 @@ pub use searching::{search, search_history};
 pub use shard_answer::ShardNumber;
 pub use status::{Status, status_of};
 pub use verification::{verify, verify_history};
+pub use version::VERSION;

@@ -23,7 +23,9 @@ INSTALLED = sorted(
         "include/fcbench.h",
         "lib/libfcbench.a",
         "lib/libfcbench.so",
-        "libexec/fcbench/fcbench",
+        "libexec/fcbench/commands.txt",
+        "libexec/fcbench/fcbench-bench",
+        "libexec/fcbench/fcbench-verifier",
         "libexec/fcbench/fcbench-tools",
         "share/man/man1/fcbench.1",
         *COMPLETIONS.values(),
@@ -70,7 +72,7 @@ def installed(program, report):
     report.equal("installed: what ./install says", [f"{prefix}/{name}" for name in INSTALLED], sorted(output.split()))
     ran = subprocess.run([f"{prefix}/bin/fcbench", "judge", f"{EXAMPLES}/queue.history.edn"], capture_output=True)
     report.holds("installed: the program judges", ran.returncode == 0 and ran.stdout.startswith(b"yes: 2 operations"), ran)
-    env = {**os.environ, "FCBENCH": "/bin/true", "FCBENCH_TOOLS": "/bin/true"}
+    env = {**os.environ, "FCBENCH": "/bin/true", "FCBENCH_BENCH": "/bin/true", "FCBENCH_TOOLS": "/bin/true"}
     for words in (["judge", f"{EXAMPLES}/queue.history.edn"], ["--version"]):
         named = subprocess.run([f"{prefix}/bin/fcbench", *words], capture_output=True, env=env)
         report.holds(

@@ -43,7 +43,7 @@ def installed(program, before_find=""):
     script = f"{program.folder}/bin/fcbench"
     with open(script, "w", encoding="utf-8") as file:
         file.write(f'#!/bin/sh\n[ "$1" != find ] || {{ {before_find or ":"}; }}\n')
-        file.write(f"FCBENCH='{program.path}' FCBENCH_TOOLS='{program.tools}' exec '{DISPATCH}' \"$@\"\n")
+        file.write(f"FCBENCH='{program.path}' FCBENCH_BENCH='{program.bench}' FCBENCH_TOOLS='{program.tools}' exec '{DISPATCH}' \"$@\"\n")
     os.chmod(script, 0o755)
     return f"{program.folder}/bin"
 
