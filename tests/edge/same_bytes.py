@@ -80,19 +80,27 @@ class Build:
     command."""
 
     def __init__(self, path):
-        own = ("FCBENCH", "FCBENCH_TOOLS", "FCBENCH_FINDER")
+        own = ("FCBENCH", "FCBENCH_BENCH", "FCBENCH_TOOLS", "FCBENCH_FINDER")
         self.env = {name: value for name, value in os.environ.items() if name not in own}
         top = os.path.realpath(path)
         self.words = [top]
         if os.path.isdir(top):
-            verifier = "fcbench"
-            if subprocess.run([f"{top}/crates/build", "--is-proved"]).returncode:
-                verifier = "unproved"
-                subprocess.run([f"{top}/crates/build", "--unproved"], check=True)
             subprocess.run([f"{top}/tools/build"], check=True)
             self.words = [f"{top}/tools/fcbench.sh"]
-            self.env.update(FCBENCH=f"{top}/crates/fcbench/out/{verifier}", FCBENCH_TOOLS=f"{top}/tools/out/fcbench-tools")
+            self.env.update(FCBENCH_TOOLS=f"{top}/tools/out/fcbench-tools", FCBENCH=self.built(top, "verifier"))
+            if os.path.exists(f"{top}/crates/verifier"):
+                self.env.update(FCBENCH_BENCH=self.built(top, "bench"))
         self.label = self.env.get("FCBENCH", top)
+
+    @staticmethod
+    def built(top, what):
+        """A program of a checkout. Before there were two proved programs, the one had all commands."""
+        has_two = os.path.exists(f"{top}/crates/verifier")
+        crate, words = ("verifier" if has_two and what == "verifier" else "fcbench"), ([what] if has_two else [])
+        if not subprocess.run([f"{top}/crates/build", "--is-proved", *words]).returncode:
+            return f"{top}/crates/{crate}/out/{crate}"
+        subprocess.run([f"{top}/crates/build", "--unproved", *words], check=True)
+        return f"{top}/crates/{crate}/out/unproved"
 
     def run(self, words, folder):
         return subprocess.run([*self.words, *words], cwd=folder, env=self.env, stdin=subprocess.DEVNULL, capture_output=True, timeout=SECONDS)

@@ -4,8 +4,8 @@ use Rattle.std.proofs.Common.{◌≡◌, ◌×◌, ℕ, List, Option, Bool, subs
 use Rattle.std.specs.Prelude.{Result, Ok, Err, IfErr}
 use Rattle.reading.specs.Reads.{SourceAfterFault, WasRefused}
 use Rattle.reading.specs.TwoTexts.{IsUnread}
-use Rattle.reading.specs.declared.read_text.ReadFault.{ReadFault}
-use Rattle.reading.specs.declared.read_text.ReadFault.TheVariants.{Failed}
+use Rattle.reading.specs.declared.from_source.ReadFault.{ReadFault}
+use Rattle.reading.specs.declared.from_source.ReadFault.TheVariants.{Failed}
 use Rattle.reading.specs.declared.two_texts.WhichSource.{WhichSource}
 use Rattle.reading.specs.declared.two_texts.WhichSource.TheVariants.{First, Second}
 use Rattle.file_commands.specs.OnFiles.{IsUnreadFile, IsUnreadOnly}

@@ -3,7 +3,7 @@
 ghost use Rattle.std.specs.Prelude.{◌≡◌, false, IfOk, IfErr};
 ghost use Rattle.file_commands.specs.Leaves.{Leaves};
 ghost use Rattle.history_commands.specs.Outputs.{IsOutOfMemory};
-ghost use Rattle.reading.specs.declared.read_text.ReadFault.TheVariants as fault_is;
+ghost use Rattle.reading.specs.declared.from_source.ReadFault.TheVariants as fault_is;
 
 use crate::write_output::write_output;
 use edn::Sink;

@@ -4,8 +4,8 @@ use Rattle.std.specs.Io.KnownBytes.{Consumes}
 use Rattle.edn.specs.Given.{WasRead}
 use Rattle.edn_reader.specs.Datum.{max_length}
 use Rattle.reading.specs.Texts.{IsLinearizableText, IsNotLinearizableText}
-use Rattle.reading.specs.declared.read_text.ReadFault.{ReadFault}
-use Rattle.reading.specs.declared.read_text.ReadFault.TheVariants.{Failed, NoMemory}
+use Rattle.reading.specs.declared.from_source.ReadFault.{ReadFault}
+use Rattle.reading.specs.declared.from_source.ReadFault.TheVariants.{Failed, NoMemory}
 
 -- one byte more than the longest text that is judged
 abbrev pub read_limit : ℕ

@@ -4,8 +4,8 @@ use Rattle.edn.specs.Given.{WasRead}
 use Rattle.events.specs.declared.event.Event.{Event}
 use Rattle.reading.specs.Reads.{SourceAfterFault, WasRefused, read_limit}
 use Rattle.reading.specs.Texts.{IsHistoryRead}
-use Rattle.reading.specs.declared.read_text.ReadFault.{ReadFault}
-use Rattle.reading.specs.declared.read_text.ReadFault.TheVariants as fault_is
+use Rattle.reading.specs.declared.from_source.ReadFault.{ReadFault}
+use Rattle.reading.specs.declared.from_source.ReadFault.TheVariants as fault_is
 use Rattle.reading.specs.declared.text_failure.TextFailure.{TextFailure}
 use Rattle.reading.specs.declared.two_texts.WhichSource.{WhichSource}
 use Rattle.reading.specs.declared.two_texts.WhichSource.TheVariants.{First, Second}

@@ -4,9 +4,9 @@
 
 mod by_workers;
 mod certificate_text;
+mod from_source;
 mod history_text;
 mod named_file;
-mod read_text;
 mod text_failure;
 mod text_laws;
 mod two_texts;
@@ -14,9 +14,9 @@ mod two_texts;
 pub use by_workers::{MAX_WORKERS, history_of_text_by_workers};
 pub use certificate_text::certificates_of_text;
 pub use edn::{In, Source};
+pub use from_source::{READ_LIMIT, ReadFault, read_text};
 pub use history_text::history_of_text;
 pub use named_file::NamedFile;
-pub use read_text::{READ_LIMIT, ReadFault, read_text};
 pub use text_failure::{Fault, TextFailure};
 pub use text_laws::{one_history, one_list_of_orders};
 pub use two_texts::{UnreadSource, WhichSource, read_history_and_text};

@@ -4,7 +4,7 @@ ghost use Rattle.std.specs.Prelude.{◌≡◌, false, IfOk, IfErr};
 ghost use Rattle.reading.specs.TwoTexts.{AreRead, IsUnread};
 
 use crate::by_workers::history_of_text_by_workers;
-use crate::read_text::{ReadFault, read_text};
+use crate::from_source::{ReadFault, read_text};
 use crate::text_failure::TextFailure;
 use edn::Source;
 use history::History;

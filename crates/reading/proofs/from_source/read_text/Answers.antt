@@ -3,7 +3,7 @@
 use Rattle.std.proofs.Common.{length, drop, sym, subst, ◌∙◌, ◌<◌, arith}
 use Rattle.reading.specs.Reads.{read_limit}
 use Rattle.reading.proofs.ReadSoFar.{begins, next_piece, came_to_end, came_to_limit}
-use Rattle.reading.proofs.read_text.read_text.Goals as goal
+use Rattle.reading.proofs.from_source.read_text.Goals as goal
 
 pub loop-buffer-init : goal.loop-buffer-init
 loop-buffer-init g c =

@@ -1,7 +1,7 @@
 use Rattle.std.proofs.Common.{◌-◌, length}
 use Rattle.reading.specs.Reads.{read_limit}
 use Rattle.reading.proofs.ReadSoFar.{IsReading}
-use Rattle.reading.proofs.read_text.read_text.Given as goal
+use Rattle.reading.proofs.from_source.read_text.Given as goal
 
 abbrev pub invariant-loop-buffer : goal.invariant-loop-buffer
 invariant-loop-buffer g l = IsReading read_limit (g.S.Source.remaining l.initial.source)

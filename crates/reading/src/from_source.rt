@@ -22,7 +22,7 @@ pub enum ReadFault {
 }
 
 impl From<Failed> for ReadFault {
-    ghost use Rattle.reading.specs.declared.read_text.ReadFault.TheVariants as fault;
+    ghost use Rattle.reading.specs.declared.from_source.ReadFault.TheVariants as fault;
 
     ghost from_gives = { λ _ e. e ≡ fault.Failed };
 
@@ -32,7 +32,7 @@ impl From<Failed> for ReadFault {
 }
 
 impl From<AllocError> for ReadFault {
-    ghost use Rattle.reading.specs.declared.read_text.ReadFault.TheVariants as fault;
+    ghost use Rattle.reading.specs.declared.from_source.ReadFault.TheVariants as fault;
 
     ghost from_gives = { λ _ e. e ≡ fault.NoMemory };
 
