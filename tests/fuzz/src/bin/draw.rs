@@ -5,9 +5,8 @@
 use finder::{Decision, Evidence, History, Options, decide, read_history};
 use fuzz::{input, text, texts};
 use import::Names;
-use pages::{
-    Asides, Drawn, Fault, Verdict, Words, fault_lines, malformed_page, memory_page, orders_in,
-};
+use pages::{Asides, Drawn, Words, fault_lines, malformed_page, memory_page, orders_in};
+use verdict::{Fault, Verdict};
 
 const STEPS: Options = Options { steps: Some(500), workers: 1 };
 
@@ -50,7 +49,7 @@ fn draw_found(drawn: Drawn<'_>, history: &History) {
     let drawn = Drawn { lines, ..drawn };
     match Verdict::read(lines) {
         Some(Verdict::Judged(answers)) => check(&drawn.judged_page(&decisions, &answers)),
-        Some(Verdict::Yes) => check(&drawn.judged_page(&decisions, &[])),
+        Some(Verdict::Yes { .. }) => check(&drawn.judged_page(&decisions, &[])),
         _ => panic!("no verdict: {lines}"),
     }
 }
@@ -86,7 +85,7 @@ fn draw(options: pages::Options, all: &[&[u8]]) {
         (Some(orders), Some(Verdict::No(refusal))) => {
             check(&drawn.checked_page(&orders, Some(&refusal)));
         }
-        (Some(orders), Some(Verdict::Yes)) => check(&drawn.checked_page(&orders, None)),
+        (Some(orders), Some(Verdict::Yes { .. })) => check(&drawn.checked_page(&orders, None)),
         (None, Some(Verdict::Judged(answers))) => {
             check(&drawn.judged_page(&decide(&history, STEPS), &answers));
         }
