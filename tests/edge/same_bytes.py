@@ -339,9 +339,9 @@ def works(all_histories, drawn_imports):
             yield row.name, on_row, row
     for number in range(drawn_imports):
         yield f"imported text {number}", on_imported, number
-    for number, history in enumerate(all_histories):
+    for history in all_histories:
         yield history.name, on_history, history
-        if number % 4 == 0 and len(history.text) < LONG:
+        if b":object 1" in history.text and len(history.text) < LONG:
             yield history.name, on_wide_objects, history
 
 
