@@ -1,4 +1,4 @@
--- The command that clap is told of: the program, with the commands of the table.
+-- The command that clap is told of: the program, with its commands of the table.
 use Rattle.std.specs.Prelude.{◌∷◌, [], List, true, codes, Option, Some, None, map}
 use Rattle.clap.specs.Simple.{App, new_app, new_rule, on_top, with_rule, with_subcommand}
 use Rattle.clap.specs.Walk.{Rule, Text}
@@ -8,7 +8,7 @@ use Rattle.clap.specs.declared.builder.value_parser.ValueParser.{ValueParser}
 use Rattle.clap.specs.declared.builder.value_parser.ValueParser.TheVariants.{Unsigned}
 use Rattle.command_line.specs.declared.table.Takes.{Takes}
 use Rattle.command_line.specs.declared.table.Takes.TheVariants.{Number, Kind, TryFirst, Nothing}
-use Rattle.command_line.specs.declared.table.TheConstants.{COMMANDS}
+use Rattle.command_line.specs.declared.table.TheConstants.{BENCH_COMMANDS, HISTORY_COMMANDS}
 
 -- a file is a required argument
 abbrev pub file_rule : Text → Rule
@@ -55,12 +55,18 @@ with_commands a (c ∷ cs) = with_commands (with_subcommand a c.top) cs
 abbrev pub program : App
 program = on_top (λ s. record s { subcommand_required = true }) (new_app (codes "fcbench"))
 
--- the commands of the table, each with its files and its options
-abbrev pub commands : List App
-commands =
-    map (λ row. command_of row.1.now (map (λ f. f.0.now) row.3.now)
-    (map (λ o. (o.0.now, o.2)) row.4.now)) COMMANDS
+-- the program with these commands
+abbrev pub program_of : List App → App
+program_of commands = with_commands program commands
 
--- what clap is told of: the program with the commands of the table
-abbrev pub command : App
-command = with_commands program commands
+-- what clap is told of for the bench
+abbrev pub bench : App
+bench =
+    program_of (map (λ row. command_of row.0.now (map (λ f. f.0.now) row.2.now)
+    (map (λ o. (o.0.now, o.2)) row.3.now)) BENCH_COMMANDS)
+
+-- what clap is told of for the verifier
+abbrev pub verifier : App
+verifier =
+    program_of (map (λ row. command_of row.0.now (map (λ f. f.0.now) row.2.now)
+    (map (λ o. (o.0.now, o.2)) row.3.now)) HISTORY_COMMANDS)

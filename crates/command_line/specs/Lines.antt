@@ -1,11 +1,11 @@
 -- Which words ask for which line.
 use Rattle.std.specs.Prelude.{◌≡◌, ◌≢◌, ◌⊎◌, ◌≤◌, [], ⊤, ℕ, Bool, false, List, codes, Option, Some}
-use Rattle.std.specs.Prelude.{None, find, option_map, map, Result, MatchResult}
+use Rattle.std.specs.Prelude.{None, IsSomeAnd, Result, MatchResult}
 use Rattle.std.specs.Str.{bytes_eq}
 use Rattle.clap.specs.Faults.{fault_of}
 use Rattle.clap.specs.Kinds.{IsAmong}
 use Rattle.clap.specs.Matches.{found_of}
-use Rattle.clap.specs.Simple.{subcommand_of}
+use Rattle.clap.specs.Simple.{App, subcommand_of}
 use Rattle.clap.specs.Walk.{Row, Text, first_of, rows_of}
 use Rattle.clap.specs.declared.parser.matches.ArgMatches.{ArgMatches}
 use Rattle.clap.specs.declared.error.kind.ErrorKind.{ErrorKind}
@@ -17,22 +17,27 @@ use Rattle.search.specs.declared.trials.TryFirst.{TryFirst}
 use Rattle.search.specs.declared.trials.TryFirst.TheVariants.{LeastNumber, LeastReturn}
 use Rattle.seq_objects.specs.declared.kinds.Kinds.{Kinds}
 use Rattle.seq_objects.specs.Kinds.{default_kinds, kinds_named}
-use Rattle.command_line.specs.Command.{command}
-use Rattle.command_line.specs.declared.asking.Line.{Line}
-use Rattle.command_line.specs.declared.asking.Line.TheVariants.{Check, Search, Refute, Verify}
-use Rattle.command_line.specs.declared.asking.Line.TheVariants.{Run, Simulate, OnFolder}
-use Rattle.command_line.specs.declared.asking.LineFault.{LineFault}
-use Rattle.command_line.specs.declared.asking.LineFault.TheVariants.{Help, Refused, NoMemory}
-use Rattle.command_line.specs.declared.lines.Unfit.{Unfit}
-use Rattle.command_line.specs.declared.lines.Unfit.TheVariants as unread
-use Rattle.command_line.specs.declared.asking.RunOptions.{RunOptions}
-use Rattle.command_line.specs.declared.on_folder.FolderLine.{FolderLine}
-use Rattle.command_line.specs.declared.on_folder.FolderLine.TheVariants.{Split, Merge}
+use Rattle.command_line.specs.declared.faults.LineFault.{LineFault}
+use Rattle.command_line.specs.declared.faults.LineFault.TheVariants.{Help, Refused, NoMemory}
+use Rattle.command_line.specs.declared.lines.CheckLine.{CheckLine}
+use Rattle.command_line.specs.declared.lines.FilesLine.{FilesLine}
+use Rattle.command_line.specs.declared.lines.FilesLine.TheVariants.{Check, Search, Refute, Verify}
+use Rattle.command_line.specs.declared.lines.FolderLine.{FolderLine}
+use Rattle.command_line.specs.declared.lines.FolderLine.TheVariants.{Split, Merge}
+use Rattle.command_line.specs.declared.lines.HistoryLine.{HistoryLine}
+use Rattle.command_line.specs.declared.lines.HistoryLine.TheVariants.{OnFiles, OnFolder}
+use Rattle.command_line.specs.declared.lines.Line.{Line}
+use Rattle.command_line.specs.declared.lines.Line.TheVariants as bench
+use Rattle.command_line.specs.declared.lines.RefuteLine.{RefuteLine}
+use Rattle.command_line.specs.declared.lines.RunOptions.{RunOptions}
+use Rattle.command_line.specs.declared.lines.SearchLine.{SearchLine}
+use Rattle.command_line.specs.declared.lines.SplitLine.{SplitLine}
+use Rattle.command_line.specs.declared.lines.VerifyLine.{VerifyLine}
 use Rattle.command_line.specs.declared.table.Bounds.{Bounds}
 use Rattle.command_line.specs.declared.table.TheConstants.{WORKERS, STEPS, OBJECTS, CLIENTS, CALLS}
-use Rattle.command_line.specs.declared.table.TheConstants.{SEED, SHARDS, COMMANDS}
-use Rattle.command_line.specs.declared.table.Verb.{Verb}
-use Rattle.command_line.specs.declared.table.Verb.TheVariants as is
+use Rattle.command_line.specs.declared.table.TheConstants.{SEED, SHARDS}
+use Rattle.command_line.specs.declared.values.Unfit.{Unfit}
+use Rattle.command_line.specs.declared.values.Unfit.TheVariants as unread
 
 -- The number is what the option's value says, a decimal number within these bounds, before which a
 -- plus is allowed. If the option is not given, it is the default.
@@ -70,74 +75,86 @@ pub record AreRunOptions (rows : List Row) (o : RunOptions) : Type 0 where
 abbrev pub IsFile : Text → List Row → Text → Type 0
 IsFile name rows file = first_of name rows ≡ Some file
 
--- The line of this command on a folder has the files that the rows have, and for each option the
--- value that the rows have, or its default.
-abbrev pub IsFolderLine : Verb → List Row → FolderLine → Type 0
-IsFolderLine v rows (Split line) =
-    (v ≡ is.Split) × IsFile (codes "HISTORY") rows (string_bytes line.history)
+-- ---- the lines: each has the files that the rows have, and for each option the value that the
+-- rows have, or its default
+
+abbrev pub IsCheckLine : List Row → CheckLine → Type 0
+IsCheckLine rows line =
+    IsFile (codes "HISTORY") rows (string_bytes line.history)
+    × IsFile (codes "CERTS") rows (string_bytes line.certificates)
+    × IsNumber WORKERS (first_of (codes "workers") rows) line.workers
+
+abbrev pub IsSearchLine : List Row → SearchLine → Type 0
+IsSearchLine rows line =
+    IsFile (codes "HISTORY") rows (string_bytes line.history)
+    × IsNumber STEPS (first_of (codes "steps") rows) line.steps
+    × IsFirst (first_of (codes "first") rows) line.try_first
+
+abbrev pub IsRefuteLine : List Row → RefuteLine → Type 0
+IsRefuteLine rows line =
+    IsFile (codes "HISTORY") rows (string_bytes line.history)
+    × IsFile (codes "REASONS") rows (string_bytes line.reasons)
+    × IsNumber STEPS (first_of (codes "steps") rows) line.steps
+
+abbrev pub IsVerifyLine : List Row → VerifyLine → Type 0
+IsVerifyLine rows line =
+    IsFile (codes "HISTORY") rows (string_bytes line.history)
+    × IsFile (codes "EVIDENCE") rows (string_bytes line.evidence)
+    × IsNumber STEPS (first_of (codes "steps") rows) line.steps
+    × IsNumber WORKERS (first_of (codes "workers") rows) line.workers
+
+abbrev pub IsSplitLine : List Row → SplitLine → Type 0
+IsSplitLine rows line =
+    IsFile (codes "HISTORY") rows (string_bytes line.history)
     × IsFile (codes "FOLDER") rows (string_bytes line.folder)
     × IsNumber SHARDS (first_of (codes "shards") rows) line.shards
-IsFolderLine v rows (Merge folder steps trust_statuses) =
-    (v ≡ is.Merge) × IsFile (codes "FOLDER") rows (string_bytes folder)
+
+-- the bench's line of the command with this name
+abbrev pub IsLine : Text → List Row → Line → Type 0
+IsLine name rows (bench.Check line) = (name ≡ codes "check") × IsCheckLine rows line
+IsLine name rows (bench.Search line) = (name ≡ codes "search") × IsSearchLine rows line
+IsLine name rows (bench.Run options) = (name ≡ codes "run") × AreRunOptions rows options
+IsLine name rows (bench.Simulate schedule) =
+    (name ≡ codes "simulate") × IsFile (codes "SCHEDULE") rows (string_bytes schedule)
+
+abbrev pub IsFilesLine : Text → List Row → FilesLine → Type 0
+IsFilesLine name rows (Check line) = (name ≡ codes "check") × IsCheckLine rows line
+IsFilesLine name rows (Search line) = (name ≡ codes "search") × IsSearchLine rows line
+IsFilesLine name rows (Refute line) = (name ≡ codes "refute") × IsRefuteLine rows line
+IsFilesLine name rows (Verify line) = (name ≡ codes "verify") × IsVerifyLine rows line
+
+abbrev pub IsFolderLine : Text → List Row → FolderLine → Type 0
+IsFolderLine name rows (Split line) = (name ≡ codes "split") × IsSplitLine rows line
+IsFolderLine name rows (Merge folder steps trust_statuses) =
+    (name ≡ codes "merge") × IsFile (codes "FOLDER") rows (string_bytes folder)
     × IsNumber STEPS (first_of (codes "steps") rows) steps
     × (trust_statuses ≡ is_given (first_of (codes "trust-statuses") rows))
 
--- The line of this command has the files that the rows have, and for each option the value that the
--- rows have, or its default.
-abbrev pub IsLine : Verb → List Row → Line → Type 0
-IsLine v rows (Check history certificates workers) =
-    (v ≡ is.Check) × IsFile (codes "HISTORY") rows (string_bytes history)
-    × IsFile (codes "CERTS") rows (string_bytes certificates)
-    × IsNumber WORKERS (first_of (codes "workers") rows) workers
-IsLine v rows (Search history steps first) =
-    (v ≡ is.Search) × IsFile (codes "HISTORY") rows (string_bytes history)
-    × IsNumber STEPS (first_of (codes "steps") rows) steps
-    × IsFirst (first_of (codes "first") rows) first
-IsLine v rows (Refute history reasons steps) =
-    (v ≡ is.Refute) × IsFile (codes "HISTORY") rows (string_bytes history)
-    × IsFile (codes "REASONS") rows (string_bytes reasons)
-    × IsNumber STEPS (first_of (codes "steps") rows) steps
-IsLine v rows (Verify history evidence steps workers) =
-    (v ≡ is.Verify) × IsFile (codes "HISTORY") rows (string_bytes history)
-    × IsFile (codes "EVIDENCE") rows (string_bytes evidence)
-    × IsNumber STEPS (first_of (codes "steps") rows) steps
-    × IsNumber WORKERS (first_of (codes "workers") rows) workers
-IsLine v rows (Run options) = (v ≡ is.Run) × AreRunOptions rows options
-IsLine v rows (Simulate schedule) =
-    (v ≡ is.Simulate) × IsFile (codes "SCHEDULE") rows (string_bytes schedule)
-IsLine v rows (OnFolder line) = IsFolderLine v rows line
+-- the verifier's line of the command with this name
+abbrev pub IsHistoryLine : Text → List Row → HistoryLine → Type 0
+IsHistoryLine name rows (OnFiles line) = IsFilesLine name rows line
+IsHistoryLine name rows (OnFolder line) = IsFolderLine name rows line
+
+-- ---- the words
 
 -- the rows of what clap found
 abbrev pub rows_in : ArgMatches → List Row
 rows_in m = rows_of (found_of m)
 
--- the line of this command that was read, or there is none, unless an allocation failed
-abbrev pub IsLineRead : Verb → List Row → Result Line Unfit → Type 0
-IsLineRead v rows r =
-    MatchResult r (IsLine v rows)
-    (λ u. u ≢ unread.NoMemory → (line : Line) → IsLine v rows line → ⊥)
+-- a line of which this holds was read, or there is none, unless an allocation failed
+abbrev pub IsRead : {L : Type 0} → (L → Type 0) → Result L Unfit → Type 0
+IsRead {L} IsAsked r = MatchResult r IsAsked (λ u. u ≢ unread.NoMemory → (line : L) → IsAsked line → ⊥)
 
--- of each command of the table its name, and which it is
-abbrev pub verbs : List (Text × Verb)
-verbs = map (λ row. (row.1.now, row.0)) COMMANDS
-
--- which command has this name
-abbrev pub verb_named : Text → Option Verb
-verb_named name = option_map (λ row. row.1) (find (λ row. bytes_eq row.0 name) verbs)
-
--- clap found the name of a command of the table, and rows of which this is the line
-pub record Finds (found : Option (Text × List Row)) (line : Line) : Type 0 where
-  pub name : Text
-  pub rows : List Row
-  pub entered : found ≡ Some (name, rows)
-  pub verb : Verb
-  pub named : verb_named name ≡ Some verb
-  pub line_is : IsLine verb rows line
+-- Clap found a command, and rows for it. A program says which line they are.
+abbrev pub Finds : {L : Type 0} → (Text → List Row → L → Type 0) → Option (Text × List Row) → L
+    → Type 0
+Finds IsLineOf found line = IsSomeAnd found (λ f. IsLineOf f.0 f.1 line)
 
 -- clap has no fault to find with the words, and finds in them a command with this line
-pub record AskFor (words : List Text) (line : Line) : Type 0 where
-  pub faultless : fault_of command words ≡ []
-  pub finds : Finds (subcommand_of command words) line
+pub record AskFor {L : Type 0} (program : App) (IsLineOf : Text → List Row → L → Type 0)
+    (words : List Text) (line : L) : Type 0 where
+  pub faultless : fault_of program words ≡ []
+  pub finds : Finds IsLineOf (subcommand_of program words) line
 
 -- the error of clap stands for a request for help, or for the version
 abbrev pub IsHelp : ErrorKind → Type 0
@@ -157,15 +174,17 @@ AreWordsRefused NoMemory = ⊥
 
 -- clap has no fault to find with the words, but what it finds in them fits no line, and they are
 -- refused
-pub record IsUnfit (words : List Text) (fault : LineFault) : Type 0 where
-  pub faultless : fault_of command words ≡ []
-  pub none : (line : Line) → Finds (subcommand_of command words) line → ⊥
+pub record IsUnfit {L : Type 0} (program : App) (IsLineOf : Text → List Row → L → Type 0)
+    (words : List Text) (fault : LineFault) : Type 0 where
+  pub faultless : fault_of program words ≡ []
+  pub none : (line : L) → Finds IsLineOf (subcommand_of program words) line → ⊥
   pub refused : AreWordsRefused fault
 
 -- An allocation failed, or clap refuses the words with an error of a kind for which the fault is,
 -- or what it finds in them fits no line.
-abbrev pub IsLineFault : List Text → LineFault → Type 0
-IsLineFault words fault =
+abbrev pub IsLineFault : {L : Type 0} → App → (Text → List Row → L → Type 0) → List Text → LineFault
+    → Type 0
+IsLineFault program IsLineOf words fault =
     (fault ≡ NoMemory)
-    ⊎ ((k : ErrorKind) × IsAmong k (fault_of command words) × IsClapFaultFor k fault)
-    ⊎ IsUnfit words fault
+    ⊎ ((k : ErrorKind) × IsAmong k (fault_of program words) × IsClapFaultFor k fault)
+    ⊎ IsUnfit program IsLineOf words fault

@@ -5,7 +5,7 @@ ghost use Rattle.clap.specs.Words.{app_of, new_app, rule_of};
 ghost use Rattle.clap.specs.declared.builder.command.Command.TheViews.{out-Command as fields_of};
 ghost use Rattle.command_line.specs.Command as spec;
 
-use crate::table::{COMMANDS, CommandRow, FileRow, OptionRow, Takes};
+use crate::table::{CommandRow, FileRow, OptionRow, Takes};
 use clap::builder::ValueParser;
 use clap::{Arg, ArgAction, Command};
 use std::alloc::{AllocError, Global};
@@ -79,37 +79,25 @@ fn with_options<'a>(
 
 /// A command of the table, with its files and its options.
 fn command_of<'a>(alloc: Global, row: &CommandRow) -> Result<Command<'a>, AllocError>
-    ensures shape { IfOk result (λ c. app_of c ≡ spec.command_of row.now.1.now
-        (map (λ f. f.0.now) row.now.3.now) (map (λ o. (o.0.now, o.2)) row.now.4.now)) }
+    ensures shape { IfOk result (λ c. app_of c ≡ spec.command_of row.now.0.now
+        (map (λ f. f.0.now) row.now.2.now) (map (λ o. (o.0.now, o.2)) row.now.3.now)) }
     ensures globals { IfOk result (λ c. (fields_of c).has_globals ≡ false) }
 {
-    let (_, name, about, files, options) = *row;
+    let (name, about, files, options) = *row;
     let command = Command::new(alloc, name).about(about);
     with_options(alloc, with_files(alloc, command, files)?, options)
 }
 
 /// The program, with these commands.
-fn with_commands<'a>(
-    alloc: Global,
-    mut program: Command<'a>,
-    rows: &[CommandRow],
-) -> Result<Command<'a>, AllocError>
-    ensures { IfOk result (λ c. app_of c ≡ spec.with_commands (app_of program.entry)
-        (map (λ row. spec.command_of row.1.now (map (λ f. f.0.now) row.3.now)
-        (map (λ o. (o.0.now, o.2)) row.4.now)) rows.now)) }
+pub(crate) fn program<'a>(alloc: Global, rows: &[CommandRow]) -> Result<Command<'a>, AllocError>
+    ensures { IfOk result (λ c. app_of c ≡ spec.program_of (map (λ row. spec.command_of row.0.now
+        (map (λ f. f.0.now) row.2.now) (map (λ o. (o.0.now, o.2)) row.3.now)) rows.now)) }
 {
+    let mut program = Command::new(alloc, "fcbench")
+        .about("judges histories of concurrent objects")
+        .subcommand_required(true);
     for row in rows {
         program = program.subcommand(command_of(alloc, row)?)?;
     }
     Ok(program)
-}
-
-/// The program, with the commands of the table.
-pub(crate) fn command<'a>(alloc: Global) -> Result<Command<'a>, AllocError>
-    ensures { IfOk result (λ c. app_of c ≡ spec.command) }
-{
-    let program = Command::new(alloc, "fcbench")
-        .about("judges histories of concurrent objects")
-        .subcommand_required(true);
-    with_commands(alloc, program, COMMANDS.as_slice())
 }

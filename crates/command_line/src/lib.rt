@@ -1,34 +1,55 @@
-//! The command line: what its words ask for. A table has the commands with their files and options.
-//! `clap`, told the table, reads the words, writes help, and says what is wrong.
+//! The command lines of the bench and of the verifier: what their words ask for. A table has the
+//! commands with their files and options. `clap`, told a program's rows of the table, reads the
+//! words, writes help, and says what is wrong.
 #![tactic(auto)]
 
 ghost use Rattle.std.specs.Prelude.{map, MatchResult};
+ghost use Rattle.command_line.specs.Command.{bench, verifier};
 ghost use Rattle.command_line.specs.Lines as spec;
+ghost use Rattle.command_line.specs.Lines.{IsLine, IsHistoryLine};
 
-mod asking;
 mod command;
-mod help;
+mod faults;
 mod lines;
-mod on_folder;
+mod reading;
 mod table;
+mod values;
 
-use crate::command::command;
-use crate::help::{explain, fault_of};
-use crate::lines::read_line;
-pub use asking::{Line, LineFault, RunOptions};
-pub use on_folder::{FolderLine, SplitLine};
+use crate::command::program;
+use crate::faults::{explain, fault_of};
+use crate::reading::{bench_line, verifier_line};
+use crate::table::{BENCH_COMMANDS, HISTORY_COMMANDS};
+pub use faults::LineFault;
+pub use lines::{
+    CheckLine, FilesLine, FolderLine, HistoryLine, Line, RefuteLine, RunOptions, SearchLine,
+    SplitLine, VerifyLine,
+};
 use std::alloc::Global;
 use std::convert::AsStr;
 
-/// Returns what the arguments ask for, the program's name being the first of them.
+/// Returns what the arguments ask of the bench, the program's name being the first of them.
 pub fn line<S: AsStr>(alloc: Global, words: &[S]) -> Result<Line, LineFault>
-    ensures { MatchResult result (spec.AskFor (map S.text words.now))
-        (spec.IsLineFault (map S.text words.now)) }
+    ensures { MatchResult result (spec.AskFor bench IsLine (map S.text words.now))
+        (spec.IsLineFault bench IsLine (map S.text words.now)) }
 {
-    match command(alloc)?.try_get_matches_from(words) {
-        Ok(matches) => match read_line(alloc, &matches) {
+    match program(alloc, BENCH_COMMANDS.as_slice())?.try_get_matches_from(words) {
+        Ok(matches) => match bench_line(alloc, matches.subcommand()) {
             Ok(line) => Ok(line),
-            Err(unread) => Err(explain(alloc, &unread)),
+            Err(unfit) => Err(explain(alloc, &unfit)),
+        },
+        Err(error) => Err(fault_of(alloc, &error)),
+    }
+}
+
+/// Returns what the arguments ask of the verifier, the program's name being the first of them.
+pub fn history_line<S: AsStr>(alloc: Global, words: &[S]) -> Result<HistoryLine, LineFault>
+    ensures { MatchResult result (spec.AskFor verifier IsHistoryLine (map S.text words.now))
+        (spec.IsLineFault verifier IsHistoryLine (map S.text words.now)) }
+{
+    match program(alloc, HISTORY_COMMANDS.as_slice())?.try_get_matches_from(words) {
+        Ok(matches) => match verifier_line(alloc, matches.subcommand()) {
+            Ok(line) => Ok(line),
+            Err(unfit) => Err(explain(alloc, &unfit)),
         },
         Err(error) => Err(fault_of(alloc, &error)),
     }

@@ -1,22 +1,6 @@
 //! The commands, with their files and their options. Rows are tuples, since a contract can name no
 //! constant that holds a struct with references.
 
-ghost use Rattle.std.specs.Prelude.{◌≡◌};
-ghost use Rattle.command_line.specs.Lines as spec;
-
-/// Which command it is.
-#[derive(Clone, Copy)]
-pub enum Verb {
-    Check,
-    Search,
-    Refute,
-    Verify,
-    Run,
-    Simulate,
-    Split,
-    Merge,
-}
-
 /// The numbers that an option takes, and its default.
 #[derive(Clone, Copy)]
 pub struct Bounds {
@@ -43,9 +27,8 @@ pub type FileRow = (&'static str, &'static str);
 /// An option: its name, its help, and what it takes.
 pub type OptionRow = (&'static str, &'static str, Takes);
 
-/// A command: which it is, its name, what it does, its files in their order, and its options.
+/// A command: its name, what it does, its files in their order, and its options.
 pub type CommandRow = (
-    Verb,
     &'static str,
     &'static str,
     &'static [FileRow],
@@ -106,165 +89,155 @@ const HISTORY: FileRow = (
     "a history, one map for each event, as Jepsen writes it; import makes one from a Jepsen store",
 );
 
-/// The commands, as help lists them.
-pub const COMMANDS: [CommandRow; 8] = [
-    (
-        Verb::Check,
-        "check",
-        "checks a history against certificates, one order of operations for each object",
-        &[
-            HISTORY,
-            (
-                "CERTS",
-                "a file of certificates, one order of operations for each object",
-            ),
-        ],
-        &[(
-            "workers",
-            "how many threads share the check, 1 to 16 (default 1)",
-            Takes::Number(WORKERS),
-        )],
-    ),
-    (
-        Verb::Search,
-        "search",
-        "searches for an order for each object, or shows that there is none",
-        &[HISTORY],
-        &[
-            (
-                "steps",
-                "the most steps for each object, 0 to 1000000000 (default 1000000)",
-                Takes::Number(STEPS),
-            ),
-            (
-                "first",
-                "try operations by their number or by their return: number, return (default number)",
-                Takes::TryFirst,
-            ),
-        ],
-    ),
-    (
-        Verb::Refute,
-        "refute",
-        "checks reasons why a history is not linearizable",
-        &[
-            HISTORY,
-            (
-                "REASONS",
-                "a file of reasons, each a small part of the history that has no valid order",
-            ),
-        ],
-        &[(
-            "steps",
-            "the most steps for each reason, 0 to 1000000000 (default 1000000)",
-            Takes::Number(STEPS),
-        )],
-    ),
-    (
-        Verb::Verify,
-        "verify",
-        "checks orders and reasons from any source, and judges the history by them",
-        &[
-            HISTORY,
-            (
-                "EVIDENCE",
-                "a file of orders, reasons and searches for objects of the history",
-            ),
-        ],
-        &[
-            (
-                "steps",
-                "limit of a search if the evidence names none, 0 to 1000000000 (default 1000000)",
-                Takes::Number(STEPS),
-            ),
-            (
-                "workers",
-                "how many threads read the history, 1 to 16 (default 1)",
-                Takes::Number(WORKERS),
-            ),
-        ],
-    ),
-    (
-        Verb::Run,
-        "run",
-        "runs clients on objects and judges what they did",
-        &[],
-        &[
-            (
-                "kind",
-                "the kind of all objects: queue, stack, heap, register, map, mutex, set, counter or lock; or mixed, which is the first five in turn (default queue)",
-                Takes::Kind,
-            ),
-            (
-                "objects",
-                "how many objects, 1 to 16 (default 1)",
-                Takes::Number(OBJECTS),
-            ),
-            (
-                "clients",
-                "how many clients, 1 to 32 (default 2)",
-                Takes::Number(CLIENTS),
-            ),
-            (
-                "calls",
-                "how many calls each client makes, 0 to 10000 (default 100)",
-                Takes::Number(CALLS),
-            ),
-            ("seed", "seed of the calls (default 0)", Takes::Number(SEED)),
-        ],
-    ),
-    (
-        Verb::Simulate,
-        "simulate",
-        "plays a schedule and judges its record",
-        &[("SCHEDULE", "a file with the steps of the clients")],
-        &[],
-    ),
-    (
-        Verb::Split,
-        "split",
-        "divides a history of any length into shards, each a history of its own, by objects",
-        &[
-            HISTORY,
-            ("FOLDER", "the folder for the shards; created if missing"),
-        ],
-        &[(
-            "shards",
-            "how many shards, 1 to 10000 (default 64)",
-            Takes::Number(SHARDS),
-        )],
-    ),
-    (
-        Verb::Merge,
-        "merge",
-        "verifies each shard of a history by its evidence, and judges the full history",
-        &[(
-            "FOLDER",
-            "the folder with the shards, and the evidence of each",
-        )],
-        &[
-            (
-                "steps",
-                "limit of a search if the evidence names none, 0 to 1000000000 (default 1000000)",
-                Takes::Number(STEPS),
-            ),
-            (
-                "trust-statuses",
-                "checks nothing: trusts the exit statuses of judge in the files N.status; ignores --steps",
-                Takes::Nothing,
-            ),
-        ],
-    ),
-];
+const CHECK: CommandRow = (
+    "check",
+    "checks a history against certificates, one order of operations for each object",
+    &[
+        HISTORY,
+        (
+            "CERTS",
+            "a file of certificates, one order of operations for each object",
+        ),
+    ],
+    &[(
+        "workers",
+        "how many threads share the check, 1 to 16 (default 1)",
+        Takes::Number(WORKERS),
+    )],
+);
 
-/// Which command has this name.
-pub(crate) fn verb_named(name: &str) -> Option<Verb>
-    ensures { result ≡ spec.verb_named name.now }
-{
-    for row in COMMANDS.iter() {
-        if row.1 == name {
-            return Some(row.0);
-        }
-    }
-    None
-}
+const SEARCH: CommandRow = (
+    "search",
+    "searches for an order for each object, or shows that there is none",
+    &[HISTORY],
+    &[
+        (
+            "steps",
+            "the most steps for each object, 0 to 1000000000 (default 1000000)",
+            Takes::Number(STEPS),
+        ),
+        (
+            "first",
+            "try operations by their number or by their return: number, return (default number)",
+            Takes::TryFirst,
+        ),
+    ],
+);
+
+const REFUTE: CommandRow = (
+    "refute",
+    "checks reasons why a history is not linearizable",
+    &[
+        HISTORY,
+        (
+            "REASONS",
+            "a file of reasons, each a small part of the history that has no valid order",
+        ),
+    ],
+    &[(
+        "steps",
+        "the most steps for each reason, 0 to 1000000000 (default 1000000)",
+        Takes::Number(STEPS),
+    )],
+);
+
+const VERIFY: CommandRow = (
+    "verify",
+    "checks orders and reasons from any source, and judges the history by them",
+    &[
+        HISTORY,
+        (
+            "EVIDENCE",
+            "a file of orders, reasons and searches for objects of the history",
+        ),
+    ],
+    &[
+        (
+            "steps",
+            "limit of a search if the evidence names none, 0 to 1000000000 (default 1000000)",
+            Takes::Number(STEPS),
+        ),
+        (
+            "workers",
+            "how many threads read the history, 1 to 16 (default 1)",
+            Takes::Number(WORKERS),
+        ),
+    ],
+);
+
+const RUN: CommandRow = (
+    "run",
+    "runs clients on objects and judges what they did",
+    &[],
+    &[
+        (
+            "kind",
+            "the kind of all objects: queue, stack, heap, register, map, mutex, set, counter or lock; or mixed, which is the first five in turn (default queue)",
+            Takes::Kind,
+        ),
+        (
+            "objects",
+            "how many objects, 1 to 16 (default 1)",
+            Takes::Number(OBJECTS),
+        ),
+        (
+            "clients",
+            "how many clients, 1 to 32 (default 2)",
+            Takes::Number(CLIENTS),
+        ),
+        (
+            "calls",
+            "how many calls each client makes, 0 to 10000 (default 100)",
+            Takes::Number(CALLS),
+        ),
+        ("seed", "seed of the calls (default 0)", Takes::Number(SEED)),
+    ],
+);
+
+const SIMULATE: CommandRow = (
+    "simulate",
+    "plays a schedule and judges its record",
+    &[("SCHEDULE", "a file with the steps of the clients")],
+    &[],
+);
+
+const SPLIT: CommandRow = (
+    "split",
+    "divides a history of any length into shards, each a history of its own, by objects",
+    &[
+        HISTORY,
+        ("FOLDER", "the folder for the shards; created if missing"),
+    ],
+    &[(
+        "shards",
+        "how many shards, 1 to 10000 (default 64)",
+        Takes::Number(SHARDS),
+    )],
+);
+
+const MERGE: CommandRow = (
+    "merge",
+    "verifies each shard of a history by its evidence, and judges the full history",
+    &[(
+        "FOLDER",
+        "the folder with the shards, and the evidence of each",
+    )],
+    &[
+        (
+            "steps",
+            "limit of a search if the evidence names none, 0 to 1000000000 (default 1000000)",
+            Takes::Number(STEPS),
+        ),
+        (
+            "trust-statuses",
+            "checks nothing: trusts the exit statuses of judge in the files N.status; ignores --steps",
+            Takes::Nothing,
+        ),
+    ],
+);
+
+/// The commands of the bench, as help lists them.
+pub const BENCH_COMMANDS: [CommandRow; 4] = [CHECK, SEARCH, RUN, SIMULATE];
+
+/// The commands of the verifier, as help lists them.
+pub const HISTORY_COMMANDS: [CommandRow; 6] = [CHECK, SEARCH, REFUTE, VERIFY, SPLIT, MERGE];
