@@ -16,8 +16,8 @@ use Rattle.clap.specs.declared.parser.matches.ArgMatches.{ArgMatches}
 use Rattle.clap.specs.declared.parser.matches.ArgMatches.TheViews.{out-ArgMatches, out-SubCommand}
 use Rattle.command_line.specs.Command.{bench, verifier}
 use Rattle.command_line.specs.Lines.{AreWordsRefused, AskFor, Finds, IsClapFaultFor, IsLineFault, rows_in}
-use Rattle.command_line.specs.declared.faults.LineFault.{LineFault}
-use Rattle.command_line.specs.declared.faults.LineFault.TheVariants as said
+use Rattle.command_line.specs.declared.line_fault.LineFault.{LineFault}
+use Rattle.command_line.specs.declared.line_fault.LineFault.TheVariants as said
 use Rattle.command_line.specs.declared.values.Unfit.{Unfit}
 use Rattle.command_line.specs.declared.values.Unfit.TheVariants.{NoMemory, NoCommand, Value}
 
@@ -72,8 +72,8 @@ module _ {L : Type 0} (IsLineOf : Text → List Row → L → Type 0) (program :
       | inr among ↦ inr (inl (kind_of e, among, k))
     ]
 
-    module _ (m : ArgMatches) (kinds : is_simple_and_free a ≡ true → fault_of a words ≡ []) (has : HasMatchesOf a words m)
-        (command : Option (Text × List Row)) (found : command ≡ subcommand_rows_of m)
+    module _ (m : ArgMatches) (kinds : is_simple_and_free a ≡ true → fault_of a words ≡ [])
+        (has : HasMatchesOf a words m) (command : Option (Text × List Row)) (found : command ≡ subcommand_rows_of m)
       where
         faultless : fault_of program words ≡ []
         faultless = subst (λ a. is_simple_and_free a ≡ true → fault_of a words ≡ []) is kinds simple.0
@@ -84,17 +84,19 @@ module _ {L : Type 0} (IsLineOf : Text → List Row → L → Type 0) (program :
         pub asked : (l : L) → Finds IsLineOf command l → AskFor program IsLineOf words l
         asked l f = record { faultless = faultless; finds = subst (λ o. Finds IsLineOf o l) entered f }
 
+        unasked : ((l : L) → Finds IsLineOf command l → ⊥) → (l : L) → Finds IsLineOf (subcommand_of program words) l → ⊥
+        unasked none l f = none l (subst (λ o. Finds IsLineOf o l) (sym entered) f)
+
         unfit : (f : LineFault) → ((l : L) → Finds IsLineOf command l → ⊥) → (f ≡ said.NoMemory) ⊎ AreWordsRefused f
             → IsLineFault program IsLineOf words f
-        unfit f none said = elim said [
+        unfit f none refuses = elim refuses [
           | inl e ↦ inl e
-          | inr r ↦ inr (inr (record
-              { faultless = faultless; none = λ l h. none l (subst (λ o. Finds IsLineOf o l) (sym entered) h); refused = r }))
+          | inr r ↦ inr (inr (record { faultless = faultless; none = unasked none; refused = r }))
         ]
 
         pub not_read : (u : Unfit) (f : LineFault) → (u ≡ NoMemory → f ≡ said.NoMemory)
             → (f ≡ said.NoMemory) ⊎ AreWordsRefused f → (u ≢ NoMemory → (l : L) → Finds IsLineOf command l → ⊥)
             → IsLineFault program IsLineOf words f
-        not_read NoMemory f memory said none = inl (memory refl)
-        not_read NoCommand f memory said none = unfit f (none (λ e. cc)) said
-        not_read (Value name takes) f memory said none = unfit f (none (λ e. cc)) said
+        not_read NoMemory f memory refuses none = inl (memory refl)
+        not_read NoCommand f memory refuses none = unfit f (none (λ e. cc)) refuses
+        not_read (Value name takes) f memory refuses none = unfit f (none (λ e. cc)) refuses

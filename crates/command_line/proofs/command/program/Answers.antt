@@ -8,7 +8,11 @@ use Rattle.command_line.proofs.command.program.Goals as goal
 pub loop-row-init : goal.loop-row-init
 loop-row-init c =
     let start : app_of c.subcommand_required-program.result ≡ program = search rules in
-    ap (λ a. with_commands a (map (λ row. command_of row.0.now (map (λ f. f.0.now) row.2.now) (map (λ o. (o.0.now, o.2)) row.3.now)) c.args.rows.now)) start
+    ap
+    (λ a. with_commands a
+    (map (λ row. command_of row.0.now (map (λ f. f.0.now) row.2.now) (map (λ o. (o.0.now, o.2)) row.3.now))
+    c.args.rows.now))
+    start
 
 pub loop-row-preserved : goal.loop-row-preserved
 loop-row-preserved c =

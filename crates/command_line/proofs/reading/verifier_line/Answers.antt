@@ -32,5 +32,7 @@ module _ (name : Text) (rows : List Row) (named : name ≡ codes "merge") where
 
 pub returns-in_err-merge_of-in-merge : goal.returns-in_err-merge_of-in-merge
 returns-in_err-merge_of-in-merge c =
-    rw c.in-Some.is (unread c.in-Some.name.now (rows_in c.in-Some.found.now) c.in-merge.is c.from_residual-in_err-merge_of-in-merge.result
-    c.in_err-merge_of-in-merge.field-0.0 c.from_residual-in_err-merge_of-in-merge.ensures.1 c.in_err-merge_of-in-merge.ensures)
+    let err = c.from_residual-in_err-merge_of-in-merge in
+    rw c.in-Some.is
+    (unread c.in-Some.name.now (rows_in c.in-Some.found.now) c.in-merge.is err.result
+    c.in_err-merge_of-in-merge.field-0.0 err.ensures.1 c.in_err-merge_of-in-merge.ensures)
