@@ -17,8 +17,8 @@ use Rattle.order_search.specs.declared.trials.TryFirst.{TryFirst}
 use Rattle.order_search.specs.declared.trials.TryFirst.TheVariants.{LeastNumber, LeastReturn}
 use Rattle.seq_objects.specs.declared.kinds.Kinds.{Kinds}
 use Rattle.seq_objects.specs.Kinds.{default_kinds, kinds_named}
-use Rattle.command_line.specs.declared.faults.LineFault.{LineFault}
-use Rattle.command_line.specs.declared.faults.LineFault.TheVariants.{Help, Refused, NoMemory}
+use Rattle.command_line.specs.declared.line_fault.LineFault.{LineFault}
+use Rattle.command_line.specs.declared.line_fault.LineFault.TheVariants.{Help, Refused, NoMemory}
 use Rattle.command_line.specs.declared.lines.CheckLine.{CheckLine}
 use Rattle.command_line.specs.declared.lines.FilesLine.{FilesLine}
 use Rattle.command_line.specs.declared.lines.FilesLine.TheVariants.{Check, Search, Refute, Verify}
@@ -37,7 +37,7 @@ use Rattle.command_line.specs.declared.table.Bounds.{Bounds}
 use Rattle.command_line.specs.declared.table.TheConstants.{WORKERS, STEPS, OBJECTS, CLIENTS, CALLS}
 use Rattle.command_line.specs.declared.table.TheConstants.{SEED, SHARDS}
 use Rattle.command_line.specs.declared.values.Unfit.{Unfit}
-use Rattle.command_line.specs.declared.values.Unfit.TheVariants as unread
+use Rattle.command_line.specs.declared.values.Unfit.TheVariants as unfit
 
 -- The number is what the option's value says, a decimal number within these bounds, before which a
 -- plus is allowed. If the option is not given, it is the default.
@@ -109,13 +109,6 @@ IsSplitLine rows line =
     × IsFile (codes "FOLDER") rows (string_bytes line.folder)
     × IsNumber SHARDS (first_of (codes "shards") rows) line.shards
 
-abbrev pub IsMergeLine : List Row → FolderLine → Type 0
-IsMergeLine rows (Split line) = ⊥
-IsMergeLine rows (Merge folder steps trust_statuses) =
-    IsFile (codes "FOLDER") rows (string_bytes folder)
-    × IsNumber STEPS (first_of (codes "steps") rows) steps
-    × (trust_statuses ≡ is_given (first_of (codes "trust-statuses") rows))
-
 -- the bench's line of the command with this name
 abbrev pub IsLine : Text → List Row → Line → Type 0
 IsLine name rows (bench.Check line) = (name ≡ codes "check") × IsCheckLine rows line
@@ -133,7 +126,9 @@ IsFilesLine name rows (Verify line) = (name ≡ codes "verify") × IsVerifyLine 
 abbrev pub IsFolderLine : Text → List Row → FolderLine → Type 0
 IsFolderLine name rows (Split line) = (name ≡ codes "split") × IsSplitLine rows line
 IsFolderLine name rows (Merge folder steps trust_statuses) =
-    (name ≡ codes "merge") × IsMergeLine rows (Merge folder steps trust_statuses)
+    (name ≡ codes "merge") × IsFile (codes "FOLDER") rows (string_bytes folder)
+    × IsNumber STEPS (first_of (codes "steps") rows) steps
+    × (trust_statuses ≡ is_given (first_of (codes "trust-statuses") rows))
 
 -- the verifier's line of the command with this name
 abbrev pub IsHistoryLine : Text → List Row → HistoryLine → Type 0
@@ -148,9 +143,10 @@ rows_in m = rows_of (found_of m)
 
 -- a line of which this holds was read, or there is none, unless an allocation failed
 abbrev pub IsRead : {L : Type 0} → (L → Type 0) → Result L Unfit → Type 0
-IsRead {L} IsAsked r = MatchResult r IsAsked (λ u. u ≢ unread.NoMemory → (line : L) → IsAsked line → ⊥)
+IsRead {L} IsIt r =
+    MatchResult r IsIt (λ u. u ≢ unfit.NoMemory → (line : L) → IsIt line → ⊥)
 
--- Clap found a command, and rows for it. A program says which line they are.
+-- clap found a command and its rows, of which this is the program's line
 abbrev pub Finds : {L : Type 0} → (Text → List Row → L → Type 0) → Option (Text × List Row) → L
     → Type 0
 Finds IsLineOf found line = IsSomeAnd found (λ f. IsLineOf f.0 f.1 line)

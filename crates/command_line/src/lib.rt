@@ -9,17 +9,18 @@ ghost use Rattle.command_line.specs.Lines as spec;
 ghost use Rattle.command_line.specs.Lines.{IsLine, IsHistoryLine};
 
 mod command;
-mod faults;
+mod help;
+mod line_fault;
 mod lines;
 mod reading;
 mod table;
 mod values;
 
 use crate::command::program;
-use crate::faults::{explain, fault_of};
+use crate::help::{explain, fault_of};
 use crate::reading::{bench_line, verifier_line};
 use crate::table::{BENCH_COMMANDS, HISTORY_COMMANDS};
-pub use faults::LineFault;
+pub use line_fault::LineFault;
 pub use lines::{
     CheckLine, FilesLine, FolderLine, HistoryLine, Line, RefuteLine, RunOptions, SearchLine,
     SplitLine, VerifyLine,
@@ -48,7 +49,7 @@ pub fn history_line<S: AsStr>(alloc: Global, words: &[S]) -> Result<HistoryLine,
 {
     match program(alloc, HISTORY_COMMANDS.as_slice())?.try_get_matches_from(words) {
         Ok(matches) => match verifier_line(alloc, matches.subcommand()) {
-            Ok(line) => Ok(line),
+            Ok(history_line) => Ok(history_line),
             Err(unfit) => Err(explain(alloc, &unfit)),
         },
         Err(error) => Err(fault_of(alloc, &error)),

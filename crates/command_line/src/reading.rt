@@ -1,7 +1,6 @@
 //! The line of the command that `clap` found in the words.
 
 ghost use Rattle.std.specs.Prelude.{codes, option_map};
-ghost use Rattle.std.specs.String.{string_bytes};
 ghost use Rattle.command_line.specs.Lines as spec;
 ghost use Rattle.command_line.specs.Lines.{rows_in};
 
@@ -84,13 +83,6 @@ fn options_of(found: &ArgMatches<'_>) -> Result<RunOptions, Unfit>
     })
 }
 
-fn schedule_of(alloc: Global, found: &ArgMatches<'_>) -> Result<String, Unfit>
-    ensures { spec.IsRead (λ s. spec.IsFile (codes "SCHEDULE") (rows_in found.now)
-        (string_bytes s)) result }
-{
-    file_of(alloc, found, "SCHEDULE")
-}
-
 fn split_of(alloc: Global, found: &ArgMatches<'_>) -> Result<SplitLine, Unfit>
     ensures { spec.IsRead (spec.IsSplitLine (rows_in found.now)) result }
 {
@@ -104,7 +96,7 @@ fn split_of(alloc: Global, found: &ArgMatches<'_>) -> Result<SplitLine, Unfit>
 }
 
 fn merge_of(alloc: Global, found: &ArgMatches<'_>) -> Result<FolderLine, Unfit>
-    ensures { spec.IsRead (spec.IsMergeLine (rows_in found.now)) result }
+    ensures { spec.IsRead (spec.IsFolderLine (codes "merge") (rows_in found.now)) result }
 {
     let folder = file_of(alloc, found, "FOLDER")?;
     let steps = number_of(found, "steps", STEPS)? as u32;
@@ -124,12 +116,15 @@ pub(crate) fn bench_line(
     ensures { spec.IsRead (spec.Finds spec.IsLine
         (option_map (λ c. (c.0.now, rows_in c.1.now)) command.entry)) result }
 {
-    match command {
-        Some(("check", found)) => Ok(Line::Check(check_of(alloc, found)?)),
-        Some(("search", found)) => Ok(Line::Search(search_of(alloc, found)?)),
-        Some(("run", found)) => Ok(Line::Run(options_of(found)?)),
-        Some(("simulate", found)) => Ok(Line::Simulate {
-            schedule: schedule_of(alloc, found)?,
+    let Some((name, found)) = command else {
+        return Err(Unfit::NoCommand);
+    };
+    match name {
+        "check" => Ok(Line::Check(check_of(alloc, found)?)),
+        "search" => Ok(Line::Search(search_of(alloc, found)?)),
+        "run" => Ok(Line::Run(options_of(found)?)),
+        "simulate" => Ok(Line::Simulate {
+            schedule: file_of(alloc, found, "SCHEDULE")?,
         }),
         _ => Err(Unfit::NoCommand),
     }
@@ -143,13 +138,16 @@ pub(crate) fn verifier_line(
     ensures { spec.IsRead (spec.Finds spec.IsHistoryLine
         (option_map (λ c. (c.0.now, rows_in c.1.now)) command.entry)) result }
 {
-    match command {
-        Some(("check", found)) => Ok(OnFiles(FilesLine::Check(check_of(alloc, found)?))),
-        Some(("search", found)) => Ok(OnFiles(FilesLine::Search(search_of(alloc, found)?))),
-        Some(("refute", found)) => Ok(OnFiles(FilesLine::Refute(refute_of(alloc, found)?))),
-        Some(("verify", found)) => Ok(OnFiles(FilesLine::Verify(verify_of(alloc, found)?))),
-        Some(("split", found)) => Ok(OnFolder(FolderLine::Split(split_of(alloc, found)?))),
-        Some(("merge", found)) => Ok(OnFolder(merge_of(alloc, found)?)),
+    let Some((name, found)) = command else {
+        return Err(Unfit::NoCommand);
+    };
+    match name {
+        "check" => Ok(OnFiles(FilesLine::Check(check_of(alloc, found)?))),
+        "search" => Ok(OnFiles(FilesLine::Search(search_of(alloc, found)?))),
+        "refute" => Ok(OnFiles(FilesLine::Refute(refute_of(alloc, found)?))),
+        "verify" => Ok(OnFiles(FilesLine::Verify(verify_of(alloc, found)?))),
+        "split" => Ok(OnFolder(FolderLine::Split(split_of(alloc, found)?))),
+        "merge" => Ok(OnFolder(merge_of(alloc, found)?)),
         _ => Err(Unfit::NoCommand),
     }
 }

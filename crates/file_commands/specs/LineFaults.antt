@@ -1,6 +1,6 @@
 -- How the program ends if words give no command.
-use Rattle.command_line.specs.declared.faults.LineFault.{LineFault}
-use Rattle.command_line.specs.declared.faults.LineFault.TheVariants.{Help, Refused, NoMemory}
+use Rattle.command_line.specs.declared.line_fault.LineFault.{LineFault}
+use Rattle.command_line.specs.declared.line_fault.LineFault.TheVariants.{Help, Refused, NoMemory}
 use Rattle.history_commands.specs.declared.status.Status.{Status}
 use Rattle.history_commands.specs.declared.status.Status.TheVariants.{Yes, Usage, OutOfMemory}
 

@@ -1,45 +1,15 @@
-//! Why words give no line, and the text that says so.
+//! The text for a command line that is refused.
 
-ghost use Rattle.std.specs.Prelude.{◌≡◌, ◌≢◌};
+ghost use Rattle.std.specs.Prelude.{◌≡◌, ◌⊎◌};
 ghost use Rattle.clap.specs.Values.{kind_of};
 ghost use Rattle.command_line.specs.Lines as spec;
-ghost use Rattle.command_line.specs.declared.faults.LineFault.TheVariants.{NoMemory};
 
+use crate::line_fault::LineFault;
 use crate::table::Takes;
 use crate::values::Unfit;
 use clap::Error;
 use clap::error::ErrorKind;
-use std::alloc::{AllocError, AllocFailed, Global};
-use thiserror::Error as ErrorText;
-
-/// Why there is no command: help was asked for, the words are wrong, or an allocation failed.
-#[derive(Debug, Drop, ErrorText)]
-pub enum LineFault {
-    /// They ask for help: this text.
-    #[error("{0}")]
-    Help(String),
-    /// They are refused, for this reason.
-    #[error("{0}")]
-    Refused(String),
-    #[error("out of memory")]
-    NoMemory,
-}
-
-impl From<AllocError> for LineFault {
-    ghost from_gives = { λ _ e. e ≡ NoMemory };
-
-    fn from(_e: AllocError) -> LineFault {
-        LineFault::NoMemory
-    }
-}
-
-impl<T: Drop> From<AllocFailed<T>> for LineFault {
-    ghost from_gives = { λ _ e. e ≡ NoMemory };
-
-    fn from(_e: AllocFailed<T>) -> LineFault {
-        LineFault::NoMemory
-    }
-}
+use std::alloc::{AllocError, Global};
 
 /// What `--kind` takes.
 const KINDS: &str = "queue, stack, heap, register, map, mutex, set, counter, lock, mixed";
@@ -62,8 +32,8 @@ pub(crate) fn fault_of(alloc: Global, error: &Error) -> LineFault
 }
 
 /// Why a value that `clap` accepted is refused.
-fn reason_of(alloc: Global, unread: &Unfit) -> Result<String, AllocError> {
-    let Unfit::Value(name, takes) = unread else {
+fn reason_of(alloc: Global, unfit: &Unfit) -> Result<String, AllocError> {
+    let Unfit::Value(name, takes) = unfit else {
         return String::from_str(alloc, "error: these words are no command\n");
     };
     match takes {
@@ -80,14 +50,14 @@ fn reason_of(alloc: Global, unread: &Unfit) -> Result<String, AllocError> {
 }
 
 /// Says why what was found fits no line.
-pub(crate) fn explain(alloc: Global, unread: &Unfit) -> LineFault
-    ensures memory { unread.now ≡ Unfit.NoMemory → result ≡ LineFault.NoMemory }
-    ensures refused { result ≢ LineFault.NoMemory → spec.AreWordsRefused result }
+pub(crate) fn explain(alloc: Global, unfit: &Unfit) -> LineFault
+    ensures memory { unfit.now ≡ Unfit.NoMemory → result ≡ LineFault.NoMemory }
+    ensures refused { (result ≡ LineFault.NoMemory) ⊎ spec.AreWordsRefused result }
 {
-    if matches!(unread, Unfit::NoMemory) {
+    if matches!(unfit, Unfit::NoMemory) {
         return LineFault::NoMemory;
     }
-    match reason_of(alloc, unread) {
+    match reason_of(alloc, unfit) {
         Ok(text) => LineFault::Refused(text),
         Err(_) => LineFault::NoMemory,
     }
