@@ -70,7 +70,13 @@ fn simulate_file<F: Source, S: Sink>(
 {
     match read_text(alloc, schedule) {
         Ok(text) => Ok(write_output(play(alloc, &text), sink)),
-        Err(fault) => end_unread(UnreadSource { which: WhichSource::First, fault }, sink),
+        Err(fault) => end_unread(
+            UnreadSource {
+                which: WhichSource::First,
+                fault,
+            },
+            sink,
+        ),
     }
 }
 

@@ -9,8 +9,8 @@ ghost use Rattle.embedding.specs.Handed.{IsAnswered};
 
 use crate::answer::answer;
 use history_commands::{Status, verdict_output};
-use text_check::check_alone;
 use std::alloc::Global;
+use text_check::check_alone;
 
 /// Judges a history by certificates, and writes the lines of the verdict, or as much of them as
 /// there is room for. `needed` is how long they are.

@@ -21,10 +21,14 @@ module _ {F G S : Type 0} (first_left : F → Option (List ℕ)) (first_broken :
         → IsUnreadFile first_left first_broken first_refuses second_left second_broken second_refuses first first_after
         second second_after sink sink_after which
     unread_file which fault u failed nothing = record {
-      unread_first = λ w. (subst (SourceAfterFault (first_broken first_after)) failed (u.first_state w),
-          u.second_untouched w);
-      unread_second = λ w. (u.first_usable w,
-          subst (SourceAfterFault (second_broken second_after)) failed (u.second_state w));
+      unread_first = λ w. (
+        subst (SourceAfterFault (first_broken first_after)) failed (u.first_state w),
+        u.second_untouched w,
+      );
+      unread_second = λ w. (
+        u.first_usable w,
+        subst (SourceAfterFault (second_broken second_after)) failed (u.second_state w),
+      );
       first_refused = λ w. u.first_refused w failed;
       second_refused = λ w. u.second_refused w failed;
       nothing_written = nothing;

@@ -19,8 +19,7 @@ const LOOKS: u32 = 200;
 const MILLISECONDS_BETWEEN_LOOKS: u64 = 5;
 
 /// What a program uses of the host.
-pub trait Host:
-    Files<File = File> + AllocGlobal + Print + Eprint + Clock + Threads + Wait + Sync {}
+pub trait Host: Files<File = File> + AllocGlobal + Print + Eprint + Clock + Threads + Wait + Sync {}
 
 impl<R: Files<File = File> + AllocGlobal + Print + Eprint + Clock + Threads + Wait + Sync> Host
     for R {}

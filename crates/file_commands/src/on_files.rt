@@ -74,7 +74,13 @@ pub fn search_file<H: Source, S: Sink>(
 {
     let text = match read_text(alloc, history) {
         Ok(text) => text,
-        Err(fault) => return end_unread(UnreadSource { which: WhichSource::First, fault }, sink),
+        Err(fault) => return end_unread(
+            UnreadSource {
+                which: WhichSource::First,
+                fault,
+            },
+            sink,
+        ),
     };
     let made = history_of_text(alloc, &text);
     drop(text);

@@ -7,5 +7,5 @@ mod decision;
 mod laws;
 
 pub use check::{ToolFault, WhichText, check_over};
-pub use decision::{judge, check_alone};
+pub use decision::{check_alone, judge};
 pub use laws::valid_certificates_suffice;
