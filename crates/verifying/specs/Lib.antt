@@ -8,4 +8,4 @@ pub use Rattle.model.specs.Orders
 pub use Rattle.events.specs.Events
 pub use Rattle.events.specs.Operations
 pub use Rattle.order_search.specs.Outcomes
-pub use Rattle.search.specs.Answers
+pub use Rattle.checker.specs.Refusals
