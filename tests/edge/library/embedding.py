@@ -9,7 +9,6 @@ import sys
 
 from ..building import BARE
 from ..running import EXAMPLES, ROOT, Program, Ran, at_once
-from ..timing import slowness
 
 SOURCES = f"{ROOT}/callers"
 OUT = f"{ROOT}/crates/embedding/out"
@@ -49,8 +48,6 @@ PACKAGES = {
 RUNS = 100
 # What takes longer hangs, on a slow machine too.
 SECONDS = 1200
-# All callers together take less.
-MOST_SECONDS = 300
 # Where the libraries below are not proved yet, the library takes this long.
 SECONDS_TO_PROVE = 3600
 
@@ -466,14 +463,3 @@ CALLERS = (
     tutorial,
 )
 PARTS = (library, *CALLERS)
-
-
-def in_time(times, report):
-    """All parts that call the library take less than five minutes together, or as much longer as the processor is
-    slower. Beside much other work only the processor's time says so. The proof of the library, where it is missing, is
-    no part of that."""
-    if times:
-        clock, processor = map(sum, zip(*times))
-        print(f"  callers of the library: {clock:.1f} s in all, {processor:.1f} s of them on a processor", flush=True)
-        most = MOST_SECONDS * slowness()
-        report.holds("embedding: seconds of all callers", min(clock, processor) < most, (clock, processor, most))
