@@ -37,7 +37,7 @@ fn example(name: &str) -> String {
 fn script(name: &str, text: &str) -> PathBuf {
     let folder = PathBuf::from(env!("CARGO_TARGET_TMPDIR")).join(name);
     fs::create_dir_all(&folder).expect("a folder");
-    let path = folder.join("fcbench");
+    let path = folder.join("fcbench-verifier");
     fs::write(&path, text).expect("written");
     fs::set_permissions(&path, fs::Permissions::from_mode(0o755)).expect("a program");
     path
@@ -110,7 +110,7 @@ fn judged_by(named: Option<&str>, folder: &Path) -> (i32, String, String) {
 fn no_program_of_the_path_is_the_verifier() {
     let program = script("of_the_path", STAND_IN);
     let folder = program.parent().expect("a folder");
-    for named in [None, Some("fcbench"), Some("true"), Some("")] {
+    for named in [None, Some("fcbench-verifier"), Some("true"), Some("")] {
         let (status, lines, errors) = judged_by(named, folder);
         assert_eq!((status, lines.as_str()), (70, ""), "{named:?}");
         assert!(errors.contains("the verifier cannot be started"), "{errors}");
