@@ -1,5 +1,5 @@
 pub mod Leaving
-pub mod Unread
+pub mod UnreadFiles
 pub mod StatusMeanings
 pub mod LostLines
 pub mod Merges

@@ -17,7 +17,7 @@ ghost use Rattle.shards.specs.Folders.{WasDivided};
 ghost use Rattle.shards.specs.declared.division.Division.{Division};
 ghost use Rattle.shards.specs.ShardTexts.{IsLinearizableAtAnyLength};
 
-use crate::write_output::write_output;
+use crate::written::write_output;
 use edn::{Sink, Source, push_natural};
 use history::{MAX_MAPS, TextFault};
 use history_commands::{Merging, Output, ShardNumber, Status, verdict_output};

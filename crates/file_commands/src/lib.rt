@@ -9,7 +9,7 @@ mod line_fault;
 mod on_files;
 mod trusting;
 mod unread;
-mod write_output;
+mod written;
 
 pub use folders::{
     ShardFault, ShardFile, ShardFileTexts, ShardFiles, SplitEnd, SplitFailure, UnreadShard,
@@ -25,4 +25,4 @@ pub use reading::{In, NamedFile, ReadFault, WhichSource, read_text};
 pub use shards::{Folder, TableFault, counts_in, counts_text, shards_needed};
 pub use trusting::{StatusFiles, merge_statuses};
 pub use unread::end_unread;
-pub use write_output::write_output;
+pub use written::write_output;

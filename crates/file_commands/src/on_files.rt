@@ -13,7 +13,7 @@ ghost use Rattle.file_commands.specs.OnFiles.{IsPerformedOn, IsUnreadFile, IsUnr
 ghost use Rattle.file_commands.specs.OnFiles.{OnText, OnTexts, says_no, says_yes};
 
 use crate::unread::end_unread;
-use crate::write_output::write_output;
+use crate::written::write_output;
 use command_line::FilesLine;
 use edn::{Sink, Source};
 use history_commands::{Status, refute_history, search_history, status_of, verify_history};

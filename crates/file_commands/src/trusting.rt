@@ -15,7 +15,7 @@ ghost use Rattle.shards.specs.Dividing.{Files};
 ghost use Rattle.shards.specs.ShardTexts.{IsLinearizableAtAnyLength};
 
 use crate::folders::{ShardFault, UnreadShard};
-use crate::write_output::write_output;
+use crate::written::write_output;
 use edn::{Sink, push_natural};
 use history_commands::{Finding, Output, Status, text_with_number};
 use std::alloc::{AllocError, Global};

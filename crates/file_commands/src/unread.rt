@@ -5,7 +5,7 @@ ghost use Rattle.file_commands.specs.Leaves.{Leaves};
 ghost use Rattle.history_commands.specs.Outputs.{IsOutOfMemory};
 ghost use Rattle.reading.specs.declared.from_source.ReadFault.TheVariants as fault_is;
 
-use crate::write_output::write_output;
+use crate::written::write_output;
 use edn::Sink;
 use reading::{ReadFault, UnreadSource, WhichSource};
 use std::alloc::AllocError;

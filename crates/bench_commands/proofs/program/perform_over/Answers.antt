@@ -7,7 +7,7 @@ use Rattle.command_line.specs.declared.lines.FilesLine.TheVariants as files
 use Rattle.bench_commands.specs.Runs.{IsRunResult}
 use Rattle.file_commands.proofs.Leaving.{leaves_as, made_as}
 use Rattle.file_commands.proofs.StatusMeanings.{shows_no, shows_yes}
-use Rattle.file_commands.proofs.Unread.{only_is_first}
+use Rattle.file_commands.proofs.UnreadFiles.{only_is_first}
 use Rattle.bench_commands.proofs.program.perform_over.Goals as goal
 
 pub returns-in-Check-clause-performs : goal.returns-in-Check-clause-performs

@@ -5,7 +5,7 @@ use Rattle.edn.specs.Given.{WasRead}
 use Rattle.reading.specs.Reads.{read_limit}
 use Rattle.bench_commands.specs.Simulated.{IsSimulation}
 use Rattle.file_commands.proofs.Leaving.{leaves_as, made_on_text}
-use Rattle.file_commands.proofs.Unread.{unread_only_by}
+use Rattle.file_commands.proofs.UnreadFiles.{unread_only_by}
 use Rattle.bench_commands.proofs.program.simulate_file.Goals as goal
 
 pub returns-in-Ok-clause-leaves : goal.returns-in-Ok-clause-leaves

@@ -4,7 +4,7 @@ use Rattle.std.proofs.Common.{refl}
 use Rattle.std.proofs.lemmas.Result.{IfErr-weaker, IfOk-weaker}
 use Rattle.file_commands.proofs.Leaving.{leaves_as}
 use Rattle.file_commands.proofs.StatusMeanings.{shows_no, shows_yes}
-use Rattle.file_commands.proofs.Unread.{only_is_first}
+use Rattle.file_commands.proofs.UnreadFiles.{only_is_first}
 use Rattle.file_commands.proofs.on_files.perform_on_files.Goals as goal
 
 pub returns-in-Check-clause-performs : goal.returns-in-Check-clause-performs

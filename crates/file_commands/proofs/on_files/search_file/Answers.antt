@@ -5,7 +5,7 @@ use Rattle.edn.specs.Given.{WasRead}
 use Rattle.reading.specs.Reads.{read_limit}
 use Rattle.history_commands.specs.Searches.{IsSearchResult}
 use Rattle.file_commands.proofs.Leaving.{leaves_as, made_on_text}
-use Rattle.file_commands.proofs.Unread.{unread_only_by}
+use Rattle.file_commands.proofs.UnreadFiles.{unread_only_by}
 use Rattle.file_commands.proofs.on_files.search_file.Goals as goal
 
 pub returns-clause-leaves : goal.returns-clause-leaves

@@ -3,7 +3,7 @@ use Rattle.std.proofs.Common.{inr}
 use Rattle.std.proofs.lemmas.Result.{IfOk-weaker}
 use Rattle.history_commands.specs.Verified.{IsVerification}
 use Rattle.file_commands.proofs.Leaving.{leaves_as, made_on_texts}
-use Rattle.file_commands.proofs.Unread.{unread_by}
+use Rattle.file_commands.proofs.UnreadFiles.{unread_by}
 use Rattle.file_commands.proofs.on_files.verify_files.Goals as goal
 
 pub returns-in-Ok-clause-leaves : goal.returns-in-Ok-clause-leaves

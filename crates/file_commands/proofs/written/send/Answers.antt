@@ -1,5 +1,5 @@
 use Rattle.file_commands.proofs.Leaving.{wrote_all, wrote_front}
-use Rattle.file_commands.proofs.write_output.send.Goals as goal
+use Rattle.file_commands.proofs.written.send.Goals as goal
 
 pub returns-in-Ok : goal.returns-in-Ok
 returns-in-Ok g c = let e = c.in-Ok.ensures.sent.0 in
