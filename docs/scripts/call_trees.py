@@ -20,6 +20,8 @@ sys.path.insert(0, f"{ROOT}/scripts")
 from arguments import arguments_or_exit  # noqa: E402
 
 PAGE = f"{ROOT}/docs/architecture.md"
+# A function with its body, which ends with a brace in the column where it begins.
+FUNCTION = re.compile(r"^( *)(?:pub(?:\([a-z]+\))? )?(?:unsafe )?fn (\w+)(?:(?!^ *(?:pub )?fn ).)*?^\1\}", re.M | re.S)
 LINE = re.compile(r"( +)([\w:-]+(?:, [\w:-]+)*)(?: \(([\w/.-]+)\))?(?:  +.*)?$")
 
 
@@ -42,7 +44,7 @@ def bodies(path):
     with open(path, encoding="utf-8") as file:
         text = file.read()
     found = {}
-    for match in re.finditer(r"^( *)(?:pub(?:\([a-z]+\))? )?(?:const )?(?:unsafe )?fn (\w+).*?^\1\}", text, re.M | re.S):
+    for match in FUNCTION.finditer(text):
         body = re.sub(r"//.*", "", match[0].partition("\n")[2])
         found[match[2]] = found.get(match[2], "") + body
     return found
