@@ -459,6 +459,6 @@ def sizes_of_reasons(program, report):
 
 
 PARTS = (
-    documents, call_trees, links, names_of_several, names_of_rows, named_clauses, definitions_of_clauses, plain_words, widths, heads_of_proofs, snippets,
-    usages, like_lines, lists_of_commands, sizes_of_reasons,
+    documents, call_trees, links, names_of_several, names_of_rows, named_clauses, definitions_of_clauses, plain_words, widths, heads_of_proofs,
+    snippets, usages, like_lines, lists_of_commands, sizes_of_reasons,
 )
