@@ -42,7 +42,7 @@ def files_of_crate(crate):
 def bodies(path):
     """The functions of a file, each with its body. Those of one name are one."""
     with open(path, encoding="utf-8") as file:
-        text = file.read()
+        text = file.read().partition("#[cfg(test)]")[0]
     found = {}
     for match in FUNCTION.finditer(text):
         body = re.sub(r"//.*", "", match[0].partition("\n")[2])
