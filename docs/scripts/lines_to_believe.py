@@ -4,7 +4,7 @@
     docs/scripts/lines_to_believe.py [--list] [NAME]
     docs/scripts/lines_to_believe.py --twice
 
-NAME is a definition of specs/, as judging.Texts.IsLinearizableText. With no NAME it prints the counts that README.md and
+NAME is a definition of specs/, as reading.Texts.IsLinearizableText. With no NAME it prints the counts that README.md and
 docs/definitions.md give. Comments, blank lines and imports do not count, nor do enums and structs of the code, which it counts
 apart, nor the words of the standard library. Words that come from proofs/ do not count either: those that are met are listed.
 With --list each definition follows with the number of its lines, and then each type of the code. With --twice it lists the names
@@ -24,7 +24,7 @@ from arguments import arguments_or_exit  # noqa: E402
 WORD = re.compile(r"[^\s(){}\[\],;.λ]+")
 # What a yes says of a history in memory, and what judge says of a text.
 CLAUSES = {"history": ("model.Linearizable.IsLinearizable", "events.Events.denoted", "events.Events.kind_of_object", "model.Orders.events"),
-           "judge": ("judging.Texts.IsLinearizableText",),
+           "judge": ("reading.Texts.IsLinearizableText",),
            # What the lines of verify say of an object that is impossible.
            "reason": ("verifying.Decisions.IsShownReason",)}
 
@@ -205,6 +205,9 @@ def print_counts(names, lists):
     """Prints the counts for these names, or for the clauses if there are none, and the definitions too if asked for."""
     known = modules()
     for clause, begin in ({"": names} if names else CLAUSES).items():
+        for name in begin:
+            if not closure(known, [name])[0]:
+                sys.exit(f"lines_to_believe.py: no definition has the name {name}")
         seen, declared, unread = closure(known, begin)
         lines = sum(len(known[path].lines[name]) for path, name in seen)
         print(f"{clause or ' '.join(names)}: {lines} lines in {len(seen)} definitions, and {len(declared)} types of the code")

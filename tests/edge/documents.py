@@ -1,5 +1,5 @@
-"""Checks that documents agree with the code: tables of crates, contracts, counts of lines to believe, names that several crates define, links,
-words to avoid, widths of lines, and scripts. And that no code is there twice that was not accepted."""
+"""Checks that documents agree with the code: tables of crates, call trees, contracts, counts of lines to believe, names that several crates define,
+links, words to avoid, widths of lines, and scripts. And that no code is there twice that was not accepted."""
 import glob
 import io
 import os
@@ -8,8 +8,8 @@ import subprocess
 import sys
 import tokenize
 
-from .running import OF_TOOLS, ROOT
-from .words import COMMANDS
+from .running import PROGRAM_OF, ROOT
+from .words import ABOUT
 
 sys.path[:0] = [f"{ROOT}/scripts", f"{ROOT}/docs/scripts", f"{ROOT}/bench"]
 
@@ -50,6 +50,8 @@ def documents(program, report):
     report.equal("documents: docs/architecture.md agrees with crates.txt", 0, ran.returncode, ran.stdout + ran.stderr)
     ran = subprocess.run([f"{ROOT}/docs/scripts/sizes.py", "--check"], capture_output=True, text=True)
     report.equal("documents: the sizes in docs/DECISIONS.md are right", 0, ran.returncode, ran.stdout + ran.stderr)
+    ran = subprocess.run([f"{ROOT}/docs/scripts/closures.py", "--check"], capture_output=True, text=True)
+    report.equal("documents: what both proved programs are made of", 0, ran.returncode, ran.stdout + ran.stderr)
     ran = subprocess.run([f"{ROOT}/docs/scripts/contract_list.py"], capture_output=True, text=True)
     report.equal("documents: docs/scripts/contract_list.py reads each clause", (0, ""), (ran.returncode, ran.stderr))
     ran = subprocess.run([f"{ROOT}/docs/scripts/lost_clauses.py", "HEAD"], capture_output=True, text=True)
@@ -73,6 +75,12 @@ def documents(program, report):
     files = sorted(glob.glob(f"{ROOT}/tests/edge/**/*.py", recursive=True))
     lacks = [file for file in map(os.path.basename, files) if file != "__init__.py" and not re.search(rf"[`/]{re.escape(file)}`", index)]
     report.equal("documents: files of tests/edge that CONTRIBUTING does not name", [], lacks)
+
+
+def call_trees(program, report):
+    """The functions that the call trees of docs/architecture.md name are defined where they say, and called where they say."""
+    ran = subprocess.run([f"{ROOT}/docs/scripts/call_trees.py"], capture_output=True, text=True)
+    report.equal("call_trees: docs/architecture.md agrees with the code", (0, ""), (ran.returncode, ran.stdout + ran.stderr))
 
 
 def anchors(text):
@@ -426,22 +434,21 @@ def usages(program, report):
             report.equal(f"usages: {script} {word}", (status, status == 0, status != 0), (ran.returncode, bool(ran.stdout), bool(ran.stderr)), ran)
 
 
-def in_words(names):
-    """The names as a sentence lists them."""
-    return f"{', '.join(names[:-1])} and {names[-1]}"
-
-
 def lists_of_commands(program, report):
-    """Both scripts that choose a program, one of which is installed alone, name the commands of the tools and of the verifier, and no others."""
-    scripts_of_bash = {script: read(f"{ROOT}/{script}") for script in ("fcbench", "tools/fcbench.sh")}
-    for script, text in scripts_of_bash.items():
-        named = re.search(r"^is_of_tools\(\) \{\n  case \$\{1:-\} in ([\w |]+)\) return 0 ;; esac$", text, re.M)
-        report.equal(f"lists_of_commands: of the tools, {script}", " | ".join(OF_TOOLS), named and named[1])
-    chooser = scripts_of_bash["tools/fcbench.sh"]
-    report.holds("lists_of_commands: of the tools, in the message", f"the commands of the tools are {in_words(OF_TOOLS)}'" in chooser)
-    report.holds("lists_of_commands: of the verifier, in help", f"'{in_words(COMMANDS)} are commands of the verifier," in scripts_of_bash["fcbench"])
-    named = re.search(r"^  ([\w |]+) \| help \| -\*\) ;;$", chooser, re.M)
-    report.equal("lists_of_commands: of the verifier, tools/fcbench.sh", " | ".join(COMMANDS), named and named[1])
+    """The scripts that choose a program read the table of commands. The rows of the command lines say what it says, and pages have each command."""
+    report.holds("lists_of_commands: each is of a program", PROGRAM_OF and set(PROGRAM_OF.values()) == {"tools", "verifier", "bench"}, PROGRAM_OF)
+    for script in ("fcbench", "tools/fcbench.sh", "install"):
+        report.holds(f"lists_of_commands: {script} names the table", "commands.txt" in read(f"{ROOT}/{script}"))
+    rows = {"tools": "tools/fcbench-tools/src/command_line/syntax.rs"}
+    overview, _, statuses = read(f"{ROOT}/docs/commands.md").partition("\n## Exit statuses\n")
+    readme = read(f"{ROOT}/README.md").partition("| command | what it does | proved |\n")[2].partition("\n\n")[0]
+    for command, own in PROGRAM_OF.items():
+        file = rows.get(own, "crates/command_line/src/table.rt")
+        is_same = re.search(rf'"{command}",\s+(?:about: )?"{re.escape(ABOUT[command])}"', read(f"{ROOT}/{file}"))
+        report.holds(f"lists_of_commands: {file} says of {command} what the table says", is_same, ABOUT[command])
+        report.holds(f"lists_of_commands: README.md has {command}", re.search(rf"`{command}\b", readme))
+        report.holds(f"lists_of_commands: docs/commands.md has {command}", re.search(rf"^    fcbench {command}\b", overview, re.M))
+        report.holds(f"lists_of_commands: docs/commands.md has the exit statuses of {command}", f"\n| `{command}` |" in statuses)
 
 
 def sizes_of_reasons(program, report):
@@ -452,6 +459,6 @@ def sizes_of_reasons(program, report):
 
 
 PARTS = (
-    documents, links, names_of_several, names_of_rows, named_clauses, definitions_of_clauses, plain_words, widths, heads_of_proofs, snippets, usages,
-    like_lines, lists_of_commands, sizes_of_reasons,
+    documents, call_trees, links, names_of_several, names_of_rows, named_clauses, definitions_of_clauses, plain_words, widths, heads_of_proofs,
+    snippets, usages, like_lines, lists_of_commands, sizes_of_reasons,
 )
