@@ -1,6 +1,6 @@
 -- A file that was not read: what the reading leaves of two sources (`unread_by`), and of one (`unread_only_by`), if the
 -- command ends with the source that failed.
-use Rattle.std.proofs.Common.{◌≡◌, ◌×◌, ℕ, List, Option, Bool, subst, sym, refl}
+use Rattle.std.proofs.Common.{◌≡◌, ℕ, List, Option, Bool, subst, sym, refl}
 use Rattle.std.specs.Prelude.{Result, Ok, Err, IfErr}
 use Rattle.reading.specs.Reads.{SourceAfterFault, WasRefused}
 use Rattle.reading.specs.TwoTexts.{IsUnread}
