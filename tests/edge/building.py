@@ -273,7 +273,9 @@ def installed_whole(program, report):
     report.equal("building: ./install once more", 0, made.run("install", prefix).returncode)
     newer = {path: content(f"{prefix}/{path}") for path in files_in(prefix, ".")}
     report.equal("building: what ./install puts", sorted(older), sorted(newer))
-    report.equal("building: the verifier that ./install puts", content(f"{made.top}/crates/verifier/out/verifier"), newer["./libexec/fcbench/fcbench-verifier"])
+    for own, path in (("verifier", "verifier/out/verifier"), ("bench", "fcbench/out/fcbench")):
+        own_bytes = newer[f"./libexec/fcbench/fcbench-{own}"]
+        report.equal(f"building: the {own} that ./install puts", content(f"{made.top}/crates/{path}"), own_bytes)
 
 
 def content(path):
@@ -506,9 +508,9 @@ def nothing_to_prove(program, report):
 
 
 PARTS = (
-    proved_by_content, each_program_alone, unproved_by_content, no_old_program, changed_while_tools_are_built, another_logic_unproved, find_that_fails,
-    tools_by_content, library_by_content, older_build_of_rattle, installed_whole, installed_into_checkout, words_of_help, quick_after_the_proof,
-    side_by_side, ended_by_a_signal, odd_surroundings, without_the_kit, nothing_to_prove,
+    proved_by_content, each_program_alone, unproved_by_content, no_old_program, changed_while_tools_are_built, another_logic_unproved,
+    find_that_fails, tools_by_content, library_by_content, older_build_of_rattle, installed_whole, installed_into_checkout, words_of_help,
+    quick_after_the_proof, side_by_side, ended_by_a_signal, odd_surroundings, without_the_kit, nothing_to_prove,
 )
 # Those that test the scripts alone, with stubs in place of the programs.
 WITHOUT_PROGRAM = tuple(part for part in PARTS if part not in (words_of_help, without_the_kit, nothing_to_prove))

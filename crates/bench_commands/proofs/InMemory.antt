@@ -8,7 +8,8 @@ use Rattle.edn_reader.specs.Datum.{max_length}
 use Rattle.edn.specs.Given.{WasRead}
 use Rattle.edn_reader.specs.Sound.{IsShort, IsUnreadable}
 use Rattle.edn_reader.specs.declared.fault.EdnFault.{EdnFault}
-use Rattle.reading.specs.declared.text_failure.Fault.TheVariants.{HistoryText, HistoryMaps, CertificateText, CertificateForms}
+use Rattle.reading.specs.declared.text_failure.Fault.TheVariants.{HistoryText, HistoryMaps, CertificateText}
+use Rattle.reading.specs.declared.text_failure.Fault.TheVariants.{CertificateForms}
 use Rattle.report.specs.declared.verdict.Verdict.{Verdict}
 use Rattle.report.specs.declared.verdict.Verdict.TheVariants.{Yes, No, Malformed, NoMemory}
 use Rattle.reading.specs.Texts.{IsLinearizableText}

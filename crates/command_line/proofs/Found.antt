@@ -84,7 +84,8 @@ module _ {L : Type 0} (IsLineOf : Text → List Row → L → Type 0) (program :
         pub asked : (l : L) → Finds IsLineOf command l → AskFor program IsLineOf words l
         asked l f = record { faultless = faultless; finds = subst (λ o. Finds IsLineOf o l) entered f }
 
-        unasked : ((l : L) → Finds IsLineOf command l → ⊥) → (l : L) → Finds IsLineOf (subcommand_of program words) l → ⊥
+        unasked : ((l : L) → Finds IsLineOf command l → ⊥) → (l : L)
+            → Finds IsLineOf (subcommand_of program words) l → ⊥
         unasked none l f = none l (subst (λ o. Finds IsLineOf o l) (sym entered) f)
 
         unfit : (f : LineFault) → ((l : L) → Finds IsLineOf command l → ⊥) → (f ≡ said.NoMemory) ⊎ AreWordsRefused f

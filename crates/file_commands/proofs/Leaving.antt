@@ -78,10 +78,11 @@ pub made_on_text : (IsDone : List ℕ → Status → List ℕ → Type 0) (one o
     (made : Result Output AllocError) → WasRead read_limit one one_left text
     → IfOk made (λ o. IsDone text o.status o.text.items)
     → (status : Status) (out : List ℕ) → IsMade made status out → OnText IsDone one one_left status out
-made_on_text IsDone one one_left text made read does status out k = elim (made_as (IsDone text) made does status out k) [
-  | inl done ↦ inl (text, read, done)
-  | inr memory ↦ inr memory
-]
+made_on_text IsDone one one_left text made read does status out k =
+    elim (made_as (IsDone text) made does status out k) [
+      | inl done ↦ inl (text, read, done)
+      | inr memory ↦ inr memory
+    ]
 
 -- What was made of two texts that were read has this property, or an allocation failed.
 pub made_on_texts : (IsDone : List ℕ → List ℕ → Status → List ℕ → Type 0)

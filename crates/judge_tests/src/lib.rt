@@ -1,7 +1,7 @@
 //! Tests of the public calls of `history`, `certificate`, `checker`, `parallel`, `report`,
 //! `reading`, `text_check` and `shards` that no command line reaches: `tests/run` tests the others
-//! on the built program. They are in a crate of their own, so that each of these libraries is proved
-//! once, and not again for its tests.
+//! on the built program. They are in a crate of their own, so that each of these libraries is
+//! proved once, and not again for its tests.
 #![tactic(auto)]
 
 #[cfg(test)]

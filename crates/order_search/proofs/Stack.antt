@@ -17,7 +17,8 @@ use Rattle.order_search.specs.declared.level.Level.{Level}
 use Rattle.order_search.specs.Arranged.{owes, count_below}
 use Rattle.order_search.specs.Continuations.{IsLeft, Continues, IsDead, IsDeadAt, IsTried}
 use Rattle.order_search.specs.Links.{Linked, next_without, before_without, next_with}
-use Rattle.order_search.specs.Searching.{places, IsLeast, IsWindow, IsBound, Stack, IsWalk, Position, Turn, position_before}
+use Rattle.order_search.specs.Searching.{places, IsLeast, IsWindow, IsBound, Stack, IsWalk, Position, Turn}
+use Rattle.order_search.specs.Searching.{position_before}
 use Rattle.order_search.proofs.Positions.{position, turn}
 use Rattle.order_search.proofs.Deadness.{dead_child, dead_all}
 use Rattle.order_search.proofs.Links.{linked_without, next_again, before_again, within_after}

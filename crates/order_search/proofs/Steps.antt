@@ -18,7 +18,8 @@ use Rattle.order_search.specs.Arranged.{as_call, call_at, owes, count_below, IsA
 use Rattle.order_search.proofs.Positions.{turn}
 use Rattle.order_search.proofs.Deadness.{dead_child, dead_again}
 use Rattle.order_search.proofs.Links.{listed, linked_without}
-use Rattle.order_search.proofs.Stack.{IsLeastBelow, least_more, least_of_all, dead_now, dead_behind, walk_linked, walk_bound}
+use Rattle.order_search.proofs.Stack.{IsLeastBelow, least_more, least_of_all, dead_now, dead_behind, walk_linked}
+use Rattle.order_search.proofs.Stack.{walk_bound}
 use Rattle.order_search.proofs.Stack.{walk_left, bound_more, continued}
 use Rattle.order_search.proofs.Owed.{none_owed}
 

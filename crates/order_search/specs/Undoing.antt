@@ -9,13 +9,16 @@ use Rattle.model.specs.declared.AnyReply.TheVariants.{Value}
 use Rattle.model.specs.Objects.{Content, queue, stack, heap, register, table, mutex, elements}
 use Rattle.model.specs.Objects.{count, owner, next}
 use Rattle.order_search.specs.declared.reversible.Reversible.{Reversible}
-use Rattle.order_search.specs.declared.reversible.Reversible.TheVariants.{Queue, Stack, Heap, Register}
-use Rattle.order_search.specs.declared.reversible.Reversible.TheVariants.{Map, Mutex, Set, Counter, Lock}
+use Rattle.order_search.specs.declared.reversible.Reversible.TheVariants.{Queue, Stack, Heap}
+use Rattle.order_search.specs.declared.reversible.Reversible.TheVariants.{Register}
+use Rattle.order_search.specs.declared.reversible.Reversible.TheVariants.{Map, Mutex, Set, Counter}
+use Rattle.order_search.specs.declared.reversible.Reversible.TheVariants.{Lock}
 use Rattle.order_search.specs.declared.kept.KeptContent.{KeptContent}
 use Rattle.order_search.specs.declared.kept.KeptContent.TheVariants as kept
 use Rattle.order_search.specs.declared.step.Undo.{Undo}
 use Rattle.order_search.specs.declared.step.Undo.TheVariants.{Nothing, TakeFirst, TakeLast, TakeAt}
-use Rattle.order_search.specs.declared.step.Undo.TheVariants.{PutFirst, SetRegister, SetKey, SetHeld}
+use Rattle.order_search.specs.declared.step.Undo.TheVariants.{PutFirst, SetRegister, SetKey}
+use Rattle.order_search.specs.declared.step.Undo.TheVariants.{SetHeld}
 use Rattle.order_search.specs.declared.step.Undo.TheVariants.{SetElement, SetCount, SetOwner}
 use Rattle.order_search.specs.declared.step.Step.{Step}
 

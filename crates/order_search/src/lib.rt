@@ -1,5 +1,5 @@
-//! The bounded search for a valid order of the operations of one object, or for the answer that there
-//! is none.
+//! The bounded search for a valid order of the operations of one object, or for the answer that
+//! there is none.
 //!
 //! It is the search of Wing and Gong, "Testing and Verifying Concurrent Objects", Journal of
 //! Parallel and Distributed Computing 17, 1993: depth first, over objects whose operations can be

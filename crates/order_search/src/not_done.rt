@@ -2,7 +2,8 @@
 
 ghost use Rattle.std.specs.Prelude.{◌≡◌, ◌≢◌, ℕ, ◌+◌, ◌<◌, ◌≤◌, List, [], IfOk, IsTrue};
 ghost use Rattle.std.specs.Prelude.{length, get_or};
-ghost use Rattle.order_search.specs.Links.{Linked, AreWithin, LeadsThrough, next_with, next_without};
+ghost use Rattle.order_search.specs.Links.{Linked, AreWithin, LeadsThrough, next_with};
+ghost use Rattle.order_search.specs.Links.{next_without};
 ghost use Rattle.order_search.specs.Links.{before_with, before_without};
 ghost use Rattle.order_search.specs.Outcomes.{max_places};
 

@@ -11,7 +11,8 @@ ghost use Rattle.order_search.specs.Arranged.{call_at, no_return};
 ghost use Rattle.order_search.specs.Links.{Linked};
 ghost use Rattle.order_search.specs.Outcomes.{max_places};
 ghost use Rattle.order_search.specs.Searching.{places, content_before, AreTrials, AreOwed, IsLeast};
-ghost use Rattle.order_search.specs.Searching.{IsOrder, IsNoOrder, IsDeadHere, IsDeadAtPlace, IsPairDead};
+ghost use Rattle.order_search.specs.Searching.{IsOrder, IsNoOrder, IsDeadHere, IsDeadAtPlace};
+ghost use Rattle.order_search.specs.Searching.{IsPairDead};
 ghost use Rattle.order_search.specs.Searching.{IsSearching, IsSearchingAt};
 
 use crate::dead::Dead;

@@ -11,7 +11,8 @@ use Rattle.history.specs.declared.fault.HistoryFault.{HistoryFault}
 use Rattle.history.specs.declared.fault.TextFault.TheVariants.{Maps}
 use Rattle.history.proofs.Reading.{fault_refutes}
 use Rattle.reading.specs.declared.text_failure.Fault.{Fault}
-use Rattle.reading.specs.declared.text_failure.Fault.TheVariants.{HistoryText, HistoryMaps, CertificateText, CertificateForms}
+use Rattle.reading.specs.declared.text_failure.Fault.TheVariants.{HistoryText, HistoryMaps, CertificateText}
+use Rattle.reading.specs.declared.text_failure.Fault.TheVariants.{CertificateForms}
 use Rattle.reading.specs.declared.text_failure.TextFailure.{TextFailure}
 use Rattle.reading.specs.declared.text_failure.TextFailure.TheVariants as stop
 use Rattle.reading.specs.declared.text_failure.TextFailure.TheVariants.{Faulty}

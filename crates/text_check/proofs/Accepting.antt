@@ -1,4 +1,5 @@
--- Certificates that say the same are valid alike (`same_valid`).
+-- Certificates that say the same are valid alike (`same_valid`): each has one of the other list that says the same, by
+-- induction along both lists.
 use Rattle.std.proofs.Common.{◌≡◌, ◌∙◌, List, [], ◌∷◌, inl, inr, refl, ap, sym, subst, map}
 use Rattle.events.specs.declared.event.Event.{Event}
 use Rattle.events.specs.Events.{IsNamed, kind_of_object, denoted}

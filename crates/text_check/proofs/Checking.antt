@@ -9,7 +9,8 @@ use Rattle.certificate.specs.Denotes.{reading_of}
 use Rattle.checker.specs.Refusals.{AreValid, IsCheckAnswer}
 use Rattle.checker.specs.declared.refusal.Refusal.{Refusal}
 use Rattle.report.specs.Verdicts.{IsVerdictOnCheck}
-use Rattle.reading.specs.declared.text_failure.Fault.TheVariants.{HistoryText, HistoryMaps, CertificateText, CertificateForms}
+use Rattle.reading.specs.declared.text_failure.Fault.TheVariants.{HistoryText, HistoryMaps, CertificateText}
+use Rattle.reading.specs.declared.text_failure.Fault.TheVariants.{CertificateForms}
 use Rattle.report.specs.declared.verdict.Verdict.{Verdict}
 use Rattle.report.specs.declared.verdict.Verdict.TheVariants.{Yes, No, Malformed, NoMemory}
 use Rattle.reading.specs.declared.text_failure.TextFailure.{TextFailure}
@@ -19,7 +20,8 @@ use Rattle.text_check.specs.Texts.{AreValidTexts, DenoteOnly}
 use Rattle.reading.specs.Texts.{DenotesHistory, DenotesCertificates, HasHistory}
 use Rattle.reading.specs.Texts.{IsCertificatesFault, IsHistoryFault, IsHistoryRead, IsLinearizableText}
 use Rattle.report.specs.Verdicts.{verdict_of}
-use Rattle.text_check.specs.Verdicts.{AreBothRead, IsJudgement, IsYesUnlessMemory, SaysOfTexts, SaysOfCertificates, OnYes}
+use Rattle.text_check.specs.Verdicts.{AreBothRead, IsJudgement, IsYesUnlessMemory, SaysOfTexts, SaysOfCertificates}
+use Rattle.text_check.specs.Verdicts.{OnYes}
 use Rattle.text_check.proofs.Accepting.{same_valid}
 use Rattle.text_check.proofs.Naming.{where_ok}
 use Rattle.text_check.proofs.Verdicts.{judges_by, on_yes, yes_unless_memory}

@@ -1,5 +1,5 @@
-//! Why the check of certificates suffices, as a law: a function that does nothing, and whose contract
-//! is a theorem.
+//! Why the check of certificates suffices, as a law: a function that does nothing, and whose
+//! contract is a theorem.
 
 ghost use Rattle.std.specs.Prelude.{ℕ, List};
 ghost use Rattle.events.specs.declared.event.Event.{Event};

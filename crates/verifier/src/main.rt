@@ -1,5 +1,5 @@
-//! The verifier, which judges histories of concurrent objects: `check`, `search`, `refute`, `verify`,
-//! `split` and `merge`.
+//! The verifier, which judges histories of concurrent objects: `check`, `search`, `refute`,
+//! `verify`, `split` and `merge`.
 #![tactic(auto)]
 
 mod shard_folder;

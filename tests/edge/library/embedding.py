@@ -383,7 +383,8 @@ def dispatcher(program):
     """A program that has all commands, as ./fcbench and the installed one have them."""
     path = f"{program.folder}/dispatcher"
     with open(path, "w") as file:
-        file.write(f"#!/bin/sh\nFCBENCH={program.path} FCBENCH_BENCH={program.bench} FCBENCH_TOOLS={program.tools} exec {ROOT}/tools/fcbench.sh \"$@\"\n")
+        programs = f"FCBENCH={program.path} FCBENCH_BENCH={program.bench} FCBENCH_TOOLS={program.tools}"
+        file.write(f"#!/bin/sh\n{programs} exec {ROOT}/tools/fcbench.sh \"$@\"\n")
     os.chmod(path, 0o755)
     return path
 

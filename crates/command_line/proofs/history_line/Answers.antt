@@ -16,7 +16,8 @@ returns-in-Ok-verifier_line g c =
 
 pub returns-in-Ok : goal.returns-in-Ok
 returns-in-Ok g c =
-    not_read IsHistoryLine verifier verifier_simple (app_of c.in_ok-program.field-0) (map g.S.AsStr.text c.args.words.now)
+    not_read IsHistoryLine verifier verifier_simple (app_of c.in_ok-program.field-0)
+    (map g.S.AsStr.text c.args.words.now)
     (c.in_ok-program.ensures ∙ rw c.as_slice.ensures refl)
     c.in-Ok.matches c.in-Ok.ensures.kinds c.in-Ok.ensures.matches _
     (found_is c.in-Ok.matches c.subcommand.result c.subcommand.ensures.name c.subcommand.ensures.rows)
@@ -25,6 +26,7 @@ returns-in-Ok g c =
 
 pub returns : goal.returns
 returns g c =
-    refused IsHistoryLine verifier verifier_simple (app_of c.in_ok-program.field-0) (map g.S.AsStr.text c.args.words.now)
+    refused IsHistoryLine verifier verifier_simple (app_of c.in_ok-program.field-0)
+    (map g.S.AsStr.text c.args.words.now)
     (c.in_ok-program.ensures ∙ rw c.as_slice.ensures refl)
     c.in-Err.error c.fault_of.result c.in-Err.ensures.kinds c.fault_of.ensures

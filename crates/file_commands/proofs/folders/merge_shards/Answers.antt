@@ -1,7 +1,8 @@
 use Rattle.file_commands.specs.Sharded.{IsMergeOf}
 use Rattle.file_commands.proofs.Leaving.{leaves_as, made_as}
 use Rattle.std.proofs.Common.{◌<◌, subst, sym}
-use Rattle.file_commands.proofs.Merges.{shows_counted, shows_linearizable, shows_none_miscounted, shows_refuted, shows_whole}
+use Rattle.file_commands.proofs.Merges.{shows_counted, shows_linearizable, shows_none_miscounted, shows_refuted}
+use Rattle.file_commands.proofs.Merges.{shows_whole}
 use Rattle.file_commands.proofs.folders.merge_shards.Goals as goal
 
 pub returns : goal.returns

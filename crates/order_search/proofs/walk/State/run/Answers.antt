@@ -5,7 +5,8 @@ use Rattle.std.proofs.lemmas.List.{get_or_default}
 use Rattle.order_search.specs.Arranged.{as_call}
 use Rattle.order_search.proofs.Measure.{step_smaller}
 use Rattle.order_search.proofs.Steps.{dead_here, dead_too_late, dead_impossible, call_read}
-use Rattle.order_search.proofs.walk.State.run.Goals.{then-at-len-via-then-at-len, then-at-len-via-else-at-len+then-index-self}
+use Rattle.order_search.proofs.walk.State.run.Goals.{then-at-len-via-then-at-len}
+use Rattle.order_search.proofs.walk.State.run.Goals.{then-at-len-via-else-at-len+then-index-self}
 use Rattle.order_search.proofs.walk.State.run.Goals.{then-item-self-via-then-item-self}
 use Rattle.order_search.proofs.walk.State.run.Goals.{then-item-self-via-else-item-self+then-not-is_possible}
 use Rattle.order_search.proofs.walk.State.run.Goals as goal
