@@ -107,7 +107,7 @@ def cases():
     history = worked_rows.one_process(*[("insert", 1, 1)] * 200)
     yield of_row(worked_rows.check("a longer history", history, worked_rows.order(*range(0, 400, 2)), "", 0), stride=5)
     yield of_row(worked_rows.search("a longer history", history, "", 0), stride=5)
-    yield Case("help", ("--help",), stride=3)
+    yield Case("help", ("check", "--help"), stride=3)
     yield Case("refused words", ("check", "one word"), stride=3)
 
 

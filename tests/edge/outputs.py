@@ -25,7 +25,7 @@ def commands():
 
 def is_failed(words, ran, out=b""):
     """Whether a run that printed only this ended as one whose output failed. The tools say why, and the proved program says nothing."""
-    says = words[0] in OF_TOOLS
+    says = words[0] in ("--help", *OF_TOOLS)
     is_said = ran.err.startswith(b"fcbench: the output failed: ") if says else ran.err == b""
     return (ran.status, ran.out) == (4, out) and is_said
 

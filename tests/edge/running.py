@@ -59,6 +59,8 @@ class Program:
     def line(self, words):
         """The command line of these words: the program whose command they are, and the words. Any number of operations of a history may have
         returned, if the words say nothing else, since many histories of tests are empty or pending."""
+        if self.tools and words[:1] == ("help",):
+            words = (*words[1:2], "--help")
         command, *rest = words or ("",)
         if not self.tools or command in ("--version", "-V", *OF_VERIFIER):
             return [self.path, *words]

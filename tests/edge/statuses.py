@@ -153,7 +153,7 @@ EXAMPLES = {
     ],
     "--help": [
         *((0, (word,)) for word in ("--help", "help", "--version", "-V")),
-        (3, ("--help",), NO_MEMORY),
+        (3, ("--version",), NO_MEMORY),
         (4, ("--help",), {"stdout": FULL}),
     ],
 }
