@@ -416,7 +416,7 @@ fn beginnings(status: u8) -> &'static [&'static str] {
     }
 }
 
-/// Whether an answer of `verify` with this status, which has so many bytes, can begin with these.
+/// Whether an answer of `verify` with this status, which has this many bytes, can begin with these.
 pub fn can_begin(status: u8, bytes: &[u8], length: usize) -> bool {
     let begins = |with: &&str| {
         let shown = bytes.len().min(with.len());
