@@ -68,11 +68,11 @@ def files_in(top, folder, *left_out):
     return paths
 
 
-def copy(paths, folder, top=TOP):
-    """Copies these files of the repository, or of the one in another folder, into a folder."""
+def copy(paths, folder):
+    """Copies these files of the repository into a folder."""
     for path in paths:
         os.makedirs(os.path.dirname(f"{folder}/{path}"), exist_ok=True)
-        shutil.copyfile(f"{top}/{path}", f"{folder}/{path}")
+        shutil.copyfile(f"{TOP}/{path}", f"{folder}/{path}")
 
 
 def sums(top, paths):
