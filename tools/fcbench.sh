@@ -1,4 +1,4 @@
-#!/bin/sh
+#!/usr/bin/env bash
 # Runs a command of fcbench, by the program that commands.txt names: the proved verifier, the bench, which is proved too, or the tools, which are
 # ordinary Rust. ./install puts this file into bin as fcbench, and the programs with commands.txt into libexec/fcbench: an installed copy runs
 # these, whatever the environment says. In the checkout it is tools/fcbench.sh, and runs what FCBENCH (the verifier), FCBENCH_BENCH and
@@ -13,13 +13,13 @@ case $own in
 esac
 export FCBENCH
 
-# Becomes a program with these words, if it is there.
+# Becomes a program with these words, if it is there. Its help and its errors give the name by which it is started, which is fcbench for all.
 become() {
   if [ ! -x "$1" ]; then
     echo 'fcbench: start ./fcbench, or install it with ./install' >&2
     exit 70
   fi
-  exec "$@"
+  exec -a fcbench "$@"
 }
 
 # Prints the kind of program that has a command; the tools say what is wrong with another word.

@@ -81,8 +81,11 @@ class Program:
             env.update({name: str(value) for name, value in faults.items()}, LD_PRELOAD=self.faults)
         begun = time.monotonic()
         try:
+            path, *rest = self.line(words)
             ran = subprocess.run(
-                self.line(words),
+                # The programs get the name by which fcbench.sh starts them.
+                ["fcbench" if self.tools else path, *rest],
+                executable=path,
                 stdin=subprocess.DEVNULL,
                 stdout=stdout,
                 stderr=subprocess.PIPE,
