@@ -14,11 +14,11 @@ from . import worked_rows
 from .check import malformed_texts
 from .judge import imported_texts, orders_to_find
 from .run import schedules
-from .running import EXAMPLES
+from .running import EXAMPLES, PROGRAM_OF
 from .verify import worked_evidence
 from .worked_rows import CERTIFICATES, EVIDENCE, HISTORY, REASONS, SCHEDULE
 
-COMMANDS = ("judge", "find", "verify", "check", "refute", "search", "split", "merge", "import", "draw", "run", "simulate")
+COMMANDS = tuple(PROGRAM_OF)
 # A run that takes longer hangs.
 SECONDS = 1800
 # Of standard error, and of what differs, this much is told.
